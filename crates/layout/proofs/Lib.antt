@@ -1,0 +1,4 @@
+pub mod Every
+pub mod Sizes
+pub mod Sections
+pub mod Codes

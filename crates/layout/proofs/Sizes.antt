@@ -1,0 +1,96 @@
+-- The sizes of a record by k: its cells, the bit places of its rows, its bits, bytes and fields; and the sum of the first entries of a list. Assumes nothing.
+use mathlib.Core.Path.{_≡_, refl}
+use mathlib.Core.List.{List, [], _∷_, _++_, map}
+use Prim.Native.Nat.{ℕ, zero, suc, _+_, _*_, _≤_, _<_}
+use native.Mathlib.Nat.{mul-le-mul}
+use native.Mathlib.Numerals.{add-one}
+use native.Mathlib.Omega.{arith}
+use lib.ListN.{length, getD, take, replicate, length-append, length-replicate}
+use lib.Seq.{take-nil}
+use Rattle.rules.specs.Packing.{total}
+use Rattle.rules.specs.Record.{Kind, bitsOf, cells, layout, spread, widths, bits, bytes, filling, fields}
+use Rattle.layout.specs.Places.{startOf}
+
+-- the sum of one entry more; past the end it is 0
+pub total-more : (xs : List ℕ) (i : ℕ) → total (take (i + 1) xs) ≡ total (take i xs) + getD xs i 0
+unfolding total
+total-more [] i = rw (add-one i, take-nil i) (omega arith)
+total-more (x ∷ xs) zero = omega arith
+total-more (x ∷ xs) (suc i) =
+    let h : total (take (suc i) xs) ≡ total (take i xs) + getD xs i 0 = rw (add-one i) at (total-more xs i) in
+    rw (add-one (suc i)) (omega arith)
+
+-- the bits of a row of n fields of one kind and the fields after it
+pub bits-of-row : (n : ℕ) (κ : Kind) (κs : List Kind) → total (map bitsOf (replicate n κ ++ κs)) ≡ bitsOf κ * n + total (map bitsOf κs)
+unfolding total
+bits-of-row zero κ κs = omega arith
+bits-of-row (suc n) κ κs = omega (arith, bits-of-row n κ κs)
+
+-- the bits of the fields of a layout, row by row
+pub bits-of-rows : (rs : List (ℕ × Kind)) → total (map bitsOf (spread rs)) ≡ total (map (λ r. bitsOf (r .1) * r .0) rs)
+unfolding total spread
+bits-of-rows [] = refl
+bits-of-rows (r ∷ rs) = omega (arith, bits-of-row (r .0) (r .1) (spread rs), bits-of-rows rs)
+
+-- how many fields a layout has, row by row
+pub length-of-rows : (rs : List (ℕ × Kind)) → length (spread rs) ≡ total (map (λ r. r .0) rs)
+unfolding total spread
+length-of-rows [] = refl
+length-of-rows (r ∷ rs) = omega (arith, length-append (replicate (r .0) (r .1)) (spread rs), length-replicate (r .0) (r .1), length-of-rows rs)
+
+-- the cells are half of (k + 1) (k + 2), and at most 136
+pub cells-twice : (k : ℕ) → 2 * cells k ≡ (k + 1) * (k + 2)
+unfolding cells
+cells-twice zero = refl
+cells-twice (suc k) = omega (arith, cells-twice k)
+
+pub cells-most : (k : ℕ) → k < 16 → cells k ≤ 136
+cells-most k h =
+    let m : (k + 1) * (k + 2) ≤ 16 * 17 = mul-le-mul {n₂ = 16} {m₂ = 17} (omega arith) (omega arith) in
+    omega (arith, cells-twice k)
+
+-- the bit place at which each row starts, and where the last one ends
+pub record Starts (k : ℕ) : Type 0 where
+  pub exposures : startOf k 1 ≡ 4
+  pub increments : startOf k 2 ≡ 24 + 20 * k
+  pub indices : startOf k 3 ≡ 24 + 20 * k + 35 * cells k
+  pub reporting : startOf k 4 ≡ 24 + 43 * k + 35 * cells k
+  pub weight : startOf k 5 ≡ 44 + 63 * k + 35 * cells k
+  pub totals : startOf k 6 ≡ 64 + 63 * k + 35 * cells k
+  pub end : bits k ≡ startOf k 6 + 34 * (k + 1)
+
+pub starts : (k : ℕ) → Starts k
+unfolding startOf bits widths layout total
+starts k = record {
+  exposures = bits-of-rows (take 1 (layout k));
+  increments = omega (arith, bits-of-rows (take 2 (layout k)));
+  indices = omega (arith, bits-of-rows (take 3 (layout k)));
+  reporting = omega (arith, bits-of-rows (take 4 (layout k)));
+  weight = omega (arith, bits-of-rows (take 5 (layout k)));
+  totals = omega (arith, bits-of-rows (take 6 (layout k)));
+  end = omega (arith, bits-of-rows (take 6 (layout k)), bits-of-rows (layout k));
+}
+
+-- how many fields the record has
+pub fields-count : (k : ℕ) → fields k ≡ cells k + 4 * k + 5
+unfolding fields layout total
+fields-count k = omega (arith, length-of-rows (layout k))
+
+-- the bits are at most 6313
+pub bits-most : (k : ℕ) → k < 16 → bits k ≤ 6313
+bits-most k h =
+    let s = starts k in
+    omega (arith, cells-most k h)
+
+-- the bits and the filling bits, of which there are fewer than 8, are those of the bytes
+pub bytes-room : (k : ℕ) → (bits k ≤ 8 * bytes k) × ((8 * bytes k ≡ bits k + filling k) × (filling k < 8))
+unfolding bytes filling
+bytes-room k = omega arith
+
+-- a record with k at least 1 has at least 38 bytes
+pub bytes-least : (k : ℕ) → 1 ≤ k → 38 ≤ bytes k
+unfolding bytes
+bytes-least k h =
+    let m : 2 * 3 ≤ (k + 1) * (k + 2) = mul-le-mul {n₁ = 2} {m₁ = 3} (omega arith) (omega arith) in
+    let s = starts k in
+    omega (arith, cells-twice k)

@@ -1,0 +1,22 @@
+-- The bit places of a record's rows, as the code holds them. Assumes nothing.
+use Prim.Native.Nat.{ℕ}
+use mathlib.Core.List.{map}
+use lib.ListN.{take}
+use Rattle.rules.specs.Packing.{total}
+use Rattle.rules.specs.Record.{bitsOf, layout, spread, cells, bits, bytes, filling, fields}
+use Rattle.layout.specs.declared.Places.{Places}
+
+-- the bit place at which row i of the layout starts
+unfoldable pub startOf : ℕ → ℕ → ℕ
+startOf k i = total (map bitsOf (spread (take i (layout k))))
+
+unfoldable pub placesOf : ℕ → Places
+placesOf k = record {
+  cells = cells k;
+  increments = startOf k 2;
+  indices = startOf k 3;
+  reporting = startOf k 4;
+  weight = startOf k 5;
+  totals = startOf k 6;
+  end = bits k;
+}

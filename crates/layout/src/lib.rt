@@ -1,0 +1,93 @@
+// The places of a record's rows by k, its sizes, and the ranges and sums of a row.
+ghost use mathlib.Core.Path.{_≡_};
+ghost use Prim.Native.Nat.{ℕ, _+_, _<_, _≤_};
+ghost use lib.ListN.{length, getD, take};
+ghost use Rattle.rules.specs.Packing.{total};
+ghost use Rattle.rules.specs.Record.{cells, bytes, fields};
+ghost use Rattle.layout.specs.Places.{placesOf};
+ghost use Rattle.layout.specs.Rows.{every, between};
+
+// How many cells the triangle has, the bit places at which the increments and the rows after them start, and where the fields end.
+pub struct Places {
+    pub cells: usize,
+    pub increments: usize,
+    pub indices: usize,
+    pub reporting: usize,
+    pub weight: usize,
+    pub totals: usize,
+    pub end: usize,
+}
+
+pub fn cells_of(k: usize) -> usize
+    requires { ⌜ k < 16 ⌝ }
+    ensures { λ r. ⌜ (r ≡ cells k) × (r ≤ 136) ⌝ }
+{
+    (k + 1) * (k + 2) / 2
+}
+
+pub fn places_of(k: usize) -> Places
+    requires { ⌜ k < 16 ⌝ }
+    ensures { λ r. ⌜ r ≡ placesOf k ⌝ }
+{
+    let cells = cells_of(k);
+    let increments = 24 + 20 * k;
+    let indices = increments + 35 * cells;
+    let reporting = indices + 23 * k;
+    let weight = reporting + 20 * (k + 1);
+    let totals = weight + 20;
+    let end = totals + 34 * (k + 1);
+    Places {
+        cells,
+        increments,
+        indices,
+        reporting,
+        weight,
+        totals,
+        end,
+    }
+}
+
+// How many bytes a record takes.
+pub fn bytes_of(k: usize) -> usize
+    requires { ⌜ k < 16 ⌝ }
+    ensures { λ r. ⌜ (r ≡ bytes k) × (r ≤ 790) ⌝ }
+{
+    (places_of(k).end + 7) / 8
+}
+
+// How many fields a record has.
+pub fn fields_of(k: usize) -> usize
+    requires { ⌜ k < 16 ⌝ }
+    ensures { λ r. ⌜ (r ≡ fields k) × (r ≤ 201) ⌝ }
+{
+    cells_of(k) + 4 * k + 5
+}
+
+// Whether each of the first n of vs is from least to most.
+pub fn within(vs: &[u64], n: usize, least: u64, most: u64) -> bool
+    requires { ⌜ n ≤ length (now vs) ⌝ }
+    ensures { λ r. ⌜ r ≡ every (between least most) (take n (now (vs .entry))) ⌝ }
+{
+    for i in 0..n {
+        let x = vs[i];
+        if x < least {
+            return false;
+        }
+        if x > most {
+            return false;
+        }
+    }
+    true
+}
+
+// The sum of the first n of vs, at most sixteen numbers up to a million.
+pub fn sum_of(vs: &[u64], n: usize) -> u64
+    requires { ⌜ (n ≤ length (now vs)) × ((n ≤ 16) × ((i : ℕ) → i < n → getD (now vs) i 0 ≤ 1000000)) ⌝ }
+    ensures { λ r. ⌜ r ≡ total (take n (now (vs .entry))) ⌝ }
+{
+    let mut sum: u64 = 0;
+    for i in 0..n {
+        sum += vs[i];
+    }
+    sum
+}

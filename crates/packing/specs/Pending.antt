@@ -1,0 +1,33 @@
+-- What a run of puts has packed: whole bytes in the buffer, and the bits that do not fill a byte yet. Assumes nothing.
+use Prim.Native.Nat.{ℕ, _+_, _*_, _<_, _≤_, _^_}
+use mathlib.Core.Path.{_≡_}
+use mathlib.Core.List.{List}
+use lib.ListN.{length, getD, take}
+use Rattle.rules.specs.Packing.{numberOf}
+use Rattle.packing.specs.declared.Pending.{Pending}
+
+-- the number whose bits are those packed so far
+unfoldable pub packedSo : List ℕ → Pending → ℕ
+packedSo s p = numberOf (take (p .at) s) * 2 ^ p .count + p .bits
+
+-- how many bits are packed so far
+unfoldable pub placeOf : Pending → ℕ
+placeOf p = 8 * p .at + p .count
+
+-- fewer than 8 bits are pending, and the buffer has room for w bits more
+pub record Ready (s : List ℕ) (p : Pending) (w : ℕ) : Type 0 where
+  pub few : p .count < 8
+  pub small : p .bits < 2 ^ p .count
+  pub room : placeOf p + w ≤ 8 * length s
+  pub short : length s < 2 ^ 32
+
+-- w bits more, those of x, have been packed
+pub record Packed (s t : List ℕ) (p q : Pending) (w x : ℕ) : Type 0 where
+  pub few : q .count < 8
+  pub small : q .bits < 2 ^ q .count
+  pub place : placeOf q ≡ placeOf p + w
+  pub packed : packedSo t q ≡ packedSo s p * 2 ^ w + x
+
+-- each of the numbers vs has at most w bits
+abbrev pub Fit : ℕ → List ℕ → Type 0
+Fit w vs = (i : ℕ) → getD vs i 0 < 2 ^ w

@@ -1,0 +1,89 @@
+// Fields of a row of bits, most significant bit first: read at any place, and packed one after another.
+ghost use mathlib.Core.Path.{_≡_};
+ghost use Prim.Native.Nat.{ℕ, _+_, _*_, _<_, _≤_, _%_, _^_, min};
+ghost use lib.ListN.{length, replicate};
+ghost use Rattle.rules.specs.Packing.{pack};
+ghost use Rattle.packing.specs.Field.{fieldAt, Within};
+ghost use Rattle.packing.specs.Pending.{Ready, Packed, Fit};
+
+// What is packed and not yet written: the bits that come before byte `at` ends, fewer than 8, as a number.
+pub struct Pending {
+    pub at: usize,
+    pub count: usize,
+    pub bits: u64,
+}
+
+fn wide(x: u8) -> u64
+    ensures { λ r. ⌜ r ≡ x ⌝ }
+{
+    x as u64
+}
+
+// The four bytes from place i on as one number. The sum is of this shape so that it compiles to one load.
+fn half(s: &[u8], i: usize) -> u64
+    requires { ⌜ i + 4 ≤ length (now s) ⌝ }
+    ensures { λ r. ⌜ (r ≡ fieldAt (now (s .entry)) (8 * i) 32) × (r < 2 ^ 32) ⌝ }
+{
+    ((wide(s[i]) << 24) + (wide(s[i + 1]) << 16)) + ((wide(s[i + 2]) << 8) + wide(s[i + 3]))
+}
+
+// The eight bytes from place i on as one number.
+fn word(s: &[u8], i: usize) -> u64
+    requires { ⌜ i + 8 ≤ length (now s) ⌝ }
+    ensures { λ r. ⌜ r ≡ fieldAt (now (s .entry)) (8 * i) 64 ⌝ }
+{
+    (half(s, i) << 32) + half(s, i + 4)
+}
+
+fn least(a: usize, b: usize) -> usize
+    ensures { λ r. ⌜ r ≡ min a b ⌝ }
+{
+    if a < b { a } else { b }
+}
+
+// The field of w bits from bit place `at` on. The word it is cut from starts at the field's first byte, or where the last word starts.
+pub fn field(s: &[u8], at: usize, w: usize) -> u64
+    requires { ⌜ Within (now s) at w ⌝ }
+    ensures { λ r. ⌜ r ≡ fieldAt (now (s .entry)) at w ⌝ }
+{
+    let i = least(at / 8, s.len() - 8);
+    let after = 8 * i + 64 - at - w;
+    (word(s, i) >> after) % (1u64 << w)
+}
+
+fn low(x: u64) -> u8
+    ensures { λ r. ⌜ r ≡ x % 256 ⌝ }
+{
+    (x % 256) as u8
+}
+
+// The w bits of x after those that are packed. Whole bytes go into the buffer, the rest stays pending.
+pub fn put(buffer: &mut [u8], p: Pending, w: usize, x: u64) -> Pending
+    requires { ⌜ Ready (now buffer) p w × ((w ≤ 56) × (x < 2 ^ w)) ⌝ }
+    ensures { λ q. ⌜ Packed (now (buffer .entry)) (now (buffer .exit)) p q w x ⌝ }
+{
+    let mut at = p.at;
+    let mut count = p.count + w;
+    let mut bits = (p.bits << w) + x;
+    while 8 <= count {
+        count -= 8;
+        buffer[at] = low(bits >> count);
+        bits %= 1u64 << count;
+        at += 1;
+    }
+    Pending { at, count, bits }
+}
+
+// The fields vs of w bits each after those that are packed.
+pub fn put_row(buffer: &mut [u8], p: Pending, w: usize, vs: &[u64]) -> Pending
+    requires { ⌜ Ready (now buffer) p (w * length (now vs)) × ((0 < w) × ((w ≤ 56) × Fit w (now vs))) ⌝ }
+    ensures { λ q. ⌜ Packed (now (buffer .entry)) (now (buffer .exit)) p q (w * length (now (vs .entry))) (pack (replicate (length (now (vs .entry))) w) (now (vs .entry))) ⌝ }
+{
+    let mut q = p;
+    let mut i: usize = 0;
+    while i < vs.len() {
+        q = put(buffer, q, w, vs[i]);
+        i += 1;
+    }
+    q
+}

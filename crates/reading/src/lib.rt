@@ -1,0 +1,269 @@
+// The reader: a record's figures, or the number of the first question that says no.
+use entries::put_integers;
+use entries::put_naturals;
+use layout::cells_of;
+use layout::fields_of;
+use layout::places_of;
+use layout::sum_of;
+use layout::within;
+use packing::field;
+use rules::Figures;
+use rules::MILLION;
+use rules::MOST_AMOUNT;
+use rules::MOST_INDEX;
+use rules::SIGN;
+ghost use mathlib.Core.Path.{_≡_};
+ghost use mathlib.Core.Bool.{true, _&&_};
+ghost use Prim.Native.Nat.{_+_, _-_, _*_, _<_, _≤_, _%_, _^_};
+ghost use lib.Dec.{eqb};
+ghost use lib.ListN.{length, take};
+ghost use lib.Seq.{sets};
+ghost use Rattle.rules.specs.Packing.{numberOf};
+ghost use Rattle.rules.specs.Record.{yearsOf, padded, increment, valueOf, bitsInRange, fields};
+ghost use Rattle.rules.specs.Reading.{hasYears, hasLength, hasRoom, readAnswer, readInto};
+ghost use Rattle.layout.specs.Rows.{every, between};
+ghost use Rattle.packing.specs.Field.{rowAt};
+ghost use Rattle.reading.specs.Reading.{RowWithin, incrementsAt, readingOf, rangesOf, sumOf, listOf, Listable};
+
+// The increments of a record, and whether the bits of each are in range.
+pub struct Increments {
+    pub amounts: [i64; 136],
+    pub sound: bool,
+}
+
+// The figures of a record, and whether the bits of each increment are in range.
+pub struct Reading {
+    pub figures: Figures,
+    pub sound: bool,
+}
+
+fn wide(x: u8) -> usize
+    ensures { λ r. ⌜ r ≡ x ⌝ }
+{
+    x as usize
+}
+
+// k, the first four bits.
+pub fn years_of(s: &[u8]) -> usize
+    requires { ⌜ 1 ≤ length (now s) ⌝ }
+    ensures { λ r. ⌜ (r ≡ yearsOf (now (s .entry))) × (r < 16) ⌝ }
+{
+    wide(s[0]) / 16
+}
+
+// Question 1.
+pub fn has_years(s: &[u8]) -> bool
+    ensures { λ r. ⌜ r ≡ hasYears (now (s .entry)) ⌝ }
+{
+    if s.len() < 1 {
+        return false;
+    }
+    1 <= years_of(s)
+}
+
+// Whether every bit from place `end` on is zero.
+fn zero_from(s: &[u8], end: usize) -> bool
+    requires { ⌜ (8 ≤ length (now s)) × ((length (now s) < 2 ^ 32) × ((end ≤ 8 * length (now s)) × (8 * length (now s) < end + 8))) ⌝ }
+    ensures { λ r. ⌜ r ≡ eqb (numberOf (now (s .entry)) % 2 ^ (8 * length (now (s .entry)) - end)) 0 ⌝ }
+{
+    let n = 8 * s.len() - end;
+    if n == 0 {
+        return true;
+    }
+    field(s, end, n) == 0
+}
+
+// Question 2.
+pub fn has_length(s: &[u8]) -> bool
+    requires { ⌜ hasYears (now s) ≡ true ⌝ }
+    ensures { λ r. ⌜ r ≡ hasLength (now (s .entry)) ⌝ }
+{
+    let end = places_of(years_of(s)).end;
+    if s.len() != (end + 7) / 8 {
+        return false;
+    }
+    zero_from(s, end)
+}
+
+// Question 3, for a list of m entries that is to hold the fields.
+fn has_room(s: &[u8], m: usize) -> bool
+    requires { ⌜ 1 ≤ length (now s) ⌝ }
+    ensures { λ r. ⌜ r ≡ hasRoom (now (s .entry)) m ⌝ }
+{
+    fields_of(years_of(s)) <= m
+}
+
+// n fields of w bits from bit place `at` on.
+fn read_row(s: &[u8], at: usize, w: usize, n: usize) -> [u64; 16]
+    requires { ⌜ RowWithin (now s) at w n × (n ≤ 16) ⌝ }
+    ensures { λ r. ⌜ r ≡ padded 16 0 (rowAt (now (s .entry)) at w n) ⌝ }
+{
+    let mut a = [0u64; 16];
+    for i in 0..n {
+        a[i] = field(s, at + w * i, w);
+    }
+    a
+}
+
+// The increment with these bits.
+fn amount(code: u64) -> i64
+    requires { ⌜ code < 2 ^ 35 ⌝ }
+    ensures { λ r. ⌜ r ≡ valueOf increment code ⌝ }
+{
+    if code < SIGN {
+        code as i64
+    } else {
+        0 - ((code - SIGN) as i64)
+    }
+}
+
+// Whether these bits are an increment in its range: a size up to the most, and no zero with sign 1.
+fn sound(code: u64) -> bool
+    requires { ⌜ code < 2 ^ 35 ⌝ }
+    ensures { λ r. ⌜ r ≡ bitsInRange increment code ⌝ }
+{
+    if code == SIGN {
+        return false;
+    }
+    code % SIGN <= MOST_AMOUNT
+}
+
+fn both(a: bool, b: bool) -> bool
+    ensures { λ r. ⌜ r ≡ a && b ⌝ }
+{
+    if a { b } else { false }
+}
+
+// The n increments from bit place `at` on.
+fn read_increments(s: &[u8], at: usize, n: usize) -> Increments
+    requires { ⌜ RowWithin (now s) at 35 n × (n ≤ 136) ⌝ }
+    ensures { λ r. ⌜ r ≡ incrementsAt (now (s .entry)) at n ⌝ }
+{
+    let mut amounts = [0i64; 136];
+    let mut all = true;
+    for i in 0..n {
+        let code = field(s, at + 35 * i, 35);
+        amounts[i] = amount(code);
+        all = both(all, sound(code));
+    }
+    Increments {
+        amounts,
+        sound: all,
+    }
+}
+
+// The figures of a record that has passed questions 1 and 2.
+pub fn read(s: &[u8]) -> Reading
+    requires { ⌜ (hasYears (now s) ≡ true) × (hasLength (now s) ≡ true) ⌝ }
+    ensures { λ r. ⌜ r ≡ readingOf (now (s .entry)) ⌝ }
+{
+    let k = years_of(s);
+    let at = places_of(k);
+    let exposures = read_row(s, 4, 20, k + 1);
+    let cells = read_increments(s, at.increments, at.cells);
+    let indices = read_row(s, at.indices, 23, k);
+    let reporting = read_row(s, at.reporting, 20, k + 1);
+    let weight = field(s, at.weight, 20);
+    let totals = read_row(s, at.totals, 34, k + 1);
+    let amounts = cells.amounts;
+    let figures = Figures {
+        k,
+        exposures,
+        increments: amounts,
+        indices,
+        reporting,
+        weight,
+        totals,
+    };
+    Reading {
+        figures,
+        sound: cells.sound,
+    }
+}
+
+// Question 4.
+pub fn in_ranges(r: Reading) -> bool
+    requires { ⌜ r .figures .k < 16 ⌝ }
+    ensures { λ x. ⌜ x ≡ rangesOf r ⌝ }
+{
+    let f = r.figures;
+    let n = f.k + 1;
+    let exposures = f.exposures;
+    if !within(&exposures, n, 1, MILLION) {
+        return false;
+    }
+    if !r.sound {
+        return false;
+    }
+    let indices = f.indices;
+    if !within(&indices, f.k, 1, MOST_INDEX) {
+        return false;
+    }
+    let reporting = f.reporting;
+    if !within(&reporting, n, 0, MILLION) {
+        return false;
+    }
+    if f.weight > MILLION {
+        return false;
+    }
+    let totals = f.totals;
+    within(&totals, n, 0, MOST_AMOUNT)
+}
+
+// Question 5.
+pub fn shares_sum(f: Figures) -> bool
+    requires { ⌜ (f .k < 16) × (every (between 0 1000000) (take (f .k + 1) (f .reporting)) ≡ true) ⌝ }
+    ensures { λ x. ⌜ x ≡ sumOf f ⌝ }
+{
+    let reporting = f.reporting;
+    sum_of(&reporting, f.k + 1) == MILLION
+}
+
+// The fields go into the list in the record's order.
+fn put_fields(f: Figures, list: &mut [i64])
+    requires { ⌜ Listable f × (fields (f .k) ≤ length (now list)) ⌝ }
+    ensures { λ _. ⌜ now (list .exit) ≡ sets (now (list .entry)) 0 (listOf f) ⌝ }
+{
+    let k = f.k;
+    let n = k + 1;
+    let cells = cells_of(k);
+    let exposures = f.exposures;
+    let increments = f.increments;
+    let indices = f.indices;
+    let reporting = f.reporting;
+    let totals = f.totals;
+    list[0] = k as i64;
+    put_naturals(list, 1, &exposures, n);
+    put_integers(list, k + 2, &increments, cells);
+    put_naturals(list, k + 2 + cells, &indices, k);
+    put_naturals(list, 2 * k + 2 + cells, &reporting, n);
+    list[3 * k + 3 + cells] = f.weight as i64;
+    put_naturals(list, 3 * k + 4 + cells, &totals, n);
+}
+
+// Fills the list with the fields of the record in their order and answers 0, or leaves it and answers the number of the first of
+// questions 1, 2, 3, 4 and 5 that says no. Entries of a longer list keep what they held.
+#[no_mangle]
+pub extern "C" fn doonamurk_read(packed: &[u8], list: &mut [i64]) -> u64
+    ensures { λ r. ⌜ (r ≡ readAnswer (now (packed .entry)) (length (now (list .entry)))) × (now (list .exit) ≡ readInto (now (packed .entry)) (now (list .entry))) ⌝ }
+{
+    if !has_years(packed) {
+        return 1;
+    }
+    if !has_length(packed) {
+        return 2;
+    }
+    if !has_room(packed, list.len()) {
+        return 3;
+    }
+    let r = read(packed);
+    if !in_ranges(r) {
+        return 4;
+    }
+    let f = r.figures;
+    if !shares_sum(f) {
+        return 5;
+    }
+    put_fields(f, list);
+    0
+}

@@ -1,0 +1,5 @@
+pub mod Packing
+pub mod Questions
+pub mod Record
+pub mod Reading
+pub mod Writing

@@ -1,0 +1,179 @@
+-- The record (document 01): its fields in their order, their widths and ranges, its length, and the value of each field. Assumes nothing.
+use Prim.Native.Nat.{ℕ, zero, suc, _+_, _-_, _*_, _/_, _%_, _^_}
+use mathlib.Core.Bool.{Bool, true, false, _&&_, _||_, not, cond}
+use mathlib.Core.List.{List, [], _∷_, _++_, map, zipWith}
+use lib.Dec.{eqb, leb}
+use lib.IntN.{ℤ, pos, negsuc, negℤ, natAbs}
+use lib.ListN.{length, getD, take, drop, replicate}
+use Rattle.rules.specs.Packing.{total, pack, unpack, numberOf, bytesOf}
+use Rattle.rules.specs.declared.Figures.{Figures}
+
+-- M, one million
+abbrev pub million : ℕ
+million = 1000000
+
+-- a kind of field: whether a sign bit stands before its size, the size's width in bits, the least and the greatest size
+pub record Kind : Type 0 where
+  pub signed : Bool
+  pub width : ℕ
+  pub least : ℕ
+  pub most : ℕ
+
+-- k, 4 bits, 1 to 15
+abbrev pub years : Kind
+years = record { signed = false; width = 4; least = 1; most = 15 }
+
+-- n_i, 20 bits, 1 to 1,000,000
+abbrev pub exposure : Kind
+exposure = record { signed = false; width = 20; least = 1; most = 1000000 }
+
+-- P_ij, a sign bit and a 34-bit size up to 10^10
+abbrev pub increment : Kind
+increment = record { signed = true; width = 34; least = 0; most = 10000000000 }
+
+-- e_t, 23 bits, 1 to 5,000,000
+abbrev pub index : Kind
+index = record { signed = false; width = 23; least = 1; most = 5000000 }
+
+-- b_j, 20 bits, 0 to M
+abbrev pub reporting : Kind
+reporting = record { signed = false; width = 20; least = 0; most = 1000000 }
+
+-- w, 20 bits, 0 to M
+abbrev pub weight : Kind
+weight = record { signed = false; width = 20; least = 0; most = 1000000 }
+
+-- U_t, 34 bits, 0 to 10^10
+abbrev pub expense : Kind
+expense = record { signed = false; width = 34; least = 0; most = 10000000000 }
+
+-- how many bits a field of this kind takes
+abbrev pub bitsOf : Kind → ℕ
+bitsOf κ = cond (κ .signed) (1 + κ .width) (κ .width)
+
+-- how many cells the triangle of the years 0 to k has: row i has those with j from 0 to k − i
+unfoldable pub cells : ℕ → ℕ
+cells zero = 1
+cells (suc k) = cells k + suc (suc k)
+
+-- the fields in the record's order, a row for each kind: how many, and of which kind
+unfoldable pub layout : ℕ → List (ℕ × Kind)
+layout k =
+    (1, years) ∷ (k + 1, exposure) ∷ (cells k, increment) ∷ (k, index) ∷ (k + 1, reporting) ∷ (1, weight) ∷ (k + 1, expense) ∷ []
+
+-- the kind of each field of a layout, field by field
+unfoldable pub spread : List (ℕ × Kind) → List Kind
+spread [] = []
+spread (r ∷ rs) = replicate (r .0) (r .1) ++ spread rs
+
+-- of a list with an entry for each field of a layout, the entries of row i
+unfoldable pub section : {A : Type 0} → List (ℕ × Kind) → ℕ → List A → List A
+section [] i xs = []
+section (r ∷ rs) zero xs = take (r .0) xs
+section (r ∷ rs) (suc i) xs = section rs i (drop (r .0) xs)
+
+-- how many fields the record has, how many bits they take, how many bytes that is, and how many bits fill the last byte
+unfoldable pub fields : ℕ → ℕ
+fields k = length (spread (layout k))
+
+unfoldable pub widths : ℕ → List ℕ
+widths k = map bitsOf (spread (layout k))
+
+unfoldable pub bits : ℕ → ℕ
+bits k = total (widths k)
+
+unfoldable pub bytes : ℕ → ℕ
+bytes k = (bits k + 7) / 8
+
+unfoldable pub filling : ℕ → ℕ
+filling k = 8 * bytes k - bits k
+
+-- the signed number with this sign bit, 1 for negative, and this size
+abbrev pub signedOf : ℕ → ℕ → ℤ
+signedOf zero n = pos n
+signedOf (suc b) n = negℤ (pos n)
+
+-- the sign bit of a number: 1 for negative, 0 for zero
+abbrev pub signOf : ℤ → ℕ
+signOf (pos n) = 0
+signOf (negsuc n) = 1
+
+-- the value of a field with these bits, and the bits of a field with this value
+unfoldable pub valueOf : Kind → ℕ → ℤ
+valueOf κ x = cond (κ .signed) (signedOf (x / 2 ^ κ .width) (x % 2 ^ κ .width)) (pos x)
+
+unfoldable pub codeOf : Kind → ℤ → ℕ
+codeOf κ v = cond (κ .signed) (signOf v * 2 ^ κ .width + natAbs v) (natAbs v)
+
+-- whether a value is in the range of its kind; only a kind with a sign bit has values below zero
+unfoldable pub inRange : Kind → ℤ → Bool
+inRange κ v = (κ .signed || eqb (signOf v) 0) && (leb (κ .least) (natAbs v) && leb (natAbs v) (κ .most))
+
+-- whether a field's bits are a zero with sign 1
+unfoldable pub negativeZero : Kind → ℕ → Bool
+negativeZero κ x = κ .signed && eqb x (2 ^ κ .width)
+
+-- whether a field's bits are in range: a zero with sign 1 is not
+unfoldable pub bitsInRange : Kind → ℕ → Bool
+bitsInRange κ x = inRange κ (valueOf κ x) && not (negativeZero κ x)
+
+-- whether each entry passes the test for the kind of its field
+unfoldable pub everyField : {A : Type 0} → (Kind → A → Bool) → List Kind → List A → Bool
+everyField ok [] xs = true
+everyField ok (κ ∷ κs) [] = false
+everyField ok (κ ∷ κs) (x ∷ xs) = ok κ x && everyField ok κs xs
+
+-- k, the first four bits of the record s
+unfoldable pub yearsOf : List ℕ → ℕ
+yearsOf s = getD s 0 0 / 16
+
+-- the bits of each field of the record s, and the filling bits after the last
+unfoldable pub codesOf : List ℕ → List ℕ
+codesOf s = unpack (widths (yearsOf s)) (numberOf s / 2 ^ filling (yearsOf s))
+
+unfoldable pub fillingOf : List ℕ → ℕ
+fillingOf s = numberOf s % 2 ^ filling (yearsOf s)
+
+-- the value of each field of the record s, in the record's order
+unfoldable pub fieldsOf : List ℕ → List ℤ
+fieldsOf s = zipWith valueOf (spread (layout (yearsOf s))) (codesOf s)
+
+-- the record of the years 0 to k with the fields vs: their bits one after another, and zero bits to the byte end
+unfoldable pub recordOf : ℕ → List ℤ → List ℕ
+recordOf k vs = bytesOf (bytes k) (pack (widths k) (zipWith codeOf (spread (layout k)) vs) * 2 ^ filling k)
+
+-- the exposures n_0 to n_k, the increments P_ij by row, the indices e_1 to e_k, the reporting shares b_0 to b_k, the weight w and the ULAE
+-- totals U_0 to U_k among the fields vs of a record of the years 0 to k
+unfoldable pub exposuresIn : ℕ → List ℤ → List ℕ
+exposuresIn k vs = map natAbs (section (layout k) 1 vs)
+
+unfoldable pub incrementsIn : ℕ → List ℤ → List ℤ
+incrementsIn k vs = section (layout k) 2 vs
+
+unfoldable pub indicesIn : ℕ → List ℤ → List ℕ
+indicesIn k vs = map natAbs (section (layout k) 3 vs)
+
+unfoldable pub reportingIn : ℕ → List ℤ → List ℕ
+reportingIn k vs = map natAbs (section (layout k) 4 vs)
+
+unfoldable pub weightIn : ℕ → List ℤ → ℕ
+weightIn k vs = getD (map natAbs (section (layout k) 5 vs)) 0 0
+
+unfoldable pub totalsIn : ℕ → List ℤ → List ℕ
+totalsIn k vs = map natAbs (section (layout k) 6 vs)
+
+-- a list in an array of m entries, z past its end
+unfoldable pub padded : {A : Type 0} → ℕ → A → List A → List A
+padded m z xs = xs ++ replicate (m - length xs) z
+
+-- the figures of the record s, each list in its array
+unfoldable pub figuresOf : List ℕ → Figures
+figuresOf s = record {
+  k = yearsOf s;
+  exposures = padded 16 0 (exposuresIn (yearsOf s) (fieldsOf s));
+  increments = padded 136 (pos 0) (incrementsIn (yearsOf s) (fieldsOf s));
+  indices = padded 16 0 (indicesIn (yearsOf s) (fieldsOf s));
+  reporting = padded 16 0 (reportingIn (yearsOf s) (fieldsOf s));
+  weight = weightIn (yearsOf s) (fieldsOf s);
+  totals = padded 16 0 (totalsIn (yearsOf s) (fieldsOf s));
+}

@@ -1,0 +1,240 @@
+// The writer: a record from its fields, or the number of the first question that says no.
+use layout::bytes_of;
+use layout::cells_of;
+use layout::places_of;
+use layout::sum_of;
+use layout::within;
+use packing::Pending;
+use packing::put;
+use packing::put_row;
+use rules::MILLION;
+use rules::MOST_AMOUNT;
+use rules::MOST_INDEX;
+use rules::SIGN;
+ghost use mathlib.Core.Path.{_≡_};
+ghost use mathlib.Core.Bool.{true, _&&_};
+ghost use mathlib.Core.List.{map};
+ghost use Prim.Native.Nat.{_+_, _*_, _<_, _≤_, _^_};
+ghost use lib.Dec.{eqb, leb};
+ghost use lib.ListN.{length, replicate};
+ghost use Rattle.rules.specs.Packing.{pack, total};
+ghost use Rattle.rules.specs.Record.{increment, inRange, codeOf, bytes, cells, recordOf};
+ghost use Rattle.rules.specs.Writing.{given, givenFields, writeAnswer, writeInto};
+ghost use Rattle.layout.specs.Rows.{every, between};
+ghost use Rattle.packing.specs.Pending.{Ready, Packed};
+ghost use Rattle.writing.specs.Writing.{rangesOf, Writable};
+
+// Question 1.
+fn given_years(k: u64) -> bool
+    ensures { λ r. ⌜ r ≡ leb 1 k && leb k 15 ⌝ }
+{
+    if k < 1 {
+        return false;
+    }
+    k <= 15
+}
+
+// Question 2, from the lengths of the lists and of the buffer.
+fn given_lengths(
+    k: usize,
+    m: usize,
+    exposures: usize,
+    increments: usize,
+    indices: usize,
+    reporting: usize,
+    totals: usize,
+) -> bool
+    requires { ⌜ k < 16 ⌝ }
+    ensures { λ r. ⌜ r ≡ eqb m (bytes k)
+        && (eqb exposures (k + 1) && (eqb increments (cells k) && (eqb indices k && (eqb reporting (k + 1) && eqb totals (k + 1))))) ⌝ }
+{
+    if m != bytes_of(k) {
+        return false;
+    }
+    if exposures != k + 1 {
+        return false;
+    }
+    if increments != cells_of(k) {
+        return false;
+    }
+    if indices != k {
+        return false;
+    }
+    if reporting != k + 1 {
+        return false;
+    }
+    totals == k + 1
+}
+
+// Whether an increment is in its range.
+fn in_range(p: i64) -> bool
+    ensures { λ r. ⌜ r ≡ inRange increment p ⌝ }
+{
+    if p < 0 {
+        return -10_000_000_000 <= p;
+    }
+    p <= 10_000_000_000
+}
+
+// Whether every increment is in its range.
+fn all_in_range(ps: &[i64]) -> bool
+    ensures { λ r. ⌜ r ≡ every (inRange increment) (now (ps .entry)) ⌝ }
+{
+    let n = ps.len();
+    for i in 0..n {
+        if !in_range(ps[i]) {
+            return false;
+        }
+    }
+    true
+}
+
+// Question 4.
+fn given_ranges(
+    exposures: &[u64],
+    increments: &[i64],
+    indices: &[u64],
+    reporting: &[u64],
+    weight: u64,
+    totals: &[u64],
+) -> bool
+    ensures { λ r. ⌜ r ≡ every (between 1 1000000) (now (exposures .entry))
+        && (every (inRange increment) (now (increments .entry))
+        && (every (between 1 5000000) (now (indices .entry))
+        && (every (between 0 1000000) (now (reporting .entry))
+        && (between 0 1000000 weight && every (between 0 10000000000) (now (totals .entry)))))) ⌝ }
+{
+    if !within(exposures, exposures.len(), 1, MILLION) {
+        return false;
+    }
+    if !all_in_range(increments) {
+        return false;
+    }
+    if !within(indices, indices.len(), 1, MOST_INDEX) {
+        return false;
+    }
+    if !within(reporting, reporting.len(), 0, MILLION) {
+        return false;
+    }
+    if weight > MILLION {
+        return false;
+    }
+    within(totals, totals.len(), 0, MOST_AMOUNT)
+}
+
+// The bits of an increment: its sign bit and 34 bits of size.
+fn code_of(p: i64) -> u64
+    requires { ⌜ inRange increment p ≡ true ⌝ }
+    ensures { λ r. ⌜ (r ≡ codeOf increment p) × (r < 2 ^ 35) ⌝ }
+{
+    if p < 0 {
+        SIGN + ((0 - p) as u64)
+    } else {
+        p as u64
+    }
+}
+
+// The increments after what is packed.
+fn put_increments(buffer: &mut [u8], p: Pending, ps: &[i64]) -> Pending
+    requires { ⌜ Ready (now buffer) p (35 * length (now ps)) × (every (inRange increment) (now ps) ≡ true) ⌝ }
+    ensures { λ q. ⌜ Packed (now (buffer .entry)) (now (buffer .exit)) p q (35 * length (now (ps .entry)))
+        (pack (replicate (length (now (ps .entry))) 35) (map (codeOf increment) (now (ps .entry)))) ⌝ }
+{
+    let mut q = p;
+    let mut i: usize = 0;
+    while i < ps.len() {
+        q = put(buffer, q, 35, code_of(ps[i]));
+        i += 1;
+    }
+    q
+}
+
+// The record goes into the buffer, field after field, and zero bits to the byte end.
+fn put_fields(
+    k: u64,
+    exposures: &[u64],
+    increments: &[i64],
+    indices: &[u64],
+    reporting: &[u64],
+    weight: u64,
+    totals: &[u64],
+    buffer: &mut [u8],
+)
+    requires { ⌜ Writable
+        (given k (now exposures) (now increments) (now indices) (now reporting) weight (now totals))
+        (length (now buffer)) ⌝ }
+    ensures { λ _. ⌜ now (buffer .exit)
+        ≡ recordOf k
+        (givenFields
+        (given k (now (exposures .entry)) (now (increments .entry)) (now (indices .entry)) (now (reporting .entry)) weight (now (totals .entry)))) ⌝ }
+{
+    let none = Pending {
+        at: 0,
+        count: 0,
+        bits: 0,
+    };
+    let a = put(buffer, none, 4, k);
+    let b = put_row(buffer, a, 20, exposures);
+    let c = put_increments(buffer, b, increments);
+    let d = put_row(buffer, c, 23, indices);
+    let e = put_row(buffer, d, 20, reporting);
+    let f = put(buffer, e, 20, weight);
+    let g = put_row(buffer, f, 34, totals);
+    let end = places_of(k as usize).end;
+    put(buffer, g, 8 * buffer.len() - end, 0);
+}
+
+// Fills the buffer with the record of these fields and answers 0, or leaves it and answers the number of the first of questions 1, 2, 4
+// and 5 that says no.
+#[no_mangle]
+pub extern "C" fn doonamurk_write(
+    k: u64,
+    exposures: &[u64],
+    increments: &[i64],
+    indices: &[u64],
+    reporting: &[u64],
+    weight: u64,
+    totals: &[u64],
+    buffer: &mut [u8],
+) -> u64
+    ensures { λ r. ⌜ (r
+        ≡ writeAnswer
+        (given k (now (exposures .entry)) (now (increments .entry)) (now (indices .entry)) (now (reporting .entry)) weight (now (totals .entry)))
+        (length (now (buffer .entry))))
+        × (now (buffer .exit)
+        ≡ writeInto
+        (given k (now (exposures .entry)) (now (increments .entry)) (now (indices .entry)) (now (reporting .entry)) weight (now (totals .entry)))
+        (now (buffer .entry))) ⌝ }
+{
+    if !given_years(k) {
+        return 1;
+    }
+    if !given_lengths(
+        k as usize,
+        buffer.len(),
+        exposures.len(),
+        increments.len(),
+        indices.len(),
+        reporting.len(),
+        totals.len(),
+    ) {
+        return 2;
+    }
+    if !given_ranges(exposures, increments, indices, reporting, weight, totals) {
+        return 4;
+    }
+    if sum_of(reporting, reporting.len()) != MILLION {
+        return 5;
+    }
+    put_fields(
+        k,
+        exposures,
+        increments,
+        indices,
+        reporting,
+        weight,
+        totals,
+        buffer,
+    );
+    0
+}
