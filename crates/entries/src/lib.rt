@@ -1,27 +1,38 @@
-// Entries of a lent list of signed 64-bit numbers.
+// Entries of a lent list of signed 64-bit numbers. Each function answers the place after those that it filled.
 ghost use mathlib.Core.Path.{_≡_};
 ghost use mathlib.Core.List.{map};
 ghost use Prim.Native.Nat.{ℕ, _+_, _<_, _≤_, _^_};
 ghost use lib.IntN.{pos};
-ghost use lib.ListN.{length, getD, take};
+ghost use lib.ListN.{length, getD, set, take};
 ghost use lib.Seq.{sets};
 
 // The first n of vs go into out from place `at` on.
-pub fn put_naturals(out: &mut [i64], at: usize, vs: &[u64], n: usize)
+pub fn put_naturals(out: &mut [i64], at: usize, vs: &[u64], n: usize) -> usize
     requires { ⌜ (n ≤ length (now vs)) × ((at + n ≤ length (now out)) × ((i : ℕ) → i < n → getD (now vs) i 0 < 2 ^ 63)) ⌝ }
-    ensures { λ _. ⌜ now (out .exit) ≡ sets (now (out .entry)) at (map pos (take n (now (vs .entry)))) ⌝ }
+    ensures { λ r. ⌜ (r ≡ at + n) × (now (out .exit) ≡ sets (now (out .entry)) at (map pos (take n (now (vs .entry))))) ⌝ }
 {
     for i in 0..n {
         out[at + i] = vs[i] as i64;
     }
+    at + n
+}
+
+// The number x goes into out at place `at`.
+pub fn put_natural(out: &mut [i64], at: usize, x: u64) -> usize
+    requires { ⌜ (at < length (now out)) × (x < 2 ^ 63) ⌝ }
+    ensures { λ r. ⌜ (r ≡ at + 1) × (now (out .exit) ≡ set (now (out .entry)) at (pos x)) ⌝ }
+{
+    out[at] = x as i64;
+    at + 1
 }
 
 // The first n of vs, signed, go into out from place `at` on.
-pub fn put_integers(out: &mut [i64], at: usize, vs: &[i64], n: usize)
+pub fn put_integers(out: &mut [i64], at: usize, vs: &[i64], n: usize) -> usize
     requires { ⌜ (n ≤ length (now vs)) × (at + n ≤ length (now out)) ⌝ }
-    ensures { λ _. ⌜ now (out .exit) ≡ sets (now (out .entry)) at (take n (now (vs .entry))) ⌝ }
+    ensures { λ r. ⌜ (r ≡ at + n) × (now (out .exit) ≡ sets (now (out .entry)) at (take n (now (vs .entry)))) ⌝ }
 {
     for i in 0..n {
         out[at + i] = vs[i];
     }
+    at + n
 }

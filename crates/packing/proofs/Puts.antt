@@ -18,7 +18,7 @@ pub number-more : (s : List ℕ) (b : ℕ) → numberOf (s ++ (b ∷ [])) ≡ nu
 unfolding numberOf
 number-more s b = rw (length-append s (b ∷ [])) (pack-more 8 s b)
 
--- the bits of x after those that wait, as `(bits << w) + x` of the code has them
+-- the bits of x after the pending ones, as `(bits << w) + x` of the code has them
 module _ {s : List ℕ} {p : Pending} {w x : ℕ} (ready : Ready s p w) (narrow : w ≤ 56) (fits : x < 2 ^ w) where
   pub added-lt : p .bits * 2 ^ w % 2 ^ 64 + x < 2 ^ (p .count + w)
   added-lt = rw (shl-exact (p .count) w 64 (ready .small) (omega arith), pow-add 2 (p .count) w) (digits-lt (ready .small) fits)
@@ -27,7 +27,7 @@ module _ {s : List ℕ} {p : Pending} {w x : ℕ} (ready : Ready s p w) (narrow 
   unfolding packedSo
   added = rw (shl-exact (p .count) w 64 (ready .small) (omega arith), pow-add 2 (p .count) w) (omega arith)
 
--- the first 8 of the bits that wait, written at their place
+-- the first 8 of the pending bits, written at their place
 pub written : (s : List ℕ) (at count bits : ℕ) → at < length s → 8 ≤ count → bits < 2 ^ count
     → numberOf (take (at + 1) (set s at (bits / 2 ^ (count - 8) % 256))) * 2 ^ (count - 8) + bits % 2 ^ (count - 8)
     ≡ numberOf (take at s) * 2 ^ count + bits

@@ -76,7 +76,7 @@ pub fn put(buffer: &mut [u8], p: Pending, w: usize, x: u64) -> Pending
 
 // The fields vs of w bits each after those that are packed.
 pub fn put_row(buffer: &mut [u8], p: Pending, w: usize, vs: &[u64]) -> Pending
-    requires { ⌜ Ready (now buffer) p (w * length (now vs)) × ((0 < w) × ((w ≤ 56) × Fit w (now vs))) ⌝ }
+    requires { ⌜ Ready (now buffer) p (w * length (now vs)) × ((w ≤ 56) × Fit w (now vs)) ⌝ }
     ensures { λ q. ⌜ Packed (now (buffer .entry)) (now (buffer .exit)) p q (w * length (now (vs .entry))) (pack (replicate (length (now (vs .entry))) w) (now (vs .entry))) ⌝ }
 {
     let mut q = p;

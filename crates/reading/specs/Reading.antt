@@ -48,14 +48,16 @@ rangesOf r =
 unfoldable pub sumOf : Figures → Bool
 sumOf f = eqb (total (take (f .k + 1) (f .reporting))) million
 
--- the fields of a set of figures in the record's order
+-- the fields of a set of figures in the record's order: k, the exposures and the increments, and then the others
+unfoldable pub triangleOf : Figures → List ℤ
+triangleOf f = pos (f .k) ∷ (map pos (take (f .k + 1) (f .exposures)) ++ take (cells (f .k)) (f .increments))
+
+unfoldable pub assumptionsOf : Figures → List ℤ
+assumptionsOf f =
+    map pos (take (f .k) (f .indices)) ++ (map pos (take (f .k + 1) (f .reporting)) ++ (pos (f .weight) ∷ map pos (take (f .k + 1) (f .totals))))
+
 unfoldable pub listOf : Figures → List ℤ
-listOf f =
-    pos (f .k)
-    ∷ (map pos (take (f .k + 1) (f .exposures))
-    ++ (take (cells (f .k)) (f .increments)
-    ++ (map pos (take (f .k) (f .indices))
-    ++ (map pos (take (f .k + 1) (f .reporting)) ++ (pos (f .weight) ∷ map pos (take (f .k + 1) (f .totals)))))))
+listOf f = triangleOf f ++ assumptionsOf f
 
 -- figures whose fields stand in a signed list: the years fit, and so does each number
 pub record Listable (f : Figures) : Type 0 where

@@ -1,5 +1,6 @@
 // The reader: a record's figures, or the number of the first question that says no.
 use entries::put_integers;
+use entries::put_natural;
 use entries::put_naturals;
 use layout::cells_of;
 use layout::fields_of;
@@ -19,11 +20,11 @@ ghost use lib.Dec.{eqb};
 ghost use lib.ListN.{length, take};
 ghost use lib.Seq.{sets};
 ghost use Rattle.rules.specs.Packing.{numberOf};
-ghost use Rattle.rules.specs.Record.{yearsOf, padded, increment, valueOf, bitsInRange, fields};
+ghost use Rattle.rules.specs.Record.{yearsOf, padded, increment, valueOf, bitsInRange, fields, cells};
 ghost use Rattle.rules.specs.Reading.{hasYears, hasLength, hasRoom, readAnswer, readInto};
 ghost use Rattle.layout.specs.Rows.{every, between};
 ghost use Rattle.packing.specs.Field.{rowAt};
-ghost use Rattle.reading.specs.Reading.{RowWithin, incrementsAt, readingOf, rangesOf, sumOf, listOf, Listable};
+ghost use Rattle.reading.specs.Reading.{RowWithin, incrementsAt, readingOf, rangesOf, sumOf, triangleOf, assumptionsOf, listOf, Listable};
 
 // The increments of a record, and whether the bits of each are in range.
 pub struct Increments {
@@ -189,25 +190,20 @@ pub fn in_ranges(r: Reading) -> bool
     let f = r.figures;
     let n = f.k + 1;
     let exposures = f.exposures;
-    if !within(&exposures, n, 1, MILLION) {
-        return false;
-    }
-    if !r.sound {
-        return false;
-    }
     let indices = f.indices;
-    if !within(&indices, f.k, 1, MOST_INDEX) {
-        return false;
-    }
     let reporting = f.reporting;
-    if !within(&reporting, n, 0, MILLION) {
-        return false;
-    }
-    if f.weight > MILLION {
-        return false;
-    }
     let totals = f.totals;
-    within(&totals, n, 0, MOST_AMOUNT)
+    let first = within(&exposures, n, 1, MILLION);
+    let third = within(&indices, f.k, 1, MOST_INDEX);
+    let fourth = within(&reporting, n, 0, MILLION);
+    let last = within(&totals, n, 0, MOST_AMOUNT);
+    both(
+        first,
+        both(
+            r.sound,
+            both(third, both(fourth, both(f.weight <= MILLION, last))),
+        ),
+    )
 }
 
 // Question 5.
@@ -219,26 +215,41 @@ pub fn shares_sum(f: Figures) -> bool
     sum_of(&reporting, f.k + 1) == MILLION
 }
 
+// k, the exposures and the increments go into the list.
+fn put_triangle(f: Figures, list: &mut [i64]) -> usize
+    requires { ⌜ Listable f × (fields (f .k) ≤ length (now list)) ⌝ }
+    ensures { λ r. ⌜ (r ≡ f .k + 2 + cells (f .k)) × (now (list .exit) ≡ sets (now (list .entry)) 0 (triangleOf f)) ⌝ }
+{
+    let k = f.k;
+    let exposures = f.exposures;
+    let increments = f.increments;
+    let a = put_natural(list, 0, k as u64);
+    let b = put_naturals(list, a, &exposures, k + 1);
+    put_integers(list, b, &increments, cells_of(k))
+}
+
+// The indices, the reporting shares, the weight and the ULAE totals go into the list from place `at` on.
+fn put_assumptions(f: Figures, list: &mut [i64], at: usize)
+    requires { ⌜ Listable f × (at + 3 * f .k + 3 ≤ length (now list)) ⌝ }
+    ensures { λ _. ⌜ now (list .exit) ≡ sets (now (list .entry)) at (assumptionsOf f) ⌝ }
+{
+    let k = f.k;
+    let indices = f.indices;
+    let reporting = f.reporting;
+    let totals = f.totals;
+    let a = put_naturals(list, at, &indices, k);
+    let b = put_naturals(list, a, &reporting, k + 1);
+    let c = put_natural(list, b, f.weight);
+    put_naturals(list, c, &totals, k + 1);
+}
+
 // The fields go into the list in the record's order.
 fn put_fields(f: Figures, list: &mut [i64])
     requires { ⌜ Listable f × (fields (f .k) ≤ length (now list)) ⌝ }
     ensures { λ _. ⌜ now (list .exit) ≡ sets (now (list .entry)) 0 (listOf f) ⌝ }
 {
-    let k = f.k;
-    let n = k + 1;
-    let cells = cells_of(k);
-    let exposures = f.exposures;
-    let increments = f.increments;
-    let indices = f.indices;
-    let reporting = f.reporting;
-    let totals = f.totals;
-    list[0] = k as i64;
-    put_naturals(list, 1, &exposures, n);
-    put_integers(list, k + 2, &increments, cells);
-    put_naturals(list, k + 2 + cells, &indices, k);
-    put_naturals(list, 2 * k + 2 + cells, &reporting, n);
-    list[3 * k + 3 + cells] = f.weight as i64;
-    put_naturals(list, 3 * k + 4 + cells, &totals, n);
+    let at = put_triangle(f, list);
+    put_assumptions(f, list, at);
 }
 
 // Fills the list with the fields of the record in their order and answers 0, or leaves it and answers the number of the first of

@@ -54,13 +54,16 @@ loop-again c =
       simp length-set (l .inv .2),
     )
 
+add-result : tie.Need-add-result Inv-loop μ-loop
+add-result c = search needs
+
 same-length : tie.Need-same-length Inv-loop μ-loop
 same-length c = search needs
 
 returns : tie.Need-returns Inv-loop μ-loop
 returns c =
     let e : c .before .loop .i ≡ c .before .before .args .n = omega arith in
-    rw (e, map-id) at (c .before .loop .inv .1)
+    (refl, rw (e, map-id) at (c .before .loop .inv .1))
 
 pub put-integers-spec : {M : Type 1} → statement M
 put-integers-spec =
@@ -77,5 +80,6 @@ put-integers-spec =
     add-i
     loop-less
     loop-again
+    add-result
     same-length
     returns)

@@ -56,13 +56,16 @@ loop-again c =
       simp length-set (l .inv .2),
     )
 
+add-result : tie.Need-add-result Inv-loop μ-loop
+add-result c = search needs
+
 same-length : tie.Need-same-length Inv-loop μ-loop
 same-length c = search needs
 
 returns : tie.Need-returns Inv-loop μ-loop
 returns c =
     let e : c .before .loop .i ≡ c .before .before .args .n = omega arith in
-    rw e at (c .before .loop .inv .1)
+    (refl, rw e at (c .before .loop .inv .1))
 
 pub put-naturals-spec : {M : Type 1} → statement M
 put-naturals-spec =
@@ -80,5 +83,6 @@ put-naturals-spec =
     add-i
     loop-less
     loop-again
+    add-result
     same-length
     returns)

@@ -11,6 +11,7 @@ use borrow.Author.Needs.{needs}
 use Rattle.packing.proofs.half.Statement.{statement}
 use Rattle.packing.proofs.half.Tie as tie
 
+-- the four bytes of a field of 32 bits
 four : (s : List ℕ) (i : ℕ) → Fit 8 s → i + 4 ≤ length s
     → fieldAt s (8 * i) 32 ≡ (getD s i 0 * 16777216 + getD s (i + 1) 0 * 65536) + (getD s (i + 2) 0 * 256 + getD s (i + 3) 0)
 four s i b h =

@@ -1,4 +1,4 @@
--- `packing::put` meets its contract: each turn keeps the number whose bits are packed or wait, and writes the first 8 that wait. Assumes nothing.
+-- `packing::put` meets its contract: each turn writes the first 8 pending bits and keeps the number whose bits are packed. Assumes nothing.
 use mathlib.Core.Path.{_≡_, refl, _∙_}
 use Prim.Native.Nat.{_+_, _-_, _*_, _^_, _≤_, _<_}
 use native.Mathlib.Omega.{arith}

@@ -49,7 +49,7 @@ put-requires c κs =
     let i = c .before .before .before .loop .i in
     let w = start .args .w in (
       ready-then w (start .pre .0) (inv .2) (inv .1) (room-more w i (length (start .args .vs .now)) (omega arith)),
-      (start .pre .1 .1 .0, start .pre .1 .1 .1 i),
+      (start .pre .1 .0, start .pre .1 .1 i),
     )
 
 add-i : tie.Need-add-i Inv-loop μ-loop

@@ -1,0 +1,70 @@
+-- The lists of a record that has passed questions 1 and 2, as the reader holds them. Assumes nothing.
+use Prim.Native.Nat.{ℕ, zero, suc, _+_, _*_, _/_, _%_, _^_, _≤_, _<_}
+use native.Mathlib.Omega.{arith}
+use mathlib.Core.Path.{_≡_, refl, sym, ap, ap₂, _∙_}
+use mathlib.Core.Bool.{Bool, true, false, _&&_, and-true, cond}
+use mathlib.Core.List.{List, [], _∷_, _++_, map, append-nil}
+use lib.IntN.{ℤ, pos, natAbs}
+use lib.ListN.{length, getD, take, replicate, length-map}
+use lib.Seq.{take-at}
+use Rattle.rules.specs.Packing.{total}
+use Rattle.rules.specs.Record.{Kind, layout, section, cells, increment, valueOf, bitsInRange, inRange, negativeZero, yearsOf, codesOf, fieldsOf, exposuresIn, incrementsIn, indicesIn, reportingIn, weightIn, totalsIn, padded, figuresOf, million, exposure, index, reporting, weight, expense, signedOf}
+use Rattle.rules.specs.Reading.{inRanges, sharesSum}
+use Rattle.packing.specs.Field.{fieldAt, upTo, rowAt}
+use Rattle.packing.proofs.Pack.{length-row}
+use Rattle.layout.specs.Places.{startOf}
+use Rattle.layout.specs.Rows.{every, between}
+use Rattle.layout.proofs.Sizes.{starts}
+use Rattle.reading.specs.Reading.{readingOf, rangesOf, sumOf, listOf}
+use Rattle.reading.proofs.Rows.{Whole, codes-row, fields-row, fields-are, ranges-are, years-field}
+
+naturals : (xs : List ℕ) → map natAbs (map pos xs) ≡ xs
+naturals [] = refl
+naturals (x ∷ xs) = ap (λ (l : List ℕ). x ∷ l) (naturals xs)
+
+-- the values of a kind without a sign bit are its bits
+value : (κ : Kind) → κ .signed ≡ false → (x : ℕ) → valueOf κ x ≡ pos x
+unfolding valueOf
+value κ e x = ap (λ (b : Bool). cond b (signedOf (x / 2 ^ κ .width) (x % 2 ^ κ .width)) (pos x)) e
+
+pub values : (κ : Kind) → κ .signed ≡ false → (xs : List ℕ) → map (valueOf κ) xs ≡ map pos xs
+values κ e [] = refl
+values κ e (x ∷ xs) = ap₂ {C = List ℤ} _∷_ (value κ e x) (values κ e xs)
+
+unsigned : (κ : Kind) → κ .signed ≡ false → (xs : List ℕ) → map natAbs (map (valueOf κ) xs) ≡ xs
+unsigned κ e xs = ap (map natAbs) (values κ e xs) ∙ naturals xs
+
+-- a row of one field
+pub one-row : (s : List ℕ) (at w : ℕ) → rowAt s at w 1 ≡ fieldAt s at w ∷ []
+unfolding rowAt upTo
+one-row s at w = let e : at + w * 0 ≡ at = omega arith in rw e
+
+-- the lists by their places
+pub record Lists (s : List ℕ) (k : ℕ) : Type 0 where
+  pub exposures : exposuresIn k (fieldsOf s) ≡ rowAt s 4 20 (k + 1)
+  pub increments : incrementsIn k (fieldsOf s) ≡ map (valueOf increment) (rowAt s (startOf k 2) 35 (cells k))
+  pub codes : section (layout k) 2 (codesOf s) ≡ rowAt s (startOf k 2) 35 (cells k)
+  pub indices : indicesIn k (fieldsOf s) ≡ rowAt s (startOf k 3) 23 k
+  pub reporting : reportingIn k (fieldsOf s) ≡ rowAt s (startOf k 4) 20 (k + 1)
+  pub weight : weightIn k (fieldsOf s) ≡ fieldAt s (startOf k 5) 20
+  pub totals : totalsIn k (fieldsOf s) ≡ rowAt s (startOf k 6) 34 (k + 1)
+
+-- a row that starts at the same place
+pub same-place : (s : List ℕ) {a b : ℕ} (w n : ℕ) → a ≡ b → rowAt s a w n ≡ rowAt s b w n
+same-place s w n e = rw e
+
+module _ (s : List ℕ) (h : Whole s) where
+  pub lists : Lists s (yearsOf s)
+  unfolding layout exposuresIn incrementsIn indicesIn reportingIn weightIn totalsIn
+  lists =
+      let k = yearsOf s in
+      let at = starts k in
+      record {
+        exposures = rw (fields-row s h 1) (unsigned exposure refl (rowAt s 4 20 (k + 1)));
+        increments = rw (fields-row s h 2) (ap (map (valueOf increment)) (same-place s 35 (cells k) (omega arith)));
+        codes = codes-row s h 2 ∙ same-place s 35 (cells k) (omega arith);
+        indices = rw (fields-row s h 3) (unsigned index refl (rowAt s _ 23 k) ∙ same-place s 23 k (omega arith));
+        reporting = rw (fields-row s h 4) (unsigned reporting refl (rowAt s _ 20 (k + 1)) ∙ same-place s 20 (k + 1) (omega arith));
+        weight = rw (fields-row s h 5) (ap (λ (l : List ℕ). getD l 0 0) (unsigned weight refl (rowAt s _ 20 1) ∙ same-place s 20 1 (omega arith) ∙ one-row s (startOf k 5) 20));
+        totals = rw (fields-row s h 6) (unsigned expense refl (rowAt s _ 34 (k + 1)) ∙ same-place s 34 (k + 1) (omega arith));
+      }

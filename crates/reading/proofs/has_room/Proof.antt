@@ -1,0 +1,18 @@
+-- `reading::has_room` meets its contract: the fields of k years are counted. Assumes nothing.
+use borrow.Author.Needs.{needs}
+use Rattle.rules.specs.Reading.{hasRoom}
+use Rattle.reading.proofs.has_room.Statement.{statement}
+use Rattle.reading.proofs.has_room.Tie as tie
+
+years-of-requires : tie.Need-years-of-requires
+years-of-requires c κs = search needs
+
+fields-of-requires : tie.Need-fields-of-requires
+fields-of-requires c κs = search needs
+
+returns : tie.Need-returns
+unfolding hasRoom
+returns c = rw (c .fields-of .ensures .0, c .before .years-of .ensures .0)
+
+pub has-room-spec : {M : Type 1} → statement M
+has-room-spec = tie.close (tie.spec years-of-requires fields-of-requires returns)

@@ -1,0 +1,42 @@
+use borrow.Author.Needs.{needs}
+use borrow.Author.Tests.{leb-true}
+use native.Mathlib.Omega.{arith}
+use mathlib.Core.Path.{_≡_, ap, _∙_}
+use Prim.Native.Nat.{ℕ, _+_, _<_, _≤_}
+use mathlib.Core.Bool.{true}
+use mathlib.Core.List.{List}
+use lib.Dec.{eqb, leb}
+use lib.ListN.{length, getD, take}
+use lib.Seq.{getD-take, length-take-le}
+use Rattle.layout.specs.Rows.{every, between}
+use Rattle.layout.proofs.Every.{every-at, both-right}
+use Rattle.reading.specs.Reading.{sumOf}
+use Rattle.reading.proofs.Limits.{most}
+use Rattle.reading.proofs.shares_sum.Statement.{statement}
+use Rattle.reading.proofs.shares_sum.Tie as tie
+use Rattle.reading.proofs.shares_sum.Reads as reads
+use Rattle.reading.proofs.shares_sum.Lts as lts
+use Rattle.layout.proofs.sum_of.Reads as sum-of-reads
+
+-- src/lib.rt:219:12
+slice-aggregate-sum-of : tie.Need-slice-aggregate-sum-of
+slice-aggregate-sum-of c = search needs
+
+-- src/lib.rt:219:24
+add-sum-of : tie.Need-add-sum-of
+add-sum-of c = search needs
+
+-- src/lib.rt:219:5
+sum-of-requires : tie.Need-sum-of-requires
+sum-of-requires c κs =
+    let f = c .before .before .before .args .f in
+    let long : length (f .reporting) ≡ 16 = search needs in
+    (omega arith, (omega arith, λ i h. most 0 1000000 (f .k + 1) (f .reporting) i h (omega arith) (c .before .before .before .pre .1)))
+
+-- src/lib.rt:214:1
+returns : tie.Need-returns
+unfolding sumOf
+returns c = ap (λ (n : ℕ). eqb n 1000000) (c .sum-of .ensures)
+
+pub shares-sum-spec : {M : Type 1} → statement M
+shares-sum-spec = tie.close (tie.spec slice-aggregate-sum-of add-sum-of sum-of-requires returns)
