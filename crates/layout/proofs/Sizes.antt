@@ -8,7 +8,8 @@ use native.Mathlib.Omega.{arith}
 use lib.ListN.{length, getD, take, replicate, length-append, length-replicate}
 use lib.Seq.{take-nil}
 use Rattle.rules.specs.Packing.{total}
-use Rattle.rules.specs.Record.{Kind, bitsOf, cells, layout, spread, widths, bits, bytes, filling, fields}
+use Rattle.rules.specs.Record.{Kind, bitsOf, cells, layout, spread, widths, bits, bytes, filling, fields, yearsOf}
+use Rattle.packing.specs.Pending.{Fit}
 use Rattle.layout.specs.Places.{startOf}
 
 -- the sum of one entry more; past the end it is 0
@@ -94,3 +95,8 @@ bytes-least k h =
     let m : 2 * 3 ≤ (k + 1) * (k + 2) = mul-le-mul {n₁ = 2} {m₁ = 3} (omega arith) (omega arith) in
     let s = starts k in
     omega (arith, cells-twice k)
+
+-- k of a record is at most 15
+pub years-lt : (s : List ℕ) → Fit 8 s → yearsOf s < 16
+unfolding yearsOf
+years-lt s h = omega (arith, h 0)

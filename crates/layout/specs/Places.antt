@@ -3,7 +3,7 @@ use Prim.Native.Nat.{ℕ}
 use mathlib.Core.List.{map}
 use lib.ListN.{take}
 use Rattle.rules.specs.Packing.{total}
-use Rattle.rules.specs.Record.{bitsOf, layout, spread, cells, bits, bytes, filling, fields}
+use Rattle.rules.specs.Record.{bitsOf, layout, spread, cells, bits}
 use Rattle.layout.specs.declared.Places.{Places}
 
 -- the bit place at which row i of the layout starts

@@ -1,9 +1,9 @@
 -- Fields packed into a number and taken out of it again, bytes as the case of width 8, and rows of one width found by their places. Assumes nothing.
 use mathlib.Core.Path.{_≡_, refl, sym, ap, ap₂, _∙_}
 use mathlib.Core.List.{List, [], _∷_, _++_}
-use Prim.Native.Nat.{ℕ, zero, suc, _+_, _-_, _*_, _/_, _%_, _^_, _<_}
+use Prim.Native.Nat.{ℕ, zero, suc, _+_, _-_, _*_, _/_, _%_, _^_, _≤_, _<_}
 use native.Mathlib.Decide.{decLt}
-use native.Mathlib.Nat.{add-comm, add-zero, mod-eq-of-lt, mod-lt, mod-one, mul-add-div-right, mul-add-mod-self-right, not-suc-le-zero, sub-zero, suc-sub-suc}
+use native.Mathlib.Nat.{add-comm, add-zero, mod-eq-of-lt, mod-lt, mod-one, mul-add-div-right, mul-add-mod-self-right, mul-le-mul-left, not-suc-le-zero, sub-zero, suc-sub-suc}
 use native.Mathlib.Omega.{arith}
 use lib.Arith.{digits-lt}
 use lib.Dec.{lit<}
@@ -221,3 +221,7 @@ row-small s at w n i = go (decLt i n)
     go (yes l) = rw (getD-upTo (λ i. fieldAt s (at + w * i) w) n i 0 l) (field-lt s (at + w * i) w)
     go (no l) =
         rw (List·getD-eq-default (upTo (λ i. fieldAt s (at + w * i) w) n) 0 {n = i} (omega (arith, length-upTo (λ i. fieldAt s (at + w * i) w) n))) (pow-pos w)
+
+-- there is room for field i of n
+pub room : (w i n : ℕ) → i < n → w * i + w ≤ w * n
+room w i n h = omega (arith, mul-le-mul-left {m = i + 1} {n = n} w (omega arith))

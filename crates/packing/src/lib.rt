@@ -1,6 +1,6 @@
 // Fields of a row of bits, most significant bit first: read at any place, and packed one after another.
 ghost use mathlib.Core.Path.{_≡_};
-ghost use Prim.Native.Nat.{ℕ, _+_, _*_, _<_, _≤_, _%_, _^_, min};
+ghost use Prim.Native.Nat.{_+_, _*_, _<_, _≤_, _%_, _^_, min};
 ghost use lib.ListN.{length, replicate};
 ghost use Rattle.rules.specs.Packing.{pack};
 ghost use Rattle.packing.specs.Field.{fieldAt, Within};

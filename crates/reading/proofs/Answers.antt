@@ -1,17 +1,15 @@
 -- What was read of a record that has passed questions 1 and 2: questions 4 and 5 of it are those of the record, and its list is the record's.
 -- Assumes nothing.
-use Prim.Native.Nat.{ℕ, zero, suc, _+_, _-_, _*_, _≤_, _<_}
+use Prim.Native.Nat.{ℕ, _+_, _-_}
 use native.Mathlib.Omega.{arith}
 use borrow.Author.Tests.{le-leb}
 use mathlib.Core.Path.{_≡_, refl, sym, ap, ap₂, _∙_}
 use mathlib.Core.Bool.{Bool, true, false, _&&_, and-true}
 use mathlib.Core.List.{List, [], _∷_, _++_, map, append-nil, append-assoc}
-use lib.Dec.{eqb, leb}
 use lib.IntN.{ℤ, pos}
 use lib.ListN.{length, take, replicate, length-map}
 use lib.Seq.{take-at}
-use Rattle.rules.specs.Packing.{total}
-use Rattle.rules.specs.Record.{Kind, layout, section, cells, years, exposure, increment, index, reporting, weight, expense, valueOf, bitsInRange, inRange, negativeZero, yearsOf, codesOf, fieldsOf, reportingIn, padded, figuresOf, million}
+use Rattle.rules.specs.Record.{layout, cells, years, increment, reporting, weight, valueOf, bitsInRange, inRange, negativeZero, yearsOf, fieldsOf, reportingIn, padded, figuresOf}
 use Rattle.rules.specs.Reading.{inRanges, sharesSum}
 use Rattle.packing.specs.Field.{fieldAt, rowAt}
 use Rattle.packing.proofs.Pack.{length-row}
@@ -20,7 +18,7 @@ use Rattle.layout.specs.Rows.{every, between}
 use Rattle.layout.proofs.Sizes.{starts}
 use Rattle.reading.specs.Reading.{readingOf, rangesOf, sumOf, triangleOf, assumptionsOf, listOf}
 use Rattle.reading.proofs.Rows.{Whole, fields-are, ranges-are, years-field}
-use Rattle.reading.proofs.Lists.{Lists, lists, values, one-row, same-place}
+use Rattle.reading.proofs.Lists.{lists, values, one-row, same-place}
 
 -- a list is found again in its array
 pub take-padded : {A : Type 0} (m n : ℕ) (z : A) (xs : List A) → length xs ≡ n → take n (padded m z xs) ≡ xs

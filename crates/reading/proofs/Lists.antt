@@ -1,22 +1,16 @@
 -- The lists of a record that has passed questions 1 and 2, as the reader holds them. Assumes nothing.
-use Prim.Native.Nat.{ℕ, zero, suc, _+_, _*_, _/_, _%_, _^_, _≤_, _<_}
+use Prim.Native.Nat.{ℕ, _+_, _*_, _/_, _%_, _^_}
 use native.Mathlib.Omega.{arith}
-use mathlib.Core.Path.{_≡_, refl, sym, ap, ap₂, _∙_}
-use mathlib.Core.Bool.{Bool, true, false, _&&_, and-true, cond}
-use mathlib.Core.List.{List, [], _∷_, _++_, map, append-nil}
+use mathlib.Core.Path.{_≡_, refl, ap, ap₂, _∙_}
+use mathlib.Core.Bool.{Bool, false, cond}
+use mathlib.Core.List.{List, [], _∷_, map}
 use lib.IntN.{ℤ, pos, natAbs}
-use lib.ListN.{length, getD, take, replicate, length-map}
-use lib.Seq.{take-at}
-use Rattle.rules.specs.Packing.{total}
-use Rattle.rules.specs.Record.{Kind, layout, section, cells, increment, valueOf, bitsInRange, inRange, negativeZero, yearsOf, codesOf, fieldsOf, exposuresIn, incrementsIn, indicesIn, reportingIn, weightIn, totalsIn, padded, figuresOf, million, exposure, index, reporting, weight, expense, signedOf}
-use Rattle.rules.specs.Reading.{inRanges, sharesSum}
+use lib.ListN.{getD}
+use Rattle.rules.specs.Record.{Kind, layout, section, cells, increment, valueOf, yearsOf, codesOf, fieldsOf, exposuresIn, incrementsIn, indicesIn, reportingIn, weightIn, totalsIn, exposure, index, reporting, weight, expense, signedOf}
 use Rattle.packing.specs.Field.{fieldAt, upTo, rowAt}
-use Rattle.packing.proofs.Pack.{length-row}
 use Rattle.layout.specs.Places.{startOf}
-use Rattle.layout.specs.Rows.{every, between}
 use Rattle.layout.proofs.Sizes.{starts}
-use Rattle.reading.specs.Reading.{readingOf, rangesOf, sumOf, listOf}
-use Rattle.reading.proofs.Rows.{Whole, codes-row, fields-row, fields-are, ranges-are, years-field}
+use Rattle.reading.proofs.Rows.{Whole, codes-row, fields-row}
 
 naturals : (xs : List ℕ) → map natAbs (map pos xs) ≡ xs
 naturals [] = refl

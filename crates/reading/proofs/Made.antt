@@ -1,10 +1,8 @@
 -- What `read` makes of its parts: each row lies within the record, and the parts together are the record's figures. Assumes nothing.
-use Prim.Native.Nat.{ℕ, _+_, _*_, _^_, _≤_, _<_}
+use Prim.Native.Nat.{ℕ, _+_, _*_, _≤_, _<_}
 use native.Mathlib.Omega.{arith}
-use mathlib.Core.Path.{_≡_, refl, sym, ap, _∙_}
+use mathlib.Core.Path.{_≡_}
 use mathlib.Core.List.{List}
-use lib.IntN.{ℤ}
-use lib.ListN.{length}
 use Rattle.rules.specs.Record.{bits, cells, yearsOf, padded, figuresOf}
 use Rattle.packing.specs.Field.{fieldAt, rowAt}
 use Rattle.layout.specs.Places.{placesOf}

@@ -1,8 +1,7 @@
 -- An array that is filled from the front, one entry a turn, at any type; and a row of fields, one field more. Assumes nothing.
 use mathlib.Core.Path.{_≡_, sym}
 use mathlib.Core.List.{List, [], _∷_, _++_}
-use Prim.Native.Nat.{ℕ, suc, _+_, _-_, _*_, _≤_, _<_}
-use native.Mathlib.Nat.{mul-le-mul-left}
+use Prim.Native.Nat.{ℕ, suc, _+_, _-_, _*_, _<_}
 use native.Mathlib.Numerals.{add-one}
 use native.Mathlib.Omega.{arith}
 use lib.ListN.{length, set, replicate, length-append}
@@ -23,7 +22,3 @@ padded-more m z xs x n e h =
 pub row-more : (s : List ℕ) (at w n : ℕ) → rowAt s at w (n + 1) ≡ rowAt s at w n ++ (fieldAt s (at + w * n) w ∷ [])
 unfolding rowAt upTo
 row-more s at w n = rw add-one
-
--- there is room for field i of n
-pub room : (w i n : ℕ) → i < n → w * i + w ≤ w * n
-room w i n h = omega (arith, mul-le-mul-left {m = i + 1} {n = n} w (omega arith))

@@ -1,28 +1,22 @@
 -- A record that has passed questions 1 and 2, row by row: its codes, its fields, its lists and its ranges. Assumes nothing.
-use Prim.Native.Nat.{ℕ, zero, suc, _+_, _-_, _*_, _/_, _%_, _^_, _≤_, _<_}
-use native.Mathlib.Nat.{add-zero, zero-add, mod-lt}
+use Prim.Native.Nat.{ℕ, _≤_, _<_}
 use native.Mathlib.Omega.{arith}
 use borrow.Author.Tests.{eqb-true, leb-true}
-use mathlib.Core.Path.{_≡_, refl, sym, ap, ap₂, _∙_}
-use mathlib.Core.Bool.{Bool, true, false, _&&_, and-true}
-use mathlib.Core.List.{List, [], _∷_, _++_, map, append-nil}
+use mathlib.Core.Path.{_≡_}
+use mathlib.Core.Bool.{true}
+use mathlib.Core.List.{List, []}
 use lib.Dec.{eqb, leb}
-use lib.IntN.{ℤ, pos, natAbs}
-use lib.ListN.{length, getD, take, replicate, length-map}
-use lib.Pow.{pow-pos}
-use lib.Seq.{take-at}
-use Rattle.rules.specs.Packing.{total, numberOf}
-use Rattle.rules.specs.Record.{Kind, years, exposure, increment, index, reporting, weight, expense, bitsOf, layout, spread, section, widths, bits, bytes, filling, valueOf, bitsInRange, inRange, negativeZero, everyField, yearsOf, codesOf, fillingOf, fieldsOf, padded}
+use lib.ListN.{length, getD}
+use Rattle.rules.specs.Record.{layout, section, widths, bits, bytes, filling, valueOf, bitsInRange, yearsOf, codesOf, fillingOf, fieldsOf}
 use Rattle.rules.specs.Reading.{hasYears, hasLength, inRanges}
-use Rattle.packing.specs.Field.{fieldAt, upTo, rowAt}
+use Rattle.packing.specs.Field.{fieldAt}
 use Rattle.packing.specs.Pending.{Fit}
-use Rattle.packing.proofs.Pack.{length-row}
+use Rattle.packing.proofs.Pack.{field-lt}
 use Rattle.packing.proofs.Places.{field-append, field-byte}
-use Rattle.layout.specs.Rows.{every, between}
 use Rattle.layout.proofs.Every.{both-left, both-right}
 use Rattle.layout.proofs.Sections.{join, Shaped, mapRows, everyRow, section-join, zip-join, mapRows-shaped, every-join}
 use Rattle.layout.proofs.Codes.{rowsFrom, rows-shaped, unpack-rows}
-use Rattle.layout.proofs.Sizes.{bytes-room, bytes-least}
+use Rattle.layout.proofs.Sizes.{bytes-room, bytes-least, years-lt}
 
 -- bytes that have passed questions 1 and 2
 pub record Whole (s : List ℕ) : Type 0 where
@@ -30,10 +24,6 @@ pub record Whole (s : List ℕ) : Type 0 where
   pub some : 1 ≤ yearsOf s
   pub few : yearsOf s < 16
   pub long : length s ≡ bytes (yearsOf s)
-
-years-few : (s : List ℕ) → Fit 8 s → yearsOf s < 16
-unfolding yearsOf
-years-few s h = let b : getD s 0 0 < 256 = h 0 in omega arith
 
 -- what a yes to question 1 tells
 pub years-known : (s : List ℕ) → hasYears s ≡ true → (1 ≤ length s) × (1 ≤ yearsOf s)
@@ -48,14 +38,9 @@ unfolding hasLength
 whole s h a b = record {
   small = h;
   some = years-known s a .1;
-  few = years-few s h;
+  few = years-lt s h;
   long = eqb-true (length s) (bytes (yearsOf s)) (both-left (eqb (length s) (bytes (yearsOf s))) (eqb (fillingOf s) 0) b);
 }
-
--- a field is below two to its width
-field-small : (s : List ℕ) (at w : ℕ) → fieldAt s at w < 2 ^ w
-unfolding fieldAt
-field-small s at w = mod-lt (numberOf s / 2 ^ (8 * length s - (at + w))) (pow-pos w)
 
 module _ (s : List ℕ) (h : Whole s) where
   -- the rows of the record
@@ -97,4 +82,4 @@ module _ (s : List ℕ) (h : Whole s) where
       let long : 38 ≤ length s = omega (arith, h .long) in
       let byte = field-byte s 0 (h .small) (omega arith) in
       let parts = field-append s 0 4 4 (omega arith) in
-      omega (arith, byte, parts, field-small s 4 4)
+      omega (arith, byte, parts, field-lt s 4 4)

@@ -8,6 +8,7 @@ use layout::places_of;
 use layout::sum_of;
 use layout::within;
 use packing::field;
+use rules::ACCEPTED;
 use rules::Figures;
 use rules::MILLION;
 use rules::MOST_AMOUNT;
@@ -276,5 +277,5 @@ pub extern "C" fn doonamurk_read(packed: &[u8], list: &mut [i64]) -> u64
         return 5;
     }
     put_fields(f, list);
-    0
+    ACCEPTED
 }

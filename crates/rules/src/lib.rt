@@ -1,5 +1,7 @@
 // The figures of one record as the code holds them, and the limits of its fields. The rules about them stand in specs/.
 
+// What a call answers where every question says yes.
+pub const ACCEPTED: u64 = 0;
 // M of document 01: the most of an exposure, a reporting share and the weight, and the sum of the reporting shares.
 pub const MILLION: u64 = 1_000_000;
 // The most of a future index.

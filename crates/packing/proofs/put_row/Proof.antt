@@ -2,7 +2,7 @@
 use mathlib.Core.Path.{_≡_, refl}
 use mathlib.Core.List.{List}
 use Prim.Native.Nat.{ℕ, _+_, _-_, _*_, _^_, _≤_, _<_}
-use native.Mathlib.Nat.{mul-zero, mul-le-mul-left}
+use native.Mathlib.Nat.{mul-zero}
 use native.Mathlib.Numerals.{add-one}
 use native.Mathlib.Omega.{arith}
 use borrow.Author.Needs.{needs}
@@ -10,7 +10,7 @@ use lib.ListN.{length, getD, take, replicate}
 use lib.Seq.{length-take-le, take-length, take-suc}
 use Rattle.rules.specs.Packing.{pack}
 use Rattle.packing.specs.Pending.{Packed}
-use Rattle.packing.proofs.Pack.{pack-more}
+use Rattle.packing.proofs.Pack.{pack-more, room}
 use Rattle.packing.proofs.Puts.{packed-none, packed-then, ready-then}
 use Rattle.packing.proofs.put_row.Statement.{statement}
 use Rattle.packing.proofs.put_row.Tie as tie
@@ -20,10 +20,6 @@ row-more : (w : ℕ) (vs : List ℕ) (i : ℕ) → i < length vs
     → pack (replicate (i + 1) w) (take (i + 1) vs) ≡ pack (replicate i w) (take i vs) * 2 ^ w + getD vs i 0
 row-more w vs i h =
     rw (add-one, take-suc vs i 0 h) (rw (length-take-le i vs (omega arith), add-one i) at (pack-more w (take i vs) (getD vs i 0)))
-
--- there is room for one field more
-room-more : (w i n : ℕ) → i < n → w * i + w ≤ w * n
-room-more w i n h = omega (arith, mul-le-mul-left {m = i + 1} {n = n} w (omega arith))
 
 abbrev Inv-loop : tie.InvT-loop
 Inv-loop buffer₀ w vs q₀ i₀ buffer q i =
@@ -48,7 +44,7 @@ put-requires c κs =
     let inv = c .before .before .before .loop .inv in
     let i = c .before .before .before .loop .i in
     let w = start .args .w in (
-      ready-then w (start .pre .0) (inv .2) (inv .1) (room-more w i (length (start .args .vs .now)) (omega arith)),
+      ready-then w (start .pre .0) (inv .2) (inv .1) (room w i (length (start .args .vs .now)) (omega arith)),
       (start .pre .1 .0, start .pre .1 .1 i),
     )
 

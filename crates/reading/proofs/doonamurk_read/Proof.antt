@@ -3,14 +3,14 @@ use borrow.Author.Needs.{needs}
 use borrow.Author.Tests.{leb-true, not-true, not-false}
 use native.Mathlib.Omega.{arith}
 use mathlib.Core.Path.{_≡_, sym, ap, _∙_}
-use mathlib.Core.Bool.{Bool, true, false}
+use mathlib.Core.Bool.{true, false}
 use mathlib.Core.List.{List}
 use Prim.Native.Nat.{ℕ, suc, _<_, _≤_}
 use lib.IntN.{ℤ}
 use lib.ListN.{length}
 use lib.Seq.{sets}
 use Rattle.rules.specs.Questions.{firstNo, afterCall}
-use Rattle.rules.specs.Record.{yearsOf, fields, fieldsOf, figuresOf}
+use Rattle.rules.specs.Record.{yearsOf, fields, figuresOf}
 use Rattle.rules.specs.Reading.{hasYears, hasLength, hasRoom, inRanges, sharesSum, readAnswer, readInto}
 use Rattle.reading.specs.Reading.{readingOf, rangesOf, sumOf, listOf, Listable}
 use Rattle.reading.specs.declared.Reading.{Reading}

@@ -1,19 +1,18 @@
 -- `reading::has_length` meets its contract: the end of the places is the bits of the record, of which there are at most 6313. Assumes nothing.
 use mathlib.Core.Path.{_≡_}
-use mathlib.Core.Bool.{true, false}
+use mathlib.Core.Bool.{false}
 use mathlib.Core.List.{List}
-use Prim.Native.Nat.{ℕ, _+_, _-_, _*_, _/_, _%_, _^_, _≤_}
+use Prim.Native.Nat.{ℕ, _+_, _-_, _*_, _/_, _%_, _^_}
 use native.Mathlib.Omega.{arith}
-use lib.Dec.{eqb, leb}
+use lib.Dec.{eqb}
 use lib.ListN.{length}
 use borrow.Author.Needs.{needs}
-use borrow.Author.Tests.{leb-true, eq-eqb, ne-eqb}
+use borrow.Author.Tests.{eq-eqb, ne-eqb}
 use Rattle.rules.specs.Packing.{numberOf}
 use Rattle.rules.specs.Record.{bits, bytes, filling, yearsOf, fillingOf}
-use Rattle.rules.specs.Reading.{hasYears, hasLength}
+use Rattle.rules.specs.Reading.{hasLength}
 use Rattle.layout.specs.declared.Places.{Places}
 use Rattle.layout.specs.Places.{placesOf}
-use Rattle.layout.proofs.Every.{both-left, both-right}
 use Rattle.layout.proofs.Sizes.{bits-most, bytes-least}
 use Rattle.reading.proofs.Rows.{years-known}
 use Rattle.reading.proofs.has_length.Statement.{statement}

@@ -1,7 +1,7 @@
 -- The assumptions follow the triangle (sets-append). Assumes nothing.
 use borrow.Author.Needs.{needs}
 use native.Mathlib.Omega.{arith}
-use mathlib.Core.Path.{_≡_, _∙_}
+use mathlib.Core.Path.{_≡_}
 use mathlib.Core.List.{map}
 use Prim.Native.Nat.{_+_, _≤_}
 use lib.IntN.{pos}

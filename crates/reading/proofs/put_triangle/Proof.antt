@@ -1,12 +1,11 @@
 -- The three runs of entries follow one another (sets-append), and the numbers fit by their ranges. Assumes nothing.
 use borrow.Author.Needs.{needs}
 use native.Mathlib.Omega.{arith}
-use mathlib.Core.Path.{_≡_, ap, _∙_}
-use mathlib.Core.List.{List, map, _∷_, _++_}
-use Prim.Native.Nat.{ℕ, _+_}
-use lib.IntN.{ℤ, pos}
-use lib.ListN.{length, set, take, length-map}
-use lib.Seq.{sets, length-take-le}
+use mathlib.Core.Path.{_≡_}
+use mathlib.Core.List.{map}
+use Prim.Native.Nat.{_+_}
+use lib.IntN.{pos}
+use lib.ListN.{length, set, take}
 use denote.Ref.{now}
 use Rattle.entries.proofs.Runs.{sets-append}
 use Rattle.layout.proofs.Sizes.{fields-count}

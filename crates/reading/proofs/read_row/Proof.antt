@@ -6,7 +6,8 @@ use native.Mathlib.Omega.{arith}
 use Rattle.rules.specs.Record.{padded}
 use Rattle.packing.specs.Field.{upTo, rowAt}
 use Rattle.packing.proofs.Pack.{length-row}
-use Rattle.reading.proofs.Padded.{padded-more, row-more, room}
+use Rattle.packing.proofs.Pack.{room}
+use Rattle.reading.proofs.Padded.{padded-more, row-more}
 use Rattle.reading.proofs.read_row.Statement.{statement}
 use Rattle.reading.proofs.read_row.Tie as tie
 

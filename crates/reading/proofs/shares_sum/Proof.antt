@@ -1,15 +1,9 @@
 use borrow.Author.Needs.{needs}
-use borrow.Author.Tests.{leb-true}
 use native.Mathlib.Omega.{arith}
-use mathlib.Core.Path.{_≡_, ap, _∙_}
-use Prim.Native.Nat.{ℕ, _+_, _<_, _≤_}
-use mathlib.Core.Bool.{true}
-use mathlib.Core.List.{List}
-use lib.Dec.{eqb, leb}
-use lib.ListN.{length, getD, take}
-use lib.Seq.{getD-take, length-take-le}
-use Rattle.layout.specs.Rows.{every, between}
-use Rattle.layout.proofs.Every.{every-at, both-right}
+use mathlib.Core.Path.{_≡_, ap}
+use Prim.Native.Nat.{ℕ, _+_}
+use lib.Dec.{eqb}
+use lib.ListN.{length}
 use Rattle.reading.specs.Reading.{sumOf}
 use Rattle.reading.proofs.Limits.{most}
 use Rattle.reading.proofs.shares_sum.Statement.{statement}

@@ -1,0 +1,1 @@
+// One record for one set of figures: the theorems stand in proofs/.
