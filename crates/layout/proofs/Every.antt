@@ -2,13 +2,16 @@
 use mathlib.Core.Path.{_≡_, refl, sym}
 use mathlib.Core.Bool.{Bool, true, false, _&&_, and-assoc, and-false}
 use mathlib.Core.List.{List, [], _∷_, _++_}
-use Prim.Native.Nat.{ℕ, zero, suc, _+_, _<_}
-use native.Mathlib.Nat.{not-suc-le-zero}
+use Prim.Native.Nat.{ℕ, zero, suc, _+_, _^_, _≤_, _<_, zero-le}
+use native.Mathlib.Nat.{lt-of-le-of-lt, not-suc-le-zero}
 use native.Mathlib.Numerals.{add-one}
 use native.Mathlib.Omega.{arith}
+use borrow.Author.Tests.{leb-true}
+use lib.Dec.{leb}
 use lib.ListN.{length, getD, take}
 use lib.Seq.{take-suc}
-use Rattle.layout.specs.Rows.{every}
+use Rattle.packing.specs.Pending.{Fit}
+use Rattle.layout.specs.Rows.{every, between}
 
 -- both parts of a test that holds
 pub both-left : (a b : Bool) → a && b ≡ true → a ≡ true
@@ -44,3 +47,15 @@ module _ {A : Type 0} (p : A → Bool) where
   every-at [] i d l e = absurd (not-suc-le-zero l)
   every-at (x ∷ xs) zero d l e = both-left (p x) (every p xs) e
   every-at (x ∷ xs) (suc i) d l e = every-at xs i d (omega arith) (both-right (p x) (every p xs) e)
+
+-- each number of a list whose range is known is at most the limit
+pub at-most : (least most : ℕ) (xs : List ℕ) → every (between least most) xs ≡ true → (i : ℕ) → getD xs i 0 ≤ most
+unfolding every
+at-most least most [] h i = zero-le
+at-most least most (x ∷ xs) h zero =
+    leb-true x most (both-right (leb least x) (leb x most) (both-left (between least most x) (every (between least most) xs) h))
+at-most least most (x ∷ xs) h (suc i) = at-most least most xs (both-right (between least most x) (every (between least most) xs) h) i
+
+-- and has no more bits than the limit
+pub fit-between : (least most w : ℕ) → most < 2 ^ w → (xs : List ℕ) → every (between least most) xs ≡ true → Fit w xs
+fit-between least most w l xs h i = lt-of-le-of-lt (at-most least most xs h i) l

@@ -4,12 +4,13 @@ use mathlib.Core.List.{List, [], _∷_, _++_}
 use Prim.Native.Nat.{ℕ, zero, suc, _+_, _-_, _*_, _/_, _%_, _^_, _≤_, _<_}
 use native.Mathlib.Decide.{decLt}
 use native.Mathlib.Nat.{add-comm, add-zero, mod-eq-of-lt, mod-lt, mod-one, mul-add-div-right, mul-add-mod-self-right, mul-le-mul-left, not-suc-le-zero, sub-zero, suc-sub-suc}
+use native.Mathlib.Numerals.{add-one}
 use native.Mathlib.Omega.{arith}
 use lib.Arith.{digits-lt}
 use lib.Dec.{lit<}
-use lib.ListN.{length, getD, replicate, length-append, length-replicate, replicate-append-replicate, List·getD-append, List·getD-eq-default}
+use lib.ListN.{length, getD, take, replicate, length-append, length-replicate, replicate-append-replicate, List·getD-append, List·getD-eq-default}
 use lib.Pow.{pow-add, pow-pos, shr-shr, high, mod-pow-add}
-use lib.Seq.{getD-at}
+use lib.Seq.{getD-at, length-take-le, take-suc}
 use Rattle.rules.specs.Packing.{total, pack, unpack, numberOf, bytesOf}
 use Rattle.packing.specs.Field.{fieldAt, upTo, rowAt}
 use Rattle.packing.specs.Pending.{Fit}
@@ -225,3 +226,9 @@ row-small s at w n i = go (decLt i n)
 -- there is room for field i of n
 pub room : (w i n : ℕ) → i < n → w * i + w ≤ w * n
 room w i n h = omega (arith, mul-le-mul-left {m = i + 1} {n = n} w (omega arith))
+
+-- the first fields of a row, and one more
+pub pack-next : (w : ℕ) (vs : List ℕ) (i : ℕ) → i < length vs
+    → pack (replicate (i + 1) w) (take (i + 1) vs) ≡ pack (replicate i w) (take i vs) * 2 ^ w + getD vs i 0
+pack-next w vs i h =
+    rw (add-one, take-suc vs i 0 h) (rw (length-take-le i vs (omega arith), add-one i) at (pack-more w (take i vs) (getD vs i 0)))

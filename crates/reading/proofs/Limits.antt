@@ -1,24 +1,19 @@
 -- What the ranges say: of each number of a list, and of figures that passed question 4. Assumes nothing.
 use Prim.Native.Nat.{ℕ, _+_, _≤_, _<_}
-use borrow.Author.Tests.{leb-true}
 use mathlib.Core.Path.{_≡_, _∙_}
 use mathlib.Core.Bool.{true, _&&_}
 use mathlib.Core.List.{List, map}
-use lib.Dec.{leb}
 use lib.IntN.{pos}
 use lib.ListN.{length, getD, take, length-map}
 use lib.Seq.{getD-take, length-take-le}
 use Rattle.layout.specs.Rows.{every, between}
-use Rattle.layout.proofs.Every.{every-at, both-left, both-right}
+use Rattle.layout.proofs.Every.{at-most, both-left, both-right}
 use Rattle.reading.specs.Reading.{rangesOf, Listable}
 use Rattle.reading.specs.declared.Reading.{Reading}
 
 -- one of the first n numbers of a list, each from l to m, is at most m
-pub most : (l m n : ℕ) (xs : List ℕ) (i : ℕ) → i < n → n ≤ length xs → every (between l m) (take n xs) ≡ true → getD xs i 0 ≤ m
-most l m n xs i h long e =
-    let short : i < length (take n xs) = rw (length-take-le n xs long) h in
-    let yes = rw (getD-take n xs i 0 h) at (every-at (between l m) (take n xs) i 0 short e) in
-    leb-true (getD xs i 0) m (both-right (leb l (getD xs i 0)) (leb (getD xs i 0) m) yes)
+pub most : (l m n : ℕ) (xs : List ℕ) (i : ℕ) → i < n → every (between l m) (take n xs) ≡ true → getD xs i 0 ≤ m
+most l m n xs i h e = rw (getD-take n xs i 0 h) at (at-most l m (take n xs) e i)
 
 pub length-naturals : (n : ℕ) (xs : List ℕ) → n ≤ length xs → length (map pos (take n xs)) ≡ n
 length-naturals n xs h = length-map (take n xs) pos ∙ length-take-le n xs h

@@ -2,8 +2,6 @@
 use Prim.Native.Nat.{ℕ}
 use mathlib.Core.Path.{_≡_}
 use mathlib.Core.Bool.{Bool, true, _&&_}
-use mathlib.Core.List.{List}
-use lib.ListN.{length}
 use Rattle.rules.specs.Record.{increment, inRange}
 use Rattle.rules.specs.Writing.{Given, givenYears, givenLengths}
 use Rattle.layout.specs.Rows.{every, between}

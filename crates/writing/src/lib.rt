@@ -14,15 +14,15 @@ use rules::SIGN;
 ghost use mathlib.Core.Path.{_≡_};
 ghost use mathlib.Core.Bool.{true, _&&_};
 ghost use mathlib.Core.List.{map};
-ghost use Prim.Native.Nat.{_+_, _*_, _<_, _≤_, _^_};
+ghost use Prim.Native.Nat.{_+_, _*_, _<_, _^_};
 ghost use lib.Dec.{eqb, leb};
 ghost use lib.ListN.{length, replicate};
-ghost use Rattle.rules.specs.Packing.{pack, total};
+ghost use Rattle.rules.specs.Packing.{pack};
 ghost use Rattle.rules.specs.Record.{increment, inRange, codeOf, bytes, cells, recordOf};
 ghost use Rattle.rules.specs.Writing.{given, givenFields, writeAnswer, writeInto};
 ghost use Rattle.layout.specs.Rows.{every, between};
 ghost use Rattle.packing.specs.Pending.{Ready, Packed};
-ghost use Rattle.writing.specs.Writing.{rangesOf, Writable};
+ghost use Rattle.writing.specs.Writing.{Writable};
 
 // Question 1.
 fn given_years(k: u64) -> bool

@@ -1,25 +1,17 @@
 -- `packing::put_row` meets its contract: before each turn the first i of the fields are packed. Assumes nothing.
 use mathlib.Core.Path.{_≡_, refl}
-use mathlib.Core.List.{List}
-use Prim.Native.Nat.{ℕ, _+_, _-_, _*_, _^_, _≤_, _<_}
+use Prim.Native.Nat.{_+_, _-_, _*_, _≤_}
 use native.Mathlib.Nat.{mul-zero}
-use native.Mathlib.Numerals.{add-one}
 use native.Mathlib.Omega.{arith}
 use borrow.Author.Needs.{needs}
-use lib.ListN.{length, getD, take, replicate}
-use lib.Seq.{length-take-le, take-length, take-suc}
+use lib.ListN.{length, take, replicate}
+use lib.Seq.{take-length}
 use Rattle.rules.specs.Packing.{pack}
 use Rattle.packing.specs.Pending.{Packed}
-use Rattle.packing.proofs.Pack.{pack-more, room}
+use Rattle.packing.proofs.Pack.{pack-next, room}
 use Rattle.packing.proofs.Puts.{packed-none, packed-then, ready-then}
 use Rattle.packing.proofs.put_row.Statement.{statement}
 use Rattle.packing.proofs.put_row.Tie as tie
-
--- one field more
-row-more : (w : ℕ) (vs : List ℕ) (i : ℕ) → i < length vs
-    → pack (replicate (i + 1) w) (take (i + 1) vs) ≡ pack (replicate i w) (take i vs) * 2 ^ w + getD vs i 0
-row-more w vs i h =
-    rw (add-one, take-suc vs i 0 h) (rw (length-take-le i vs (omega arith), add-one i) at (pack-more w (take i vs) (getD vs i 0)))
 
 abbrev Inv-loop : tie.InvT-loop
 Inv-loop buffer₀ w vs q₀ i₀ buffer q i =
@@ -61,7 +53,7 @@ loop-again c =
     let i = c .before .before .before .before .before .before .loop .i in
     let w = start .args .w in
     let e : w * (i + 1) ≡ w * i + w = omega arith in
-    (omega arith, omega arith, rw (e, row-more w (start .args .vs .now) i (omega arith)) (packed-then (inv .2) (c .before .before .put .ensures)))
+    (omega arith, omega arith, rw (e, pack-next w (start .args .vs .now) i (omega arith)) (packed-then (inv .2) (c .before .before .put .ensures)))
 
 same-length : tie.Need-same-length Inv-loop μ-loop
 same-length c = search needs

@@ -31,7 +31,7 @@ put-naturals-requires c κs =
     let s = c .before .before .before .before .before in
     let f = s .args .f in
     let long : length (f .indices) ≡ 16 = search needs in
-    (omega arith, (omega arith, λ i h. omega (arith, most 1 5000000 (f .k) (f .indices) i h (omega arith) (s .pre .0 .indices))))
+    (omega arith, (omega arith, λ i h. omega (arith, most 1 5000000 (f .k) (f .indices) i h (s .pre .0 .indices))))
 
 slice-aggregate-put-naturals-2 : tie.Need-slice-aggregate-put-naturals-2
 slice-aggregate-put-naturals-2 c = search needs
@@ -44,7 +44,7 @@ put-naturals-requires-2 c κs =
     let s = c .before .before .before .before .before .before .before .before .before in
     let f = s .args .f in
     let long : length (f .reporting) ≡ 16 = search needs in
-    (omega arith, (omega arith, λ i h. omega (arith, most 0 1000000 (f .k + 1) (f .reporting) i h (omega arith) (s .pre .0 .reporting))))
+    (omega arith, (omega arith, λ i h. omega (arith, most 0 1000000 (f .k + 1) (f .reporting) i h (s .pre .0 .reporting))))
 
 put-natural-requires : tie.Need-put-natural-requires
 put-natural-requires c κs =
@@ -63,7 +63,7 @@ put-naturals-requires-3 c κs =
     let s = c .before .before .before .before .before .before .before .before .before .before .before .before .before .before .before .before in
     let f = s .args .f in
     let long : length (f .totals) ≡ 16 = search needs in
-    (omega arith, (omega arith, λ i h. omega (arith, most 0 10000000000 (f .k + 1) (f .totals) i h (omega arith) (s .pre .0 .totals))))
+    (omega arith, (omega arith, λ i h. omega (arith, most 0 10000000000 (f .k + 1) (f .totals) i h (s .pre .0 .totals))))
 
 same-length : tie.Need-same-length
 same-length c = search needs

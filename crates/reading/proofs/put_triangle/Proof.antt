@@ -32,7 +32,7 @@ put-naturals-requires c κs =
     let s = c .before .before .before .before .before .before .before in
     let f = s .args .f in
     let long : length (f .exposures) ≡ 16 = search needs in
-    (omega arith, (omega (arith, fields-count (f .k)), λ i h. omega (arith, most 1 1000000 (f .k + 1) (f .exposures) i h (omega arith) (s .pre .0 .exposures))))
+    (omega arith, (omega (arith, fields-count (f .k)), λ i h. omega (arith, most 1 1000000 (f .k + 1) (f .exposures) i h (s .pre .0 .exposures))))
 
 slice-aggregate-put-integers : tie.Need-slice-aggregate-put-integers
 slice-aggregate-put-integers c = search needs

@@ -1,0 +1,45 @@
+// Numbers and lists on standard output.
+use libc::STDOUT_FILENO;
+ghost use mathlib.Core.Path.{_≡_};
+ghost use Prim.Native.Nat.{_≤_};
+ghost use lib.IntN.{natAbs};
+ghost use lib.ListN.{length};
+
+// The size of x.
+pub fn size_of(x: i64) -> u64
+    ensures { λ r. ⌜ r ≡ natAbs x ⌝ }
+{
+    if x < 0 {
+        ((0 - (x + 1)) as u64) + 1
+    } else {
+        x as u64
+    }
+}
+
+// Writes text as it is.
+pub fn put_text(text: &[u8]) {
+    io::write_all(STDOUT_FILENO, text);
+}
+
+// Writes n in decimal.
+pub fn put_number(n: u64) {
+    io::print_decimal(STDOUT_FILENO, n);
+}
+
+// Writes x in decimal, with its sign where it is below zero, and a line end.
+pub fn put_line(x: i64) {
+    if x < 0 {
+        io::write_all(STDOUT_FILENO, b"-");
+    }
+    io::print_decimal(STDOUT_FILENO, size_of(x));
+    io::write_all(STDOUT_FILENO, b"\n");
+}
+
+// Writes the first n entries of a list, one a line.
+pub fn put_lines(list: &[i64], n: usize)
+    requires { ⌜ n ≤ length (now list) ⌝ }
+{
+    for i in 0..n {
+        put_line(list[i]);
+    }
+}

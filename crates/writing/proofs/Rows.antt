@@ -1,0 +1,180 @@
+-- What a writer is given, row by row: the rows' lengths, the bits and the ranges of their fields. Assumes nothing.
+use Prim.Native.Nat.{ℕ, _+_, _<_}
+use native.Mathlib.Omega.{arith}
+use mathlib.Core.Path.{_≡_, refl, ap, _∙_}
+use mathlib.Core.Bool.{Bool, true, false, _&&_, and-true}
+use mathlib.Core.List.{List, [], _∷_, map, append-nil, zipWith}
+use borrow.Author.Tests.{eqb-true, leb-true}
+use lib.Dec.{eqb, leb}
+use lib.IntN.{ℤ, pos}
+use lib.ListN.{length, length-map}
+use Rattle.rules.specs.Record.{Kind, years, exposure, increment, index, reporting, weight, expense, cells, layout, spread, bytes, codeOf, inRange}
+use Rattle.rules.specs.Writing.{Given, givenFields, givenYears, givenLengths, givenRanges}
+use Rattle.layout.specs.Rows.{every, between}
+use Rattle.layout.proofs.Every.{both-left, both-right}
+use Rattle.layout.proofs.Sections.{join, Shaped, mapRows, zip-join, every-join}
+use Rattle.writing.specs.Writing.{rangesOf}
+
+-- the values of what is given, a row for each kind, and their bits
+abbrev valuesOf : Given → List (List ℤ)
+valuesOf g =
+    (pos (g .k) ∷ [])
+    ∷ map pos (g .exposures)
+    ∷ g .increments
+    ∷ map pos (g .indices)
+    ∷ map pos (g .reporting)
+    ∷ (pos (g .weight) ∷ [])
+    ∷ map pos (g .totals)
+    ∷ []
+
+abbrev pub codesOf : Given → List (List ℕ)
+codesOf g =
+    (g .k ∷ [])
+    ∷ g .exposures
+    ∷ map (codeOf increment) (g .increments)
+    ∷ g .indices
+    ∷ g .reporting
+    ∷ (g .weight ∷ [])
+    ∷ g .totals
+    ∷ []
+
+-- how many fields each row has, and of which kind
+abbrev pub rowsOf : Given → List (ℕ × Kind)
+rowsOf g =
+    (1, years)
+    ∷ (length (g .exposures), exposure)
+    ∷ (length (g .increments), increment)
+    ∷ (length (g .indices), index)
+    ∷ (length (g .reporting), reporting)
+    ∷ (1, weight)
+    ∷ (length (g .totals), expense)
+    ∷ []
+
+-- the fields are the values, one row after another
+fields-join : (g : Given) → givenFields g ≡ join (valuesOf g)
+unfolding givenFields
+fields-join g = rw (append-nil (map pos (g .totals)))
+
+-- six tests that hold, each of them
+all-six : (a b c d e f : Bool) → a && (b && (c && (d && (e && f)))) ≡ true
+    → (a ≡ true) × (b ≡ true) × (c ≡ true) × (d ≡ true) × (e ≡ true) × (f ≡ true)
+all-six a b c d e f h =
+    let h1 = both-right a (b && (c && (d && (e && f)))) h in
+    let h2 = both-right b (c && (d && (e && f))) h1 in
+    let h3 = both-right c (d && (e && f)) h2 in
+    let h4 = both-right d (e && f) h3 in (
+      both-left a (b && (c && (d && (e && f)))) h,
+      both-left b (c && (d && (e && f))) h1,
+      both-left c (d && (e && f)) h2,
+      both-left d (e && f) h3,
+      both-left e f h4,
+      both-right e f h4,
+    )
+
+-- what question 1 says
+pub few-years : (g : Given) → givenYears g ≡ true → g .k < 16
+unfolding givenYears
+few-years g h =
+    let l = leb-true (g .k) 15 (both-right (leb 1 (g .k)) (leb (g .k) 15) h) in
+    omega arith
+
+-- what question 2 says: the buffer has m bytes, and each list its length
+pub record Lengths (g : Given) (m : ℕ) : Type 0 where
+  pub buffer : m ≡ bytes (g .k)
+  pub exposures : length (g .exposures) ≡ g .k + 1
+  pub increments : length (g .increments) ≡ cells (g .k)
+  pub indices : length (g .indices) ≡ g .k
+  pub reporting : length (g .reporting) ≡ g .k + 1
+  pub totals : length (g .totals) ≡ g .k + 1
+
+pub lengths-are : (g : Given) (m : ℕ) → givenLengths g m ≡ true → Lengths g m
+unfolding givenLengths
+lengths-are g m h =
+    let (a, b, c, d, e, f) =
+    all-six (eqb m (bytes (g .k))) (eqb (length (g .exposures)) (g .k + 1)) (eqb (length (g .increments)) (cells (g .k)))
+    (eqb (length (g .indices)) (g .k)) (eqb (length (g .reporting)) (g .k + 1)) (eqb (length (g .totals)) (g .k + 1)) h in
+    record {
+      buffer = eqb-true _ _ a;
+      exposures = eqb-true _ _ b;
+      increments = eqb-true _ _ c;
+      indices = eqb-true _ _ d;
+      reporting = eqb-true _ _ e;
+      totals = eqb-true _ _ f;
+    }
+
+-- the rows' own lengths
+values-shaped : (g : Given) → Shaped (rowsOf g) (valuesOf g)
+values-shaped g =
+    (refl, (length-map (g .exposures) pos, (refl, (length-map (g .indices) pos, (length-map (g .reporting) pos, (refl, (length-map (g .totals) pos, tt)))))))
+
+pub codes-shaped : (g : Given) → Shaped (rowsOf g) (codesOf g)
+codes-shaped g = (refl, (refl, (length-map (g .increments) (codeOf increment), (refl, (refl, (refl, (refl, tt)))))))
+
+-- the bits of a row whose kind has no sign bit are its sizes, and its range is between two limits
+module _ (κ : Kind) (e : κ .signed ≡ false) where
+  plain-codes : (xs : List ℕ) → map (codeOf κ) (map pos xs) ≡ xs
+  unfolding codeOf
+  plain-codes [] = refl
+  plain-codes (x ∷ xs) = rw (plain-codes xs, e)
+
+  plain-range : (xs : List ℕ) → every (inRange κ) (map pos xs) ≡ every (between (κ .least) (κ .most)) xs
+  unfolding every inRange
+  plain-range [] = refl
+  plain-range (x ∷ xs) = rw (plain-range xs, e)
+
+-- the bits of all fields, row by row
+codes-rows : (g : Given) → mapRows codeOf (rowsOf g) (valuesOf g) ≡ codesOf g
+unfolding codeOf
+codes-rows g =
+    rw (
+      plain-codes exposure refl (g .exposures),
+      plain-codes index refl (g .indices),
+      plain-codes reporting refl (g .reporting),
+      plain-codes expense refl (g .totals),
+    )
+
+module _ (g : Given) (m : ℕ) (l : Lengths g m) where
+  -- the rows have the lengths that the layout gives
+  pub rows-layout : rowsOf g ≡ layout (g .k)
+  unfolding layout
+  rows-layout = rw (l .exposures, l .increments, l .indices, l .reporting, l .totals)
+
+  -- the bits of the fields are those of the rows, one row after another
+  pub codes-join : zipWith codeOf (spread (layout (g .k))) (givenFields g) ≡ join (codesOf g)
+  codes-join = rw (fields-join g, ← rows-layout, zip-join codeOf (rowsOf g) (valuesOf g) (values-shaped g)) (ap join (codes-rows g))
+
+  -- question 4 row by row, where question 1 says yes
+  pub ranges-are : givenYears g ≡ true → givenRanges g ≡ rangesOf g
+  unfolding givenRanges rangesOf givenYears every
+  ranges-are y =
+      rw (
+        fields-join g,
+        ← rows-layout,
+        every-join inRange (rowsOf g) (valuesOf g) (values-shaped g),
+        plain-range years refl (g .k ∷ []),
+        y,
+        plain-range exposure refl (g .exposures),
+        plain-range index refl (g .indices),
+        plain-range reporting refl (g .reporting),
+        plain-range weight refl (g .weight ∷ []),
+        plain-range expense refl (g .totals),
+        and-true (between 0 1000000 (g .weight)),
+        and-true (every (between 0 10000000000) (g .totals)),
+      )
+
+-- what question 4 says, row by row
+pub record Ranges (g : Given) : Type 0 where
+  pub exposures : every (between 1 1000000) (g .exposures) ≡ true
+  pub increments : every (inRange increment) (g .increments) ≡ true
+  pub indices : every (between 1 5000000) (g .indices) ≡ true
+  pub reporting : every (between 0 1000000) (g .reporting) ≡ true
+  pub weight : every (between 0 1000000) (g .weight ∷ []) ≡ true
+  pub totals : every (between 0 10000000000) (g .totals) ≡ true
+
+pub ranges-hold : (g : Given) → rangesOf g ≡ true → Ranges g
+unfolding rangesOf every
+ranges-hold g h =
+    let (a, b, c, d, e, f) =
+    all-six (every (between 1 1000000) (g .exposures)) (every (inRange increment) (g .increments)) (every (between 1 5000000) (g .indices))
+    (every (between 0 1000000) (g .reporting)) (between 0 1000000 (g .weight)) (every (between 0 10000000000) (g .totals)) h in
+    record { exposures = a; increments = b; indices = c; reporting = d; weight = and-true (between 0 1000000 (g .weight)) ∙ e; totals = f }
