@@ -5,7 +5,8 @@ use mathlib.Core.Path.{_≡_, refl, sym, ap, ap₂, _∙_}
 use mathlib.Core.List.{List, [], _∷_, _++_, map}
 use lib.ListN.{length, replicate, length-replicate}
 use lib.Pow.{shr-shr, pow-add}
-use Rattle.rules.specs.Packing.{total, pack, unpack, numberOf}
+use Rattle.rules.specs.Packing.{pack, unpack, numberOf}
+use Rattle.rules.specs.Lists.{total}
 use Rattle.rules.specs.Record.{Kind, bitsOf, spread}
 use Rattle.packing.specs.Field.{rowAt}
 use Rattle.packing.proofs.Pack.{unpack-append, pack-append, rows-are, length-row}

@@ -11,7 +11,7 @@ use lib.Dec.{leb}
 use lib.ListN.{length, getD, take}
 use lib.Seq.{take-suc}
 use Rattle.packing.specs.Pending.{Fit}
-use Rattle.layout.specs.Rows.{every, between}
+use Rattle.rules.specs.Lists.{every, between}
 
 -- both parts of a test that holds
 pub both-left : (a b : Bool) → a && b ≡ true → a ≡ true

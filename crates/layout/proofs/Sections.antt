@@ -8,7 +8,7 @@ use mathlib.Core.List.{List, [], _∷_, _++_, map, zipWith}
 use lib.ListN.{length, getD, replicate, length-append, length-replicate, length-map}
 use lib.Seq.{take-at, drop-at}
 use Rattle.rules.specs.Record.{Kind, spread, section, everyField}
-use Rattle.layout.specs.Rows.{every}
+use Rattle.rules.specs.Lists.{every}
 
 -- the entries of all rows, one row after another
 abbrev pub join : {A : Type 0} → List (List A) → List A

@@ -7,7 +7,7 @@ use native.Mathlib.Numerals.{add-one}
 use native.Mathlib.Omega.{arith}
 use lib.ListN.{length, getD, take, replicate, length-append, length-replicate}
 use lib.Seq.{take-nil}
-use Rattle.rules.specs.Packing.{total}
+use Rattle.rules.specs.Lists.{total}
 use Rattle.rules.specs.Record.{Kind, bitsOf, cells, layout, spread, widths, bits, bytes, filling, fields, yearsOf}
 use Rattle.packing.specs.Pending.{Fit}
 use Rattle.layout.specs.Places.{startOf}

@@ -2,7 +2,7 @@
 use Prim.Native.Nat.{ℕ}
 use mathlib.Core.List.{map}
 use lib.ListN.{take}
-use Rattle.rules.specs.Packing.{total}
+use Rattle.rules.specs.Lists.{total}
 use Rattle.rules.specs.Record.{bitsOf, layout, spread, cells, bits}
 use Rattle.layout.specs.declared.Places.{Places}
 

@@ -2,10 +2,9 @@
 ghost use mathlib.Core.Path.{_≡_};
 ghost use Prim.Native.Nat.{ℕ, _+_, _<_, _≤_};
 ghost use lib.ListN.{length, getD, take};
-ghost use Rattle.rules.specs.Packing.{total};
+ghost use Rattle.rules.specs.Lists.{total, every, between};
 ghost use Rattle.rules.specs.Record.{cells, bytes, fields};
 ghost use Rattle.layout.specs.Places.{placesOf};
-ghost use Rattle.layout.specs.Rows.{every, between};
 
 // How many cells the triangle has, the bit places at which the increments and the rows after them start, and where the fields end.
 pub struct Places {

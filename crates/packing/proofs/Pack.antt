@@ -11,8 +11,9 @@ use lib.Dec.{lit<}
 use lib.ListN.{length, getD, take, replicate, length-append, length-replicate, replicate-append-replicate, List·getD-append, List·getD-eq-default}
 use lib.Pow.{pow-add, pow-pos, shr-shr, high, mod-pow-add}
 use lib.Seq.{getD-at, length-take-le, take-suc}
-use Rattle.rules.specs.Packing.{total, pack, unpack, numberOf, bytesOf}
-use Rattle.packing.specs.Field.{fieldAt, upTo, rowAt}
+use Rattle.rules.specs.Packing.{pack, unpack, numberOf, bytesOf}
+use Rattle.rules.specs.Lists.{total, upTo}
+use Rattle.packing.specs.Field.{fieldAt, rowAt}
 use Rattle.packing.specs.Pending.{Fit}
 
 -- the widths of two rows, one after the other

@@ -1,8 +1,9 @@
 -- One field of a row of bits, found by its place. Assumes nothing.
-use Prim.Native.Nat.{ℕ, zero, suc, _+_, _-_, _*_, _/_, _%_, _^_, _<_, _≤_}
-use mathlib.Core.List.{List, [], _∷_, _++_}
+use Prim.Native.Nat.{ℕ, _+_, _-_, _*_, _/_, _%_, _^_, _<_, _≤_}
+use mathlib.Core.List.{List}
 use lib.ListN.{length}
 use Rattle.rules.specs.Packing.{numberOf}
+use Rattle.rules.specs.Lists.{upTo}
 
 -- the w bits of the bytes s from bit place at on, as a number
 unfoldable pub fieldAt : List ℕ → ℕ → ℕ → ℕ
@@ -15,11 +16,6 @@ pub record Within (s : List ℕ) (at w : ℕ) : Type 0 where
   pub word : 8 ≤ length s
   pub short : length s < 2 ^ 32
   pub inside : at + w ≤ 8 * length s
-
--- f 0, .., f (n − 1)
-unfoldable pub upTo : {A : Type 0} → (ℕ → A) → ℕ → List A
-upTo f zero = []
-upTo f (suc n) = upTo f n ++ (f n ∷ [])
 
 -- the n fields of w bits each from bit place at on
 unfoldable pub rowAt : List ℕ → ℕ → ℕ → ℕ → List ℕ

@@ -9,12 +9,12 @@ use mathlib.Core.List.{List, [], _∷_, _++_, map, append-nil, append-assoc}
 use lib.IntN.{ℤ, pos}
 use lib.ListN.{length, take, replicate, length-map}
 use lib.Seq.{take-at}
-use Rattle.rules.specs.Record.{layout, cells, years, increment, reporting, weight, valueOf, bitsInRange, inRange, negativeZero, yearsOf, fieldsOf, reportingIn, padded, figuresOf}
+use Rattle.rules.specs.Record.{layout, cells, years, increment, reporting, weight, valueOf, bitsInRange, inRange, negativeZero, yearsOf, fieldsOf, reportingIn, figuresOf}
+use Rattle.rules.specs.Lists.{padded, every, between}
 use Rattle.rules.specs.Reading.{inRanges, sharesSum}
 use Rattle.packing.specs.Field.{fieldAt, rowAt}
 use Rattle.packing.proofs.Pack.{length-row}
 use Rattle.layout.specs.Places.{startOf}
-use Rattle.layout.specs.Rows.{every, between}
 use Rattle.layout.proofs.Sizes.{starts}
 use Rattle.reading.specs.Reading.{readingOf, rangesOf, sumOf, triangleOf, assumptionsOf, listOf}
 use Rattle.reading.proofs.Rows.{Whole, fields-are, ranges-are, years-field}

@@ -6,7 +6,7 @@ use mathlib.Core.List.{List, map}
 use lib.IntN.{pos}
 use lib.ListN.{length, getD, take, length-map}
 use lib.Seq.{getD-take, length-take-le}
-use Rattle.layout.specs.Rows.{every, between}
+use Rattle.rules.specs.Lists.{every, between}
 use Rattle.layout.proofs.Every.{at-most, both-left, both-right}
 use Rattle.reading.specs.Reading.{rangesOf, Listable}
 use Rattle.reading.specs.declared.Reading.{Reading}

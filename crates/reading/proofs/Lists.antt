@@ -7,7 +7,8 @@ use mathlib.Core.List.{List, [], _∷_, map}
 use lib.IntN.{ℤ, pos, natAbs}
 use lib.ListN.{getD}
 use Rattle.rules.specs.Record.{Kind, layout, section, cells, increment, valueOf, yearsOf, codesOf, fieldsOf, exposuresIn, incrementsIn, indicesIn, reportingIn, weightIn, totalsIn, exposure, index, reporting, weight, expense, signedOf}
-use Rattle.packing.specs.Field.{fieldAt, upTo, rowAt}
+use Rattle.packing.specs.Field.{fieldAt, rowAt}
+use Rattle.rules.specs.Lists.{upTo}
 use Rattle.layout.specs.Places.{startOf}
 use Rattle.layout.proofs.Sizes.{starts}
 use Rattle.reading.proofs.Rows.{Whole, codes-row, fields-row}

@@ -3,7 +3,8 @@ use Prim.Native.Nat.{ℕ, _+_, _*_, _≤_, _<_}
 use native.Mathlib.Omega.{arith}
 use mathlib.Core.Path.{_≡_}
 use mathlib.Core.List.{List}
-use Rattle.rules.specs.Record.{bits, cells, yearsOf, padded, figuresOf}
+use Rattle.rules.specs.Record.{bits, cells, yearsOf, figuresOf}
+use Rattle.rules.specs.Lists.{padded}
 use Rattle.packing.specs.Field.{fieldAt, rowAt}
 use Rattle.layout.specs.Places.{placesOf}
 use Rattle.layout.specs.declared.Places.{Places}

@@ -6,8 +6,8 @@ use native.Mathlib.Numerals.{add-one}
 use native.Mathlib.Omega.{arith}
 use lib.ListN.{length, set, replicate, length-append}
 use lib.Seq.{set-at, append-snoc}
-use Rattle.rules.specs.Record.{padded}
-use Rattle.packing.specs.Field.{fieldAt, upTo, rowAt}
+use Rattle.rules.specs.Lists.{padded, upTo}
+use Rattle.packing.specs.Field.{fieldAt, rowAt}
 
 -- the store of one entry more
 pub padded-more : {A : Type 0} (m : ℕ) (z : A) (xs : List A) (x : A) (n : ℕ) → length xs ≡ n → n < m

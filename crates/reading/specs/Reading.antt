@@ -6,10 +6,9 @@ use mathlib.Core.List.{List, _∷_, _++_, map}
 use lib.Dec.{eqb}
 use lib.IntN.{ℤ, pos}
 use lib.ListN.{length, take}
-use Rattle.rules.specs.Packing.{total}
-use Rattle.rules.specs.Record.{million, layout, section, cells, increment, valueOf, bitsInRange, codesOf, yearsOf, padded, figuresOf}
+use Rattle.rules.specs.Lists.{total, padded, every, between}
+use Rattle.rules.specs.Record.{million, layout, section, cells, increment, valueOf, bitsInRange, codesOf, yearsOf, figuresOf}
 use Rattle.rules.specs.declared.Figures.{Figures}
-use Rattle.layout.specs.Rows.{every, between}
 use Rattle.packing.specs.Field.{rowAt}
 use Rattle.reading.specs.declared.Increments.{Increments}
 use Rattle.reading.specs.declared.Reading.{Reading}

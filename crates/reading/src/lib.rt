@@ -21,9 +21,9 @@ ghost use lib.Dec.{eqb};
 ghost use lib.ListN.{length, take};
 ghost use lib.Seq.{sets};
 ghost use Rattle.rules.specs.Packing.{numberOf};
-ghost use Rattle.rules.specs.Record.{yearsOf, padded, increment, valueOf, bitsInRange, fields, cells};
+ghost use Rattle.rules.specs.Record.{yearsOf, increment, valueOf, bitsInRange, fields, cells};
+ghost use Rattle.rules.specs.Lists.{padded, every, between};
 ghost use Rattle.rules.specs.Reading.{hasYears, hasLength, hasRoom, readAnswer, readInto};
-ghost use Rattle.layout.specs.Rows.{every, between};
 ghost use Rattle.packing.specs.Field.{rowAt};
 ghost use Rattle.reading.specs.Reading.{RowWithin, incrementsAt, readingOf, rangesOf, sumOf, triangleOf, assumptionsOf, listOf, Listable};
 

@@ -7,7 +7,7 @@ use mathlib.Core.List.{List, _∷_}
 use lib.Dec.{eqb, leb}
 use lib.ListN.{length}
 use borrow.Author.Tests.{leb-true, eqb-true, le-leb, eq-eqb}
-use Rattle.rules.specs.Packing.{total}
+use Rattle.rules.specs.Lists.{total}
 use Rattle.rules.specs.Questions.{firstNo}
 use Rattle.rules.specs.Record.{million, layout, spread, fields, bytes, cells, everyField, inRange, bitsInRange, yearsOf, codesOf, fillingOf, fieldsOf, reportingIn}
 use Rattle.rules.specs.Reading.{hasYears, hasLength, hasRoom, inRanges, sharesSum, readAnswer}

@@ -8,10 +8,9 @@ use mathlib.Core.List.{List, [], _∷_, map, append-nil}
 use lib.IntN.{ℤ, pos, natAbs}
 use lib.ListN.{length, getD, take, drop, length-append, length-drop, length-map, length-replicate, take-append-drop}
 use lib.Seq.{length-take-le, getD-take}
-use Rattle.rules.specs.Packing.{total}
+use Rattle.rules.specs.Lists.{total, every}
 use Rattle.rules.specs.Record.{Kind, million, layout, spread, section, fields, bytes, inRange, exposuresIn, incrementsIn, indicesIn, reportingIn, weightIn, totalsIn}
 use Rattle.rules.specs.Writing.{Given, given, givenFields}
-use Rattle.layout.specs.Rows.{every}
 use Rattle.layout.proofs.Every.{both-left, both-right}
 use Rattle.layout.proofs.Sections.{join, Shaped, everyRow, length-join, section-join, every-join}
 use Rattle.record.proofs.Answers.{Taken}

@@ -8,7 +8,8 @@ use mathlib.Core.List.{List, [], _∷_, zipWith}
 use lib.IntN.{ℤ, pos, natAbs}
 use lib.ListN.{length, getD, drop}
 use lib.Pow.{high, shr-shr, shl-shr, shl-lt, shr-mod, split}
-use Rattle.rules.specs.Packing.{total, pack, unpack, numberOf}
+use Rattle.rules.specs.Packing.{pack, unpack, numberOf}
+use Rattle.rules.specs.Lists.{total}
 use Rattle.rules.specs.Record.{Kind, years, layout, spread, fields, widths, bits, bytes, filling, valueOf, codeOf, bitsInRange, everyField, yearsOf, codesOf, fillingOf, fieldsOf, recordOf}
 use Rattle.packing.specs.Pending.{Fit}
 use Rattle.packing.proofs.Pack.{Fits, pack-lt, unpack-pack, pack-unpack, unpack-fits, number-append, number-lt, bytes-number, number-bytes, length-bytes, bytes-small}

@@ -1,6 +1,6 @@
 -- The lengths that document 01 names for k = 1 and k = 15, computed from the layout. Assumes nothing.
 use mathlib.Core.Path.{_≡_, refl}
-use Rattle.rules.specs.Packing.{total}
+use Rattle.rules.specs.Lists.{total}
 use Rattle.rules.specs.Record.{cells, layout, spread, widths, bits, bytes, fields}
 
 pub two-years : (bits 1 ≡ 300) × ((bytes 1 ≡ 38) × (fields 1 ≡ 12))

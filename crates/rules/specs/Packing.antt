@@ -3,11 +3,7 @@
 use Prim.Native.Nat.{ℕ, _+_, _*_, _/_, _%_, _^_}
 use mathlib.Core.List.{List, [], _∷_}
 use lib.ListN.{length, replicate}
-
--- the sum of a list
-unfoldable pub total : List ℕ → ℕ
-total [] = 0
-total (x ∷ xs) = x + total xs
+use Rattle.rules.specs.Lists.{total}
 
 -- the number whose bits are those of the fields xs, one after another, ws their widths
 unfoldable pub pack : List ℕ → List ℕ → ℕ

@@ -5,7 +5,8 @@ use mathlib.Core.List.{List, [], _∷_, _++_, map, zipWith}
 use lib.Dec.{eqb, leb}
 use lib.IntN.{ℤ, pos, negsuc, negℤ, natAbs}
 use lib.ListN.{length, getD, take, drop, replicate}
-use Rattle.rules.specs.Packing.{total, pack, unpack, numberOf, bytesOf}
+use Rattle.rules.specs.Packing.{pack, unpack, numberOf, bytesOf}
+use Rattle.rules.specs.Lists.{total, padded}
 use Rattle.rules.specs.declared.Figures.{Figures}
 
 -- M, one million
@@ -161,10 +162,6 @@ weightIn k vs = getD (map natAbs (section (layout k) 5 vs)) 0 0
 
 unfoldable pub totalsIn : ℕ → List ℤ → List ℕ
 totalsIn k vs = map natAbs (section (layout k) 6 vs)
-
--- a list in an array of m entries, z past its end
-unfoldable pub padded : {A : Type 0} → ℕ → A → List A → List A
-padded m z xs = xs ++ replicate (m - length xs) z
 
 -- the figures of the record s, each list in its array
 unfoldable pub figuresOf : List ℕ → Figures

@@ -5,9 +5,6 @@ use packing::field;
 use printing::put_number;
 use printing::put_text;
 use writing::doonamurk_write;
-ghost use mathlib.Core.Path.{_≡_};
-ghost use Prim.Native.Nat.{_<_, _≤_, _^_};
-ghost use lib.ListN.{length};
 
 // A number, and whether it was read whole.
 pub struct Number {

@@ -7,7 +7,8 @@ use mathlib.Core.List.{List, [], _∷_, zipWith}
 use lib.Dec.{lit<}
 use lib.ListN.{length, take, replicate}
 use lib.Seq.{take-length}
-use Rattle.rules.specs.Packing.{total, pack, numberOf}
+use Rattle.rules.specs.Packing.{pack, numberOf}
+use Rattle.rules.specs.Lists.{total}
 use Rattle.rules.specs.Record.{Kind, bitsOf, spread, widths, layout, bits, bytes, filling, codeOf, recordOf}
 use Rattle.rules.specs.Writing.{Given, givenFields}
 use Rattle.packing.specs.declared.Pending.{Pending}

@@ -10,7 +10,7 @@ use lib.IntN.{ℤ, pos}
 use lib.ListN.{length, length-map}
 use Rattle.rules.specs.Record.{Kind, years, exposure, increment, index, reporting, weight, expense, cells, layout, spread, bytes, codeOf, inRange}
 use Rattle.rules.specs.Writing.{Given, givenFields, givenYears, givenLengths, givenRanges}
-use Rattle.layout.specs.Rows.{every, between}
+use Rattle.rules.specs.Lists.{every, between}
 use Rattle.layout.proofs.Every.{both-left, both-right}
 use Rattle.layout.proofs.Sections.{join, Shaped, mapRows, zip-join, every-join}
 use Rattle.writing.specs.Writing.{rangesOf}

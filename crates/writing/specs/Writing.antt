@@ -4,7 +4,7 @@ use mathlib.Core.Path.{_≡_}
 use mathlib.Core.Bool.{Bool, true, _&&_}
 use Rattle.rules.specs.Record.{increment, inRange}
 use Rattle.rules.specs.Writing.{Given, givenYears, givenLengths}
-use Rattle.layout.specs.Rows.{every, between}
+use Rattle.rules.specs.Lists.{every, between}
 
 -- question 4 row by row
 unfoldable pub rangesOf : Given → Bool

@@ -20,7 +20,7 @@ ghost use lib.ListN.{length, replicate};
 ghost use Rattle.rules.specs.Packing.{pack};
 ghost use Rattle.rules.specs.Record.{increment, inRange, codeOf, bytes, cells, recordOf};
 ghost use Rattle.rules.specs.Writing.{given, givenFields, writeAnswer, writeInto};
-ghost use Rattle.layout.specs.Rows.{every, between};
+ghost use Rattle.rules.specs.Lists.{every, between};
 ghost use Rattle.packing.specs.Pending.{Ready, Packed};
 ghost use Rattle.writing.specs.Writing.{Writable};
 

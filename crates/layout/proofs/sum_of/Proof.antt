@@ -4,7 +4,7 @@ use mathlib.Core.Path.{_≡_, refl}
 use Prim.Native.Nat.{_-_, _*_, _≤_}
 use native.Mathlib.Omega.{arith}
 use lib.ListN.{take}
-use Rattle.rules.specs.Packing.{total}
+use Rattle.rules.specs.Lists.{total}
 use Rattle.layout.proofs.Sizes.{total-more}
 use Rattle.layout.proofs.sum_of.Statement.{statement}
 use Rattle.layout.proofs.sum_of.Tie as tie

@@ -9,7 +9,7 @@ use lib.ListN.{length, getD, take}
 use lib.Seq.{getD-take, length-take-le}
 use borrow.Author.Needs.{needs}
 use borrow.Author.Tests.{le-leb, lt-leb}
-use Rattle.layout.specs.Rows.{every, between}
+use Rattle.rules.specs.Lists.{every, between}
 use Rattle.layout.proofs.Every.{every-more, every-fails}
 use Rattle.layout.proofs.within.Statement.{statement}
 use Rattle.layout.proofs.within.Tie as tie

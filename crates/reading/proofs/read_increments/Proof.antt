@@ -10,10 +10,10 @@ use lib.IntN.{pos}
 use lib.ListN.{set, length-map}
 use mir.Syntax.{w64}
 use mir.Facts.{toZ-ofZ}
-use Rattle.rules.specs.Record.{padded, increment, valueOf, bitsInRange}
-use Rattle.packing.specs.Field.{fieldAt, upTo, rowAt}
+use Rattle.rules.specs.Record.{increment, valueOf, bitsInRange}
+use Rattle.rules.specs.Lists.{padded, upTo, every}
+use Rattle.packing.specs.Field.{fieldAt, rowAt}
 use Rattle.packing.proofs.Pack.{length-row, field-lt}
-use Rattle.layout.specs.Rows.{every}
 use Rattle.layout.proofs.Every.{every-append}
 use Rattle.reading.specs.Reading.{incrementsAt}
 use Rattle.reading.proofs.Padded.{padded-more, row-more}

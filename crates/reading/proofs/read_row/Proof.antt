@@ -3,8 +3,8 @@ use borrow.Author.Needs.{needs}
 use mathlib.Core.Path.{_≡_, refl}
 use Prim.Native.Nat.{_-_, _≤_}
 use native.Mathlib.Omega.{arith}
-use Rattle.rules.specs.Record.{padded}
-use Rattle.packing.specs.Field.{upTo, rowAt}
+use Rattle.rules.specs.Lists.{padded, upTo}
+use Rattle.packing.specs.Field.{rowAt}
 use Rattle.packing.proofs.Pack.{length-row}
 use Rattle.packing.proofs.Pack.{room}
 use Rattle.reading.proofs.Padded.{padded-more, row-more}

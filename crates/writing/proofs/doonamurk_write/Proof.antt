@@ -8,7 +8,7 @@ use borrow.Author.Needs.{needs}
 use borrow.Author.Tests.{eq-eqb, ne-eqb, not-true, not-false}
 use lib.ListN.{length}
 use lib.Seq.{take-length}
-use Rattle.rules.specs.Packing.{total}
+use Rattle.rules.specs.Lists.{total}
 use Rattle.rules.specs.Writing.{Given, given, givenYears, givenLengths, givenRanges, givenSum}
 use Rattle.writing.specs.Writing.{rangesOf, Writable}
 use Rattle.layout.proofs.Every.{at-most}
