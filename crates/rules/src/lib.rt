@@ -1,4 +1,5 @@
-// The figures of one record as the code holds them, and the limits of its fields. The rules about them stand in specs/.
+// The figures of one record and the factors of its separation as the code holds them, and the limits of the fields. The rules about them
+// stand in specs/.
 
 // What a call answers where every question says yes.
 pub const ACCEPTED: u64 = 0;
@@ -20,4 +21,11 @@ pub struct Figures {
     pub reporting: [u64; 16],
     pub weight: u64,
     pub totals: [u64; 16],
+}
+
+// Shares and levels of the years 0 to k as one set of factors, zero past them. A share counts billionths, a level hundredths a claim.
+pub struct Factors {
+    pub shares: [u64; 16],
+    pub levels: [u64; 16],
+    pub k: usize,
 }
