@@ -6,7 +6,7 @@ use lib.Dec.{leb}
 use lib.IntN.{ℤ, pos, natAbs, _-ℤ_}
 use lib.ListN.{replicate}
 use lib.Signed.{leZ}
-use Rattle.rules.specs.Lists.{upTo, padded, every}
+use Rattle.rules.specs.Lists.{upTo, below, padded, every}
 use Rattle.rules.specs.Questions.{firstNo, afterCall}
 use Rattle.rules.specs.Triangle.{columnTotal, diagonalTotal, cornerTotal, allTotal}
 use Rattle.rules.specs.declared.Factors.{Factors}
@@ -45,7 +45,7 @@ levelOf s k h = diagonalOf s h * billion / runningOf s k h
 
 -- the years 0 to k, and the years 1 to k
 abbrev pub years0 : ℕ → List ℕ
-years0 k = upTo (λ h. h) (k + 1)
+years0 k = below (k + 1)
 
 abbrev pub years1 : ℕ → List ℕ
 years1 k = upTo (λ h. h + 1) k

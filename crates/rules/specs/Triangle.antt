@@ -1,4 +1,5 @@
--- Averages and sums (document 01): the averages of a triangle of increments in a square of sixteen rows of sixteen, and the totals over it.
+-- Averages and sums (document 01): the cumulatives and averages of a triangle of increments, the averages in a square of sixteen rows of sixteen,
+-- and the totals over it. Question 6.
 -- Assumes nothing.
 use Prim.Native.Nat.{ℕ, zero, suc, _+_, _-_, _*_, _/_}
 use mathlib.Core.Bool.{Bool, true, _&&_, cond}
@@ -6,22 +7,35 @@ use mathlib.Core.List.{List, []}
 use lib.Dec.{eqb, leb}
 use lib.IntN.{ℤ, pos, natAbs, _+ℤ_}
 use lib.ListN.{getD, replicate}
-use Rattle.rules.specs.Lists.{upTo, padded}
+use lib.Signed.{leZ}
+use Rattle.rules.specs.Lists.{upTo, below, padded, every}
 use Rattle.rules.specs.Record.{signedOf, signOf}
-use Rattle.rules.specs.declared.Figures.{Figures}
 
 -- where row i starts among the cells by row: row h has the cells with j from 0 to k − h
 unfoldable pub rowStart : ℕ → ℕ → ℕ
 rowStart k zero = 0
 rowStart k (suc i) = rowStart k i + (k + 1 - i)
 
--- the exposure n_i
-unfoldable pub exposureOf : Figures → ℕ → ℕ
-exposureOf f i = getD (f .exposures) i 0
+-- the paid increment P_ij of the years 0 to k, p the increments by row
+unfoldable pub paidOf : ℕ → List ℤ → ℕ → ℕ → ℤ
+paidOf k p i j = getD p (rowStart k i + j) (pos 0)
 
--- the paid increment P_ij
-unfoldable pub paidOf : Figures → ℕ → ℕ → ℤ
-paidOf f i j = getD (f .increments) (rowStart (f .k) i + j) (pos 0)
+-- f 0 + .. + f (n − 1)
+unfoldable pub sumTo : (ℕ → ℤ) → ℕ → ℤ
+sumTo f zero = pos 0
+sumTo f (suc n) = sumTo f n +ℤ f n
+
+-- the cumulative C_ij
+unfoldable pub cumulativeOf : ℕ → List ℤ → ℕ → ℕ → ℤ
+cumulativeOf k p i j = sumTo (paidOf k p i) (suc j)
+
+-- whether the test holds of every cell of the triangle of the years 0 to k
+unfoldable pub everyCell : (ℕ → ℕ → Bool) → ℕ → Bool
+everyCell ok k = every (λ i. every (ok i) (below (k + 1 - i))) (below (k + 1))
+
+-- 6. Is every given C from 0 to 10^11?
+unfoldable pub cumulativesPass : ℕ → List ℤ → Bool
+cumulativesPass k p = everyCell (λ i j. leZ (pos 0) (cumulativeOf k p i j) && leZ (cumulativeOf k p i j) (pos 100000000000)) k
 
 -- 100 × a / n to the nearest whole, halves up
 unfoldable pub nearest : ℕ → ℕ → ℕ
@@ -31,22 +45,17 @@ nearest a n = (200 * a + n) / (2 * n)
 unfoldable pub averageOf : ℤ → ℕ → ℤ
 averageOf p n = signedOf (signOf p) (nearest (natAbs p) n)
 
--- row i of the averages s_ij, j from 0 to k − i, zero past them
-unfoldable pub averageRow : Figures → ℕ → List ℤ
-averageRow f i = padded 16 (pos 0) (upTo (λ j. averageOf (paidOf f i j) (exposureOf f i)) (f .k + 1 - i))
+-- row i of the averages s_ij, j from 0 to k − i, zero past them; n the exposures
+unfoldable pub averageRow : ℕ → List ℕ → List ℤ → ℕ → List ℤ
+averageRow k n p i = padded 16 (pos 0) (upTo (λ j. averageOf (paidOf k p i j) (getD n i 0)) (k + 1 - i))
 
 -- the averages in a square of sixteen rows of sixteen, zero outside the triangle
-unfoldable pub averagesOf : Figures → List (List ℤ)
-averagesOf f = padded 16 (replicate 16 (pos 0)) (upTo (averageRow f) (f .k + 1))
+unfoldable pub averagesOf : ℕ → List ℕ → List ℤ → List (List ℤ)
+averagesOf k n p = padded 16 (replicate 16 (pos 0)) (upTo (averageRow k n p) (k + 1))
 
 -- the cell in row i and column j of a square; zero outside of it
 unfoldable pub cellOf : List (List ℤ) → ℕ → ℕ → ℤ
 cellOf s i j = getD (getD s i []) j (pos 0)
-
--- f 0 + .. + f (n − 1)
-unfoldable pub sumTo : (ℕ → ℤ) → ℕ → ℤ
-sumTo f zero = pos 0
-sumTo f (suc n) = sumTo f n +ℤ f n
 
 -- the total of the cells whose row and column pass a test
 unfoldable pub cellsTotal : (ℕ → ℕ → Bool) → List (List ℤ) → ℤ

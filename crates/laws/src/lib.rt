@@ -1,0 +1,1 @@
+// Laws that more than one crate cites. They stand in proofs/.
