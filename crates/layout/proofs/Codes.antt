@@ -7,7 +7,7 @@ use lib.ListN.{length, replicate, length-replicate}
 use lib.Pow.{shr-shr, pow-add}
 use Rattle.rules.specs.Packing.{pack, unpack, numberOf}
 use Rattle.rules.specs.Lists.{total}
-use Rattle.rules.specs.Record.{Kind, bitsOf, spread}
+use Rattle.rules.specs.Record.{Kind, bitsOf, kindsOf}
 use Rattle.packing.specs.Field.{rowAt}
 use Rattle.packing.proofs.Pack.{unpack-append, pack-append, rows-are, length-row}
 use Rattle.layout.proofs.Sections.{join, Shaped}
@@ -15,7 +15,7 @@ use Rattle.layout.proofs.Sizes.{bits-of-row}
 
 -- the widths of the fields of a layout
 abbrev pub widthsOf : List (ℕ × Kind) → List ℕ
-widthsOf rs = map bitsOf (spread rs)
+widthsOf rs = map bitsOf (kindsOf rs)
 
 map-row : (n : ℕ) (κ : Kind) (κs : List Kind) → map bitsOf (replicate n κ ++ κs) ≡ replicate n (bitsOf κ) ++ map bitsOf κs
 map-row zero κ κs = refl
@@ -23,13 +23,13 @@ map-row (suc n) κ κs = ap (λ (l : List ℕ). bitsOf κ ∷ l) (map-row n κ �
 
 -- the widths of a layout are those of its first row, and then those of the others
 widths-row : (r : ℕ × Kind) (rs : List (ℕ × Kind)) → widthsOf (r ∷ rs) ≡ replicate (r .0) (bitsOf (r .1)) ++ widthsOf rs
-unfolding spread
-widths-row r rs = map-row (r .0) (r .1) (spread rs)
+unfolding kindsOf
+widths-row r rs = map-row (r .0) (r .1) (kindsOf rs)
 
 -- how many bits they take
 pub total-row : (r : ℕ × Kind) (rs : List (ℕ × Kind)) → total (widthsOf (r ∷ rs)) ≡ bitsOf (r .1) * r .0 + total (widthsOf rs)
-unfolding spread
-total-row r rs = bits-of-row (r .0) (r .1) (spread rs)
+unfolding kindsOf
+total-row r rs = bits-of-row (r .0) (r .1) (kindsOf rs)
 
 -- the rows of a record from bit place at on
 abbrev pub rowsFrom : List ℕ → ℕ → List (ℕ × Kind) → List (List ℕ)
@@ -43,7 +43,7 @@ rows-shaped s at (r ∷ rs) = (length-row s at (bitsOf (r .1)) (r .0), rows-shap
 -- the fields of a layout whose bits stand from place at on, with `after` bits after them
 pub unpack-rows : (s : List ℕ) (rs : List (ℕ × Kind)) (at after : ℕ) → at + total (widthsOf rs) + after ≡ 8 * length s
     → unpack (widthsOf rs) (numberOf s / 2 ^ after) ≡ join (rowsFrom s at rs)
-unfolding unpack spread
+unfolding unpack kindsOf
 unpack-rows s [] at after h = refl
 unpack-rows s (r ∷ rs) at after h =
     let w = bitsOf (r .1) in
@@ -65,7 +65,7 @@ shift n a b x y = omega arith
 
 pub pack-rows : (n : ℕ) (rs : List (ℕ × Kind)) (xss : List (List ℕ)) → Shaped rs xss
     → packRows n rs xss ≡ n * 2 ^ total (widthsOf rs) + pack (widthsOf rs) (join xss)
-unfolding pack spread total
+unfolding pack kindsOf total
 pack-rows n [] [] h = omega arith
 pack-rows n [] (xs ∷ xss) h = absurd h
 pack-rows n (r ∷ rs) [] h = absurd h

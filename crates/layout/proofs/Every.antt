@@ -10,7 +10,7 @@ use borrow.Author.Tests.{leb-true}
 use lib.Dec.{leb}
 use lib.ListN.{length, getD, take}
 use lib.Seq.{take-suc}
-use Rattle.packing.specs.Pending.{Fit}
+use Rattle.rules.specs.Packing.{Fit}
 use Rattle.rules.specs.Lists.{every, between}
 
 -- both parts of a test that holds

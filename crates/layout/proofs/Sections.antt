@@ -7,7 +7,7 @@ use mathlib.Core.Bool.{Bool, true, _&&_, and-assoc}
 use mathlib.Core.List.{List, [], _∷_, _++_, map, zipWith}
 use lib.ListN.{length, getD, replicate, length-append, length-replicate, length-map}
 use lib.Seq.{take-at, drop-at}
-use Rattle.rules.specs.Record.{Kind, spread, section, everyField}
+use Rattle.rules.specs.Record.{Kind, kindsOf, section, everyField}
 use Rattle.rules.specs.Lists.{every}
 
 -- the entries of all rows, one row after another
@@ -35,13 +35,13 @@ everyRow ok (r ∷ rs) [] = true
 everyRow ok (r ∷ rs) (xs ∷ xss) = every (ok (r .1)) xs && everyRow ok rs xss
 
 module _ {A : Type 0} where
-  pub length-join : (rs : List (ℕ × Kind)) (xss : List (List A)) → Shaped rs xss → length (join xss) ≡ length (spread rs)
-  unfolding spread
+  pub length-join : (rs : List (ℕ × Kind)) (xss : List (List A)) → Shaped rs xss → length (join xss) ≡ length (kindsOf rs)
+  unfolding kindsOf
   length-join [] [] h = refl
   length-join [] (xs ∷ xss) h = absurd h
   length-join (r ∷ rs) [] h = absurd h
   length-join (r ∷ rs) (xs ∷ xss) h =
-      rw (length-append xs (join xss), length-append (replicate (r .0) (r .1)) (spread rs), h .0, length-replicate (r .0) (r .1), length-join rs xss (h .1))
+      rw (length-append xs (join xss), length-append (replicate (r .0) (r .1)) (kindsOf rs), h .0, length-replicate (r .0) (r .1), length-join rs xss (h .1))
 
   pub section-join : (rs : List (ℕ × Kind)) (xss : List (List A)) → Shaped rs xss → (i : ℕ) → section rs i (join xss) ≡ getD xss i []
   unfolding section
@@ -61,13 +61,13 @@ module _ {A : Type 0} where
   every-append ok κ κs (suc n) (x ∷ xs) ys h =
       rw (every-append ok κ κs n xs ys (suc-inj h)) (sym (and-assoc (ok κ x) (every (ok κ) xs) (everyField ok κs ys)))
 
-  pub every-join : (ok : Kind → A → Bool) (rs : List (ℕ × Kind)) (xss : List (List A)) → Shaped rs xss → everyField ok (spread rs) (join xss) ≡ everyRow ok rs xss
-  unfolding spread everyField
+  pub every-join : (ok : Kind → A → Bool) (rs : List (ℕ × Kind)) (xss : List (List A)) → Shaped rs xss → everyField ok (kindsOf rs) (join xss) ≡ everyRow ok rs xss
+  unfolding kindsOf everyField
   every-join ok [] [] h = refl
   every-join ok [] (xs ∷ xss) h = absurd h
   every-join ok (r ∷ rs) [] h = absurd h
   every-join ok (r ∷ rs) (xs ∷ xss) h =
-      every-append ok (r .1) (spread rs) (r .0) xs (join xss) (h .0) ∙ ap (λ (b : Bool). every (ok (r .1)) xs && b) (every-join ok rs xss (h .1))
+      every-append ok (r .1) (kindsOf rs) (r .0) xs (join xss) (h .0) ∙ ap (λ (b : Bool). every (ok (r .1)) xs && b) (every-join ok rs xss (h .1))
 
 module _ {A B : Type 0} (g : Kind → A → B) where
   zip-append : (κ : Kind) (κs : List Kind) (n : ℕ) (xs ys : List A) → length xs ≡ n
@@ -78,13 +78,13 @@ module _ {A B : Type 0} (g : Kind → A → B) where
   zip-append κ κs (suc n) [] ys h = absurd (suc-ne-zero n (sym h))
   zip-append κ κs (suc n) (x ∷ xs) ys h = ap (λ (l : List B). g κ x ∷ l) (zip-append κ κs n xs ys (suc-inj h))
 
-  pub zip-join : (rs : List (ℕ × Kind)) (xss : List (List A)) → Shaped rs xss → zipWith g (spread rs) (join xss) ≡ join (mapRows g rs xss)
-  unfolding spread zipWith
+  pub zip-join : (rs : List (ℕ × Kind)) (xss : List (List A)) → Shaped rs xss → zipWith g (kindsOf rs) (join xss) ≡ join (mapRows g rs xss)
+  unfolding kindsOf zipWith
   zip-join [] [] h = refl
   zip-join [] (xs ∷ xss) h = absurd h
   zip-join (r ∷ rs) [] h = absurd h
   zip-join (r ∷ rs) (xs ∷ xss) h =
-      zip-append (r .1) (spread rs) (r .0) xs (join xss) (h .0) ∙ ap (λ (l : List B). map (g (r .1)) xs ++ l) (zip-join rs xss (h .1))
+      zip-append (r .1) (kindsOf rs) (r .0) xs (join xss) (h .0) ∙ ap (λ (l : List B). map (g (r .1)) xs ++ l) (zip-join rs xss (h .1))
 
   -- the rows keep their lengths
   pub mapRows-shaped : (rs : List (ℕ × Kind)) (xss : List (List A)) → Shaped rs xss → Shaped rs (mapRows g rs xss)

@@ -8,8 +8,8 @@ use native.Mathlib.Omega.{arith}
 use lib.ListN.{length, getD, take, replicate, length-append, length-replicate}
 use lib.Seq.{take-nil}
 use Rattle.rules.specs.Lists.{total}
-use Rattle.rules.specs.Record.{Kind, bitsOf, cells, layout, spread, widths, bits, bytes, filling, fields, yearsOf}
-use Rattle.packing.specs.Pending.{Fit}
+use Rattle.rules.specs.Record.{Kind, bitsOf, cells, layout, kindsOf, widths, bitCount, byteCount, fillingCount, fieldCount, lastYearOf}
+use Rattle.rules.specs.Packing.{Fit}
 use Rattle.layout.specs.Places.{startOf}
 
 -- the sum of one entry more; past the end it is 0
@@ -28,16 +28,16 @@ bits-of-row zero κ κs = omega arith
 bits-of-row (suc n) κ κs = omega (arith, bits-of-row n κ κs)
 
 -- the bits of the fields of a layout, row by row
-pub bits-of-rows : (rs : List (ℕ × Kind)) → total (map bitsOf (spread rs)) ≡ total (map (λ r. bitsOf (r .1) * r .0) rs)
-unfolding total spread
+pub bits-of-rows : (rs : List (ℕ × Kind)) → total (map bitsOf (kindsOf rs)) ≡ total (map (λ r. bitsOf (r .1) * r .0) rs)
+unfolding total kindsOf
 bits-of-rows [] = refl
-bits-of-rows (r ∷ rs) = omega (arith, bits-of-row (r .0) (r .1) (spread rs), bits-of-rows rs)
+bits-of-rows (r ∷ rs) = omega (arith, bits-of-row (r .0) (r .1) (kindsOf rs), bits-of-rows rs)
 
 -- how many fields a layout has, row by row
-pub length-of-rows : (rs : List (ℕ × Kind)) → length (spread rs) ≡ total (map (λ r. r .0) rs)
-unfolding total spread
+pub length-of-rows : (rs : List (ℕ × Kind)) → length (kindsOf rs) ≡ total (map (λ r. r .0) rs)
+unfolding total kindsOf
 length-of-rows [] = refl
-length-of-rows (r ∷ rs) = omega (arith, length-append (replicate (r .0) (r .1)) (spread rs), length-replicate (r .0) (r .1), length-of-rows rs)
+length-of-rows (r ∷ rs) = omega (arith, length-append (replicate (r .0) (r .1)) (kindsOf rs), length-replicate (r .0) (r .1), length-of-rows rs)
 
 -- the cells are half of (k + 1) (k + 2), and at most 136
 pub cells-twice : (k : ℕ) → 2 * cells k ≡ (k + 1) * (k + 2)
@@ -57,46 +57,46 @@ pub record Starts (k : ℕ) : Type 0 where
   pub indices : startOf k 3 ≡ 24 + 20 * k + 35 * cells k
   pub reporting : startOf k 4 ≡ 24 + 43 * k + 35 * cells k
   pub weight : startOf k 5 ≡ 44 + 63 * k + 35 * cells k
-  pub totals : startOf k 6 ≡ 64 + 63 * k + 35 * cells k
-  pub end : bits k ≡ startOf k 6 + 34 * (k + 1)
+  pub ulae : startOf k 6 ≡ 64 + 63 * k + 35 * cells k
+  pub end : bitCount k ≡ startOf k 6 + 34 * (k + 1)
 
 pub starts : (k : ℕ) → Starts k
-unfolding startOf bits widths layout total
+unfolding startOf bitCount widths layout total
 starts k = record {
   exposures = bits-of-rows (take 1 (layout k));
   increments = omega (arith, bits-of-rows (take 2 (layout k)));
   indices = omega (arith, bits-of-rows (take 3 (layout k)));
   reporting = omega (arith, bits-of-rows (take 4 (layout k)));
   weight = omega (arith, bits-of-rows (take 5 (layout k)));
-  totals = omega (arith, bits-of-rows (take 6 (layout k)));
+  ulae = omega (arith, bits-of-rows (take 6 (layout k)));
   end = omega (arith, bits-of-rows (take 6 (layout k)), bits-of-rows (layout k));
 }
 
 -- how many fields the record has
-pub fields-count : (k : ℕ) → fields k ≡ cells k + 4 * k + 5
-unfolding fields layout total
+pub fields-count : (k : ℕ) → fieldCount k ≡ cells k + 4 * k + 5
+unfolding fieldCount layout total
 fields-count k = omega (arith, length-of-rows (layout k))
 
 -- the bits are at most 6313
-pub bits-most : (k : ℕ) → k < 16 → bits k ≤ 6313
+pub bits-most : (k : ℕ) → k < 16 → bitCount k ≤ 6313
 bits-most k h =
     let s = starts k in
     omega (arith, cells-most k h)
 
 -- the bits and the filling bits, of which there are fewer than 8, are those of the bytes
-pub bytes-room : (k : ℕ) → (bits k ≤ 8 * bytes k) × ((8 * bytes k ≡ bits k + filling k) × (filling k < 8))
-unfolding bytes filling
+pub bytes-room : (k : ℕ) → (bitCount k ≤ 8 * byteCount k) × ((8 * byteCount k ≡ bitCount k + fillingCount k) × (fillingCount k < 8))
+unfolding byteCount fillingCount
 bytes-room k = omega arith
 
 -- a record with k at least 1 has at least 38 bytes
-pub bytes-least : (k : ℕ) → 1 ≤ k → 38 ≤ bytes k
-unfolding bytes
+pub bytes-least : (k : ℕ) → 1 ≤ k → 38 ≤ byteCount k
+unfolding byteCount
 bytes-least k h =
     let m : 2 * 3 ≤ (k + 1) * (k + 2) = mul-le-mul {n₁ = 2} {m₁ = 3} (omega arith) (omega arith) in
     let s = starts k in
     omega (arith, cells-twice k)
 
 -- k of a record is at most 15
-pub years-lt : (s : List ℕ) → Fit 8 s → yearsOf s < 16
-unfolding yearsOf
+pub years-lt : (s : List ℕ) → Fit 8 s → lastYearOf s < 16
+unfolding lastYearOf
 years-lt s h = omega (arith, h 0)

@@ -3,12 +3,12 @@ use Prim.Native.Nat.{ℕ}
 use mathlib.Core.List.{map}
 use lib.ListN.{take}
 use Rattle.rules.specs.Lists.{total}
-use Rattle.rules.specs.Record.{bitsOf, layout, spread, cells, bits}
+use Rattle.rules.specs.Record.{bitsOf, layout, kindsOf, cells, bitCount}
 use Rattle.layout.specs.declared.Places.{Places}
 
 -- the bit place at which row i of the layout starts
 unfoldable pub startOf : ℕ → ℕ → ℕ
-startOf k i = total (map bitsOf (spread (take i (layout k))))
+startOf k i = total (map bitsOf (kindsOf (take i (layout k))))
 
 unfoldable pub placesOf : ℕ → Places
 placesOf k = record {
@@ -17,6 +17,6 @@ placesOf k = record {
   indices = startOf k 3;
   reporting = startOf k 4;
   weight = startOf k 5;
-  totals = startOf k 6;
-  end = bits k;
+  ulae = startOf k 6;
+  end = bitCount k;
 }

@@ -3,7 +3,7 @@ ghost use mathlib.Core.Path.{_≡_};
 ghost use Prim.Native.Nat.{ℕ, _+_, _<_, _≤_};
 ghost use lib.ListN.{length, getD, take};
 ghost use Rattle.rules.specs.Lists.{total, every, between};
-ghost use Rattle.rules.specs.Record.{cells, bytes, fields};
+ghost use Rattle.rules.specs.Record.{cells, byteCount, fieldCount};
 ghost use Rattle.layout.specs.Places.{placesOf};
 
 // How many cells the triangle has, the bit places at which the increments and the rows after them start, and where the fields end.
@@ -13,7 +13,7 @@ pub struct Places {
     pub indices: usize,
     pub reporting: usize,
     pub weight: usize,
-    pub totals: usize,
+    pub ulae: usize,
     pub end: usize,
 }
 
@@ -33,15 +33,15 @@ pub fn places_of(k: usize) -> Places
     let indices = increments + 35 * cells;
     let reporting = indices + 23 * k;
     let weight = reporting + 20 * (k + 1);
-    let totals = weight + 20;
-    let end = totals + 34 * (k + 1);
+    let ulae = weight + 20;
+    let end = ulae + 34 * (k + 1);
     Places {
         cells,
         increments,
         indices,
         reporting,
         weight,
-        totals,
+        ulae,
         end,
     }
 }
@@ -49,7 +49,7 @@ pub fn places_of(k: usize) -> Places
 // How many bytes a record takes.
 pub fn bytes_of(k: usize) -> usize
     requires { ⌜ k < 16 ⌝ }
-    ensures { λ r. ⌜ (r ≡ bytes k) × (r ≤ 790) ⌝ }
+    ensures { λ r. ⌜ (r ≡ byteCount k) × (r ≤ 790) ⌝ }
 {
     (places_of(k).end + 7) / 8
 }
@@ -57,7 +57,7 @@ pub fn bytes_of(k: usize) -> usize
 // How many fields a record has.
 pub fn fields_of(k: usize) -> usize
     requires { ⌜ k < 16 ⌝ }
-    ensures { λ r. ⌜ (r ≡ fields k) × (r ≤ 201) ⌝ }
+    ensures { λ r. ⌜ (r ≡ fieldCount k) × (r ≤ 201) ⌝ }
 {
     cells_of(k) + 4 * k + 5
 }

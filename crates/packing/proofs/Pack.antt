@@ -14,7 +14,7 @@ use lib.Seq.{getD-at, length-take-le, take-suc}
 use Rattle.rules.specs.Packing.{pack, unpack, numberOf, bytesOf}
 use Rattle.rules.specs.Lists.{total, upTo}
 use Rattle.packing.specs.Field.{fieldAt, rowAt}
-use Rattle.packing.specs.Pending.{Fit}
+use Rattle.rules.specs.Packing.{Fit}
 
 -- the widths of two rows, one after the other
 pub total-append : (ws vs : List ℕ) → total (ws ++ vs) ≡ total ws + total vs

@@ -9,7 +9,7 @@ use lib.ListN.{length, getD}
 use lib.Pow.{shl-exact, shr-shr, mod-pow-add, mod-mod-pow, field}
 use Rattle.rules.specs.Packing.{numberOf, bytesOf}
 use Rattle.packing.specs.Field.{fieldAt, rowAt}
-use Rattle.packing.specs.Pending.{Fit}
+use Rattle.rules.specs.Packing.{Fit}
 use Rattle.packing.proofs.Pack.{bytes-number, rows-are, getD-upTo}
 
 -- `1 << n` of the code

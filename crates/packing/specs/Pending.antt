@@ -2,7 +2,7 @@
 use Prim.Native.Nat.{ℕ, _+_, _*_, _<_, _≤_, _^_}
 use mathlib.Core.Path.{_≡_}
 use mathlib.Core.List.{List}
-use lib.ListN.{length, getD, take}
+use lib.ListN.{length, take}
 use Rattle.rules.specs.Packing.{numberOf}
 use Rattle.packing.specs.declared.Pending.{Pending}
 
@@ -27,7 +27,3 @@ pub record Packed (s t : List ℕ) (p q : Pending) (w x : ℕ) : Type 0 where
   pub small : q .bits < 2 ^ q .count
   pub place : placeOf q ≡ placeOf p + w
   pub packed : packedSo t q ≡ packedSo s p * 2 ^ w + x
-
--- each of the numbers vs has at most w bits
-abbrev pub Fit : ℕ → List ℕ → Type 0
-Fit w vs = (i : ℕ) → getD vs i 0 < 2 ^ w

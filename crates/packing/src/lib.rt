@@ -4,7 +4,8 @@ ghost use Prim.Native.Nat.{_+_, _*_, _<_, _≤_, _%_, _^_, min};
 ghost use lib.ListN.{length, replicate};
 ghost use Rattle.rules.specs.Packing.{pack};
 ghost use Rattle.packing.specs.Field.{fieldAt, Within};
-ghost use Rattle.packing.specs.Pending.{Ready, Packed, Fit};
+ghost use Rattle.packing.specs.Pending.{Ready, Packed};
+ghost use Rattle.rules.specs.Packing.{Fit};
 
 // What is packed and not yet written: the bits that come before byte `at` ends, fewer than 8, as a number.
 pub struct Pending {

@@ -9,7 +9,7 @@ use mathlib.Core.List.{List, [], _∷_, _++_, map, append-nil, append-assoc}
 use lib.IntN.{ℤ, pos}
 use lib.ListN.{length, take, replicate, length-map}
 use lib.Seq.{take-at}
-use Rattle.rules.specs.Record.{layout, cells, years, increment, reporting, weight, valueOf, bitsInRange, inRange, negativeZero, yearsOf, fieldsOf, reportingIn, figuresOf}
+use Rattle.rules.specs.Record.{layout, cells, lastYear, increment, reporting, weight, valueOf, bitsInRange, inRange, negativeZero, lastYearOf, fieldsOf, reportingIn, figuresOf}
 use Rattle.rules.specs.Lists.{padded, every, between}
 use Rattle.rules.specs.Reading.{inRanges, sharesSum}
 use Rattle.packing.specs.Field.{fieldAt, rowAt}
@@ -50,13 +50,13 @@ row-list s w l m n {a} {b} e =
     rw (e, take-padded 16 n 0 (rowAt s b w n) (length-row s b w n)) (sym (values (record { signed = false; width = w; least = l; most = m }) refl (rowAt s b w n)))
 
 module _ (s : List ℕ) (h : Whole s) where
-  years-row : every (bitsInRange years) (rowAt s 0 4 1) ≡ true
+  years-row : every (bitsInRange lastYear) (rowAt s 0 4 1) ≡ true
   unfolding every
   years-row =
-      let k = yearsOf s in
+      let k = lastYearOf s in
       rw (one-row s 0 4, years-field s h, plain 4 1 15 k, le-leb 1 k (h .some), le-leb k 15 (omega (arith, h .few)))
 
-  weight-row : (b : ℕ) → startOf (yearsOf s) 5 ≡ b → between 0 1000000 (fieldAt s (startOf (yearsOf s) 5) 20) ≡ every (bitsInRange weight) (rowAt s b 20 1)
+  weight-row : (b : ℕ) → startOf (lastYearOf s) 5 ≡ b → between 0 1000000 (fieldAt s (startOf (lastYearOf s) 5) 20) ≡ every (bitsInRange weight) (rowAt s b 20 1)
   unfolding every
   weight-row b e = rw (e, one-row s b 20, plain 20 0 1000000 (fieldAt s b 20)) (sym (and-true (between 0 1000000 (fieldAt s b 20))))
 
@@ -64,10 +64,10 @@ module _ (s : List ℕ) (h : Whole s) where
   pub ranges-same : rangesOf (readingOf s) ≡ inRanges s
   unfolding rangesOf readingOf figuresOf layout
   ranges-same =
-      let k = yearsOf s in
+      let k = lastYearOf s in
       let at = starts k in
       let l = lists s h in
-      rw (ranges-are s h, years-row, l .exposures, l .codes, l .indices, l .reporting, l .weight, l .totals)
+      rw (ranges-are s h, years-row, l .exposures, l .codes, l .indices, l .reporting, l .weight, l .ulae)
       (ap₂ _&&_ (row-range s 20 1 1000000 (k + 1) refl)
       (ap₂ _&&_ (ap (every (bitsInRange increment)) (same-place s 35 (cells k) (omega arith)))
       (ap₂ _&&_ (row-range s 23 1 5000000 k (omega arith))
@@ -78,31 +78,31 @@ module _ (s : List ℕ) (h : Whole s) where
   pub sum-same : sumOf (figuresOf s) ≡ sharesSum s
   unfolding sumOf sharesSum figuresOf
   sum-same =
-      let n = yearsOf s + 1 in
-      rw (take-padded 16 n 0 (reportingIn (yearsOf s) (fieldsOf s)) (rw (lists s h .reporting) (length-row s (startOf (yearsOf s) 4) 20 n)))
+      let n = lastYearOf s + 1 in
+      rw (take-padded 16 n 0 (reportingIn (lastYearOf s) (fieldsOf s)) (rw (lists s h .reporting) (length-row s (startOf (lastYearOf s) 4) 20 n)))
 
-  years-list : map (valueOf years) (rowAt s 0 4 1) ≡ pos (yearsOf s) ∷ []
-  years-list = rw (values years refl (rowAt s 0 4 1), one-row s 0 4, years-field s h)
+  years-list : map (valueOf lastYear) (rowAt s 0 4 1) ≡ pos (lastYearOf s) ∷ []
+  years-list = rw (values lastYear refl (rowAt s 0 4 1), one-row s 0 4, years-field s h)
 
-  weight-list : {b : ℕ} → startOf (yearsOf s) 5 ≡ b → pos (fieldAt s (startOf (yearsOf s) 5) 20) ∷ [] ≡ map (valueOf weight) (rowAt s b 20 1)
+  weight-list : {b : ℕ} → startOf (lastYearOf s) 5 ≡ b → pos (fieldAt s (startOf (lastYearOf s) 5) 20) ∷ [] ≡ map (valueOf weight) (rowAt s b 20 1)
   weight-list {b} e = rw (e, values weight refl (rowAt s b 20 1), one-row s b 20)
 
-  cells-list : {b : ℕ} → startOf (yearsOf s) 2 ≡ b
-      → take (cells (yearsOf s)) (padded 136 (pos 0) (map (valueOf increment) (rowAt s (startOf (yearsOf s) 2) 35 (cells (yearsOf s)))))
-      ≡ map (valueOf increment) (rowAt s b 35 (cells (yearsOf s)))
+  cells-list : {b : ℕ} → startOf (lastYearOf s) 2 ≡ b
+      → take (cells (lastYearOf s)) (padded 136 (pos 0) (map (valueOf increment) (rowAt s (startOf (lastYearOf s) 2) 35 (cells (lastYearOf s)))))
+      ≡ map (valueOf increment) (rowAt s b 35 (cells (lastYearOf s)))
   cells-list {b} e =
-      let row = rowAt s b 35 (cells (yearsOf s)) in
-      rw (e, take-padded 136 (cells (yearsOf s)) (pos 0) (map (valueOf increment) row) (length-map row (valueOf increment) ∙ length-row s b 35 (cells (yearsOf s))))
+      let row = rowAt s b 35 (cells (lastYearOf s)) in
+      rw (e, take-padded 136 (cells (lastYearOf s)) (pos 0) (map (valueOf increment) row) (length-map row (valueOf increment) ∙ length-row s b 35 (cells (lastYearOf s))))
 
   -- the list of what was read
   pub list-same : listOf (figuresOf s) ≡ fieldsOf s
   unfolding listOf triangleOf assumptionsOf figuresOf layout
   list-same =
-      let k = yearsOf s in
+      let k = lastYearOf s in
       let at = starts k in
       let l = lists s h in
       simp append-assoc
-      (rw (l .exposures, l .increments, l .indices, l .reporting, l .weight, l .totals, fields-are s h, years-list)
+      (rw (l .exposures, l .increments, l .indices, l .reporting, l .weight, l .ulae, fields-are s h, years-list)
       (ap (λ (xs : List ℤ). pos k ∷ xs)
       (ap₂ _++_ (row-list s 20 1 1000000 (k + 1) refl)
       (ap₂ _++_ (cells-list (omega arith))

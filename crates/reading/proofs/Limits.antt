@@ -28,7 +28,7 @@ listable r h e =
     let b = every (between 1 5000000) (take (f .k) (f .indices)) in
     let c = every (between 0 1000000) (take n (f .reporting)) in
     let d = between 0 1000000 (f .weight) in
-    let u = every (between 0 10000000000) (take n (f .totals)) in
+    let u = every (between 0 10000000000) (take n (f .ulae)) in
     let after-a = both-right a (r .sound && (b && (c && (d && u)))) e in
     let after-sound = both-right (r .sound) (b && (c && (d && u))) after-a in
     let after-b = both-right b (c && (d && u)) after-sound in
@@ -39,5 +39,5 @@ listable r h e =
       indices = both-left b (c && (d && u)) after-sound;
       reporting = both-left c (d && u) after-b;
       weight = both-left d u after-c;
-      totals = both-right d u after-c;
+      ulae = both-right d u after-c;
     }

@@ -6,7 +6,7 @@ use mathlib.Core.Bool.{Bool, false, cond}
 use mathlib.Core.List.{List, [], _∷_, map}
 use lib.IntN.{ℤ, pos, natAbs}
 use lib.ListN.{getD}
-use Rattle.rules.specs.Record.{Kind, layout, section, cells, increment, valueOf, yearsOf, codesOf, fieldsOf, exposuresIn, incrementsIn, indicesIn, reportingIn, weightIn, totalsIn, exposure, index, reporting, weight, expense, signedOf}
+use Rattle.rules.specs.Record.{Kind, layout, section, cells, increment, valueOf, lastYearOf, codesOf, fieldsOf, exposuresIn, incrementsIn, indicesIn, reportingIn, weightIn, ulaeIn, exposure, index, reporting, weight, ulae, signedOf}
 use Rattle.packing.specs.Field.{fieldAt, rowAt}
 use Rattle.rules.specs.Lists.{upTo}
 use Rattle.layout.specs.Places.{startOf}
@@ -42,17 +42,17 @@ pub record Lists (s : List ℕ) (k : ℕ) : Type 0 where
   pub indices : indicesIn k (fieldsOf s) ≡ rowAt s (startOf k 3) 23 k
   pub reporting : reportingIn k (fieldsOf s) ≡ rowAt s (startOf k 4) 20 (k + 1)
   pub weight : weightIn k (fieldsOf s) ≡ fieldAt s (startOf k 5) 20
-  pub totals : totalsIn k (fieldsOf s) ≡ rowAt s (startOf k 6) 34 (k + 1)
+  pub ulae : ulaeIn k (fieldsOf s) ≡ rowAt s (startOf k 6) 34 (k + 1)
 
 -- a row that starts at the same place
 pub same-place : (s : List ℕ) {a b : ℕ} (w n : ℕ) → a ≡ b → rowAt s a w n ≡ rowAt s b w n
 same-place s w n e = rw e
 
 module _ (s : List ℕ) (h : Whole s) where
-  pub lists : Lists s (yearsOf s)
-  unfolding layout exposuresIn incrementsIn indicesIn reportingIn weightIn totalsIn
+  pub lists : Lists s (lastYearOf s)
+  unfolding layout exposuresIn incrementsIn indicesIn reportingIn weightIn ulaeIn
   lists =
-      let k = yearsOf s in
+      let k = lastYearOf s in
       let at = starts k in
       record {
         exposures = rw (fields-row s h 1) (unsigned exposure refl (rowAt s 4 20 (k + 1)));
@@ -61,5 +61,5 @@ module _ (s : List ℕ) (h : Whole s) where
         indices = rw (fields-row s h 3) (unsigned index refl (rowAt s _ 23 k) ∙ same-place s 23 k (omega arith));
         reporting = rw (fields-row s h 4) (unsigned reporting refl (rowAt s _ 20 (k + 1)) ∙ same-place s 20 (k + 1) (omega arith));
         weight = rw (fields-row s h 5) (ap (λ (l : List ℕ). getD l 0 0) (unsigned weight refl (rowAt s _ 20 1) ∙ same-place s 20 1 (omega arith) ∙ one-row s (startOf k 5) 20));
-        totals = rw (fields-row s h 6) (unsigned expense refl (rowAt s _ 34 (k + 1)) ∙ same-place s 34 (k + 1) (omega arith));
+        ulae = rw (fields-row s h 6) (unsigned ulae refl (rowAt s _ 34 (k + 1)) ∙ same-place s 34 (k + 1) (omega arith));
       }

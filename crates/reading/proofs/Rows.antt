@@ -7,10 +7,10 @@ use mathlib.Core.Bool.{true}
 use mathlib.Core.List.{List, []}
 use lib.Dec.{eqb, leb}
 use lib.ListN.{length, getD}
-use Rattle.rules.specs.Record.{layout, section, widths, bits, bytes, filling, valueOf, bitsInRange, yearsOf, codesOf, fillingOf, fieldsOf}
-use Rattle.rules.specs.Reading.{hasYears, hasLength, inRanges}
+use Rattle.rules.specs.Record.{layout, section, widths, bitCount, byteCount, fillingCount, valueOf, bitsInRange, lastYearOf, codesOf, fillingOf, fieldsOf}
+use Rattle.rules.specs.Reading.{hasLastYear, hasLength, inRanges}
 use Rattle.packing.specs.Field.{fieldAt}
-use Rattle.packing.specs.Pending.{Fit}
+use Rattle.rules.specs.Packing.{Fit}
 use Rattle.packing.proofs.Pack.{field-lt}
 use Rattle.packing.proofs.Places.{field-append, field-byte}
 use Rattle.layout.proofs.Every.{both-left, both-right}
@@ -21,64 +21,64 @@ use Rattle.layout.proofs.Sizes.{bytes-room, bytes-least, years-lt}
 -- bytes that have passed questions 1 and 2
 pub record Whole (s : List ℕ) : Type 0 where
   pub small : Fit 8 s
-  pub some : 1 ≤ yearsOf s
-  pub few : yearsOf s < 16
-  pub long : length s ≡ bytes (yearsOf s)
+  pub some : 1 ≤ lastYearOf s
+  pub few : lastYearOf s < 16
+  pub long : length s ≡ byteCount (lastYearOf s)
 
 -- what a yes to question 1 tells
-pub years-known : (s : List ℕ) → hasYears s ≡ true → (1 ≤ length s) × (1 ≤ yearsOf s)
-unfolding hasYears
+pub years-known : (s : List ℕ) → hasLastYear s ≡ true → (1 ≤ length s) × (1 ≤ lastYearOf s)
+unfolding hasLastYear
 years-known s h =
     let a = leb 1 (length s) in
-    let b = leb 1 (yearsOf s) in
-    (leb-true 1 (length s) (both-left a b h), leb-true 1 (yearsOf s) (both-right a b h))
+    let b = leb 1 (lastYearOf s) in
+    (leb-true 1 (length s) (both-left a b h), leb-true 1 (lastYearOf s) (both-right a b h))
 
-pub whole : (s : List ℕ) → Fit 8 s → hasYears s ≡ true → hasLength s ≡ true → Whole s
+pub whole : (s : List ℕ) → Fit 8 s → hasLastYear s ≡ true → hasLength s ≡ true → Whole s
 unfolding hasLength
 whole s h a b = record {
   small = h;
   some = years-known s a .1;
   few = years-lt s h;
-  long = eqb-true (length s) (bytes (yearsOf s)) (both-left (eqb (length s) (bytes (yearsOf s))) (eqb (fillingOf s) 0) b);
+  long = eqb-true (length s) (byteCount (lastYearOf s)) (both-left (eqb (length s) (byteCount (lastYearOf s))) (eqb (fillingOf s) 0) b);
 }
 
 module _ (s : List ℕ) (h : Whole s) where
   -- the rows of the record
   abbrev pub rows : List (List ℕ)
-  rows = rowsFrom s 0 (layout (yearsOf s))
+  rows = rowsFrom s 0 (layout (lastYearOf s))
 
   pub codes-are : codesOf s ≡ join rows
-  unfolding codesOf widths bits
+  unfolding codesOf widths bitCount
   codes-are =
-      let room = bytes-room (yearsOf s) in
-      unpack-rows s (layout (yearsOf s)) 0 (filling (yearsOf s)) (omega (arith, h .long))
+      let room = bytes-room (lastYearOf s) in
+      unpack-rows s (layout (lastYearOf s)) 0 (fillingCount (lastYearOf s)) (omega (arith, h .long))
 
-  pub rows-are : Shaped (layout (yearsOf s)) rows
-  rows-are = rows-shaped s 0 (layout (yearsOf s))
+  pub rows-are : Shaped (layout (lastYearOf s)) rows
+  rows-are = rows-shaped s 0 (layout (lastYearOf s))
 
-  pub fields-are : fieldsOf s ≡ join (mapRows valueOf (layout (yearsOf s)) rows)
+  pub fields-are : fieldsOf s ≡ join (mapRows valueOf (layout (lastYearOf s)) rows)
   unfolding fieldsOf
-  fields-are = rw codes-are (zip-join valueOf (layout (yearsOf s)) rows rows-are)
+  fields-are = rw codes-are (zip-join valueOf (layout (lastYearOf s)) rows rows-are)
 
   -- row i of the codes and of the fields
-  pub codes-row : (i : ℕ) → section (layout (yearsOf s)) i (codesOf s) ≡ getD rows i []
-  codes-row i = rw codes-are (section-join (layout (yearsOf s)) rows rows-are i)
+  pub codes-row : (i : ℕ) → section (layout (lastYearOf s)) i (codesOf s) ≡ getD rows i []
+  codes-row i = rw codes-are (section-join (layout (lastYearOf s)) rows rows-are i)
 
-  pub fields-row : (i : ℕ) → section (layout (yearsOf s)) i (fieldsOf s) ≡ getD (mapRows valueOf (layout (yearsOf s)) rows) i []
+  pub fields-row : (i : ℕ) → section (layout (lastYearOf s)) i (fieldsOf s) ≡ getD (mapRows valueOf (layout (lastYearOf s)) rows) i []
   fields-row i =
       rw fields-are
-      (section-join (layout (yearsOf s)) (mapRows valueOf (layout (yearsOf s)) rows) (mapRows-shaped valueOf (layout (yearsOf s)) rows rows-are) i)
+      (section-join (layout (lastYearOf s)) (mapRows valueOf (layout (lastYearOf s)) rows) (mapRows-shaped valueOf (layout (lastYearOf s)) rows rows-are) i)
 
   -- question 4 row by row
-  pub ranges-are : inRanges s ≡ everyRow bitsInRange (layout (yearsOf s)) rows
+  pub ranges-are : inRanges s ≡ everyRow bitsInRange (layout (lastYearOf s)) rows
   unfolding inRanges
-  ranges-are = rw codes-are (every-join bitsInRange (layout (yearsOf s)) rows rows-are)
+  ranges-are = rw codes-are (every-join bitsInRange (layout (lastYearOf s)) rows rows-are)
 
   -- the first field is k
-  pub years-field : fieldAt s 0 4 ≡ yearsOf s
-  unfolding yearsOf
+  pub years-field : fieldAt s 0 4 ≡ lastYearOf s
+  unfolding lastYearOf
   years-field =
-      let room = bytes-least (yearsOf s) (h .some) in
+      let room = bytes-least (lastYearOf s) (h .some) in
       let long : 38 ≤ length s = omega (arith, h .long) in
       let byte = field-byte s 0 (h .small) (omega arith) in
       let parts = field-append s 0 4 4 (omega arith) in

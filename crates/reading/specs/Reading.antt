@@ -7,7 +7,7 @@ use lib.Dec.{eqb}
 use lib.IntN.{ℤ, pos}
 use lib.ListN.{length, take}
 use Rattle.rules.specs.Lists.{total, padded, every, between}
-use Rattle.rules.specs.Record.{million, layout, section, cells, increment, valueOf, bitsInRange, codesOf, yearsOf, figuresOf}
+use Rattle.rules.specs.Record.{million, layout, section, cells, increment, valueOf, bitsInRange, codesOf, lastYearOf, figuresOf}
 use Rattle.rules.specs.declared.Figures.{Figures}
 use Rattle.packing.specs.Field.{rowAt}
 use Rattle.reading.specs.declared.Increments.{Increments}
@@ -31,7 +31,7 @@ incrementsAt s at n = record {
 unfoldable pub readingOf : List ℕ → Reading
 readingOf s = record {
   figures = figuresOf s;
-  sound = every (bitsInRange increment) (section (layout (yearsOf s)) 2 (codesOf s));
+  sound = every (bitsInRange increment) (section (layout (lastYearOf s)) 2 (codesOf s));
 }
 
 -- question 4 of what was read
@@ -41,7 +41,7 @@ rangesOf r =
     && (r .sound
     && (every (between 1 5000000) (take (r .figures .k) (r .figures .indices))
     && (every (between 0 1000000) (take (r .figures .k + 1) (r .figures .reporting))
-    && (between 0 1000000 (r .figures .weight) && every (between 0 10000000000) (take (r .figures .k + 1) (r .figures .totals))))))
+    && (between 0 1000000 (r .figures .weight) && every (between 0 10000000000) (take (r .figures .k + 1) (r .figures .ulae))))))
 
 -- question 5 of what was read
 unfoldable pub sumOf : Figures → Bool
@@ -53,7 +53,7 @@ triangleOf f = pos (f .k) ∷ (map pos (take (f .k + 1) (f .exposures)) ++ take 
 
 unfoldable pub assumptionsOf : Figures → List ℤ
 assumptionsOf f =
-    map pos (take (f .k) (f .indices)) ++ (map pos (take (f .k + 1) (f .reporting)) ++ (pos (f .weight) ∷ map pos (take (f .k + 1) (f .totals))))
+    map pos (take (f .k) (f .indices)) ++ (map pos (take (f .k + 1) (f .reporting)) ++ (pos (f .weight) ∷ map pos (take (f .k + 1) (f .ulae))))
 
 unfoldable pub listOf : Figures → List ℤ
 listOf f = triangleOf f ++ assumptionsOf f
@@ -65,4 +65,4 @@ pub record Listable (f : Figures) : Type 0 where
   pub indices : every (between 1 5000000) (take (f .k) (f .indices)) ≡ true
   pub reporting : every (between 0 1000000) (take (f .k + 1) (f .reporting)) ≡ true
   pub weight : between 0 1000000 (f .weight) ≡ true
-  pub totals : every (between 0 10000000000) (take (f .k + 1) (f .totals)) ≡ true
+  pub ulae : every (between 0 10000000000) (take (f .k + 1) (f .ulae)) ≡ true

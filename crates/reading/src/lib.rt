@@ -21,9 +21,9 @@ ghost use lib.Dec.{eqb};
 ghost use lib.ListN.{length, take};
 ghost use lib.Seq.{sets};
 ghost use Rattle.rules.specs.Packing.{numberOf};
-ghost use Rattle.rules.specs.Record.{yearsOf, increment, valueOf, bitsInRange, fields, cells};
+ghost use Rattle.rules.specs.Record.{lastYearOf, increment, valueOf, bitsInRange, fieldCount, cells};
 ghost use Rattle.rules.specs.Lists.{padded, every, between};
-ghost use Rattle.rules.specs.Reading.{hasYears, hasLength, hasRoom, readAnswer, readInto};
+ghost use Rattle.rules.specs.Reading.{hasLastYear, hasLength, hasRoom, readAnswer, readInto};
 ghost use Rattle.packing.specs.Field.{rowAt};
 ghost use Rattle.reading.specs.Reading.{RowWithin, incrementsAt, readingOf, rangesOf, sumOf, triangleOf, assumptionsOf, listOf, Listable};
 
@@ -46,21 +46,21 @@ fn wide(x: u8) -> usize
 }
 
 // k, the first four bits.
-pub fn years_of(s: &[u8]) -> usize
+pub fn last_year_of(s: &[u8]) -> usize
     requires { ⌜ 1 ≤ length (now s) ⌝ }
-    ensures { λ r. ⌜ (r ≡ yearsOf (now (s .entry))) × (r < 16) ⌝ }
+    ensures { λ r. ⌜ (r ≡ lastYearOf (now (s .entry))) × (r < 16) ⌝ }
 {
     wide(s[0]) / 16
 }
 
 // Question 1.
-pub fn has_years(s: &[u8]) -> bool
-    ensures { λ r. ⌜ r ≡ hasYears (now (s .entry)) ⌝ }
+pub fn has_last_year(s: &[u8]) -> bool
+    ensures { λ r. ⌜ r ≡ hasLastYear (now (s .entry)) ⌝ }
 {
     if s.len() < 1 {
         return false;
     }
-    1 <= years_of(s)
+    1 <= last_year_of(s)
 }
 
 // Whether every bit from place `end` on is zero.
@@ -77,10 +77,10 @@ fn zero_from(s: &[u8], end: usize) -> bool
 
 // Question 2.
 pub fn has_length(s: &[u8]) -> bool
-    requires { ⌜ hasYears (now s) ≡ true ⌝ }
+    requires { ⌜ hasLastYear (now s) ≡ true ⌝ }
     ensures { λ r. ⌜ r ≡ hasLength (now (s .entry)) ⌝ }
 {
-    let end = places_of(years_of(s)).end;
+    let end = places_of(last_year_of(s)).end;
     if s.len() != (end + 7) / 8 {
         return false;
     }
@@ -92,7 +92,7 @@ fn has_room(s: &[u8], m: usize) -> bool
     requires { ⌜ 1 ≤ length (now s) ⌝ }
     ensures { λ r. ⌜ r ≡ hasRoom (now (s .entry)) m ⌝ }
 {
-    fields_of(years_of(s)) <= m
+    fields_of(last_year_of(s)) <= m
 }
 
 // n fields of w bits from bit place `at` on.
@@ -156,17 +156,17 @@ fn read_increments(s: &[u8], at: usize, n: usize) -> Increments
 
 // The figures of a record that has passed questions 1 and 2.
 pub fn read(s: &[u8]) -> Reading
-    requires { ⌜ (hasYears (now s) ≡ true) × (hasLength (now s) ≡ true) ⌝ }
+    requires { ⌜ (hasLastYear (now s) ≡ true) × (hasLength (now s) ≡ true) ⌝ }
     ensures { λ r. ⌜ r ≡ readingOf (now (s .entry)) ⌝ }
 {
-    let k = years_of(s);
+    let k = last_year_of(s);
     let at = places_of(k);
     let exposures = read_row(s, 4, 20, k + 1);
     let cells = read_increments(s, at.increments, at.cells);
     let indices = read_row(s, at.indices, 23, k);
     let reporting = read_row(s, at.reporting, 20, k + 1);
     let weight = field(s, at.weight, 20);
-    let totals = read_row(s, at.totals, 34, k + 1);
+    let ulae = read_row(s, at.ulae, 34, k + 1);
     let amounts = cells.amounts;
     let figures = Figures {
         k,
@@ -175,7 +175,7 @@ pub fn read(s: &[u8]) -> Reading
         indices,
         reporting,
         weight,
-        totals,
+        ulae,
     };
     Reading {
         figures,
@@ -193,11 +193,11 @@ pub fn in_ranges(r: Reading) -> bool
     let exposures = f.exposures;
     let indices = f.indices;
     let reporting = f.reporting;
-    let totals = f.totals;
+    let ulae = f.ulae;
     let first = within(&exposures, n, 1, MILLION);
     let third = within(&indices, f.k, 1, MOST_INDEX);
     let fourth = within(&reporting, n, 0, MILLION);
-    let last = within(&totals, n, 0, MOST_AMOUNT);
+    let last = within(&ulae, n, 0, MOST_AMOUNT);
     both(
         first,
         both(
@@ -218,7 +218,7 @@ pub fn shares_sum(f: Figures) -> bool
 
 // k, the exposures and the increments go into the list.
 fn put_triangle(f: Figures, list: &mut [i64]) -> usize
-    requires { ⌜ Listable f × (fields (f .k) ≤ length (now list)) ⌝ }
+    requires { ⌜ Listable f × (fieldCount (f .k) ≤ length (now list)) ⌝ }
     ensures { λ r. ⌜ (r ≡ f .k + 2 + cells (f .k)) × (now (list .exit) ≡ sets (now (list .entry)) 0 (triangleOf f)) ⌝ }
 {
     let k = f.k;
@@ -237,16 +237,16 @@ fn put_assumptions(f: Figures, list: &mut [i64], at: usize)
     let k = f.k;
     let indices = f.indices;
     let reporting = f.reporting;
-    let totals = f.totals;
+    let ulae = f.ulae;
     let a = put_naturals(list, at, &indices, k);
     let b = put_naturals(list, a, &reporting, k + 1);
     let c = put_natural(list, b, f.weight);
-    put_naturals(list, c, &totals, k + 1);
+    put_naturals(list, c, &ulae, k + 1);
 }
 
 // The fields go into the list in the record's order.
 fn put_fields(f: Figures, list: &mut [i64])
-    requires { ⌜ Listable f × (fields (f .k) ≤ length (now list)) ⌝ }
+    requires { ⌜ Listable f × (fieldCount (f .k) ≤ length (now list)) ⌝ }
     ensures { λ _. ⌜ now (list .exit) ≡ sets (now (list .entry)) 0 (listOf f) ⌝ }
 {
     let at = put_triangle(f, list);
@@ -259,7 +259,7 @@ fn put_fields(f: Figures, list: &mut [i64])
 pub extern "C" fn doonamurk_read(packed: &[u8], list: &mut [i64]) -> u64
     ensures { λ r. ⌜ (r ≡ readAnswer (now (packed .entry)) (length (now (list .entry)))) × (now (list .exit) ≡ readInto (now (packed .entry)) (now (list .entry))) ⌝ }
 {
-    if !has_years(packed) {
+    if !has_last_year(packed) {
         return 1;
     }
     if !has_length(packed) {

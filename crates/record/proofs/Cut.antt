@@ -9,7 +9,7 @@ use lib.IntN.{ℤ, pos, natAbs}
 use lib.ListN.{length, getD, take, drop, length-append, length-drop, length-map, length-replicate, take-append-drop}
 use lib.Seq.{length-take-le, getD-take}
 use Rattle.rules.specs.Lists.{total, every}
-use Rattle.rules.specs.Record.{Kind, million, layout, spread, section, fields, bytes, inRange, exposuresIn, incrementsIn, indicesIn, reportingIn, weightIn, totalsIn}
+use Rattle.rules.specs.Record.{Kind, million, layout, kindsOf, section, fieldCount, byteCount, inRange, exposuresIn, incrementsIn, indicesIn, reportingIn, weightIn, ulaeIn}
 use Rattle.rules.specs.Writing.{Given, given, givenFields}
 use Rattle.layout.proofs.Every.{both-left, both-right}
 use Rattle.layout.proofs.Sections.{join, Shaped, everyRow, length-join, section-join, every-join}
@@ -19,7 +19,7 @@ use Rattle.record.proofs.Fields.{RecordFields}
 
 -- the lists and the weight among the fields vs of a record of the years 0 to k
 abbrev pub cutBy : ℕ → List ℤ → Given
-cutBy k vs = given k (exposuresIn k vs) (incrementsIn k vs) (indicesIn k vs) (reportingIn k vs) (weightIn k vs) (totalsIn k vs)
+cutBy k vs = given k (exposuresIn k vs) (incrementsIn k vs) (indicesIn k vs) (reportingIn k vs) (weightIn k vs) (ulaeIn k vs)
 
 -- the same, with k the first of the fields
 abbrev pub cut : List ℤ → Given
@@ -32,23 +32,23 @@ sectionsOf (r ∷ rs) xs = take (r .0) xs ∷ sectionsOf rs (drop (r .0) xs)
 
 module _ {A : Type 0} where
   -- the first row has its length, and so have the others together
-  sections-fit : (r : ℕ × Kind) (rs : List (ℕ × Kind)) (xs : List A) → length xs ≡ length (spread (r ∷ rs))
-      → (length (take (r .0) xs) ≡ r .0) × (length (drop (r .0) xs) ≡ length (spread rs))
-  unfolding spread
+  sections-fit : (r : ℕ × Kind) (rs : List (ℕ × Kind)) (xs : List A) → length xs ≡ length (kindsOf (r ∷ rs))
+      → (length (take (r .0) xs) ≡ r .0) × (length (drop (r .0) xs) ≡ length (kindsOf rs))
+  unfolding kindsOf
   sections-fit r rs xs e =
-      let l : length xs ≡ r .0 + length (spread rs) = e ∙ rw (length-append, length-replicate) in
+      let l : length xs ≡ r .0 + length (kindsOf rs) = e ∙ rw (length-append, length-replicate) in
       (length-take-le (r .0) xs (omega arith), length-drop (r .0) xs ∙ omega arith)
 
   -- each row has its length
-  pub sections-shaped : (rs : List (ℕ × Kind)) (xs : List A) → length xs ≡ length (spread rs) → Shaped rs (sectionsOf rs xs)
+  pub sections-shaped : (rs : List (ℕ × Kind)) (xs : List A) → length xs ≡ length (kindsOf rs) → Shaped rs (sectionsOf rs xs)
   sections-shaped [] xs e = tt
   sections-shaped (r ∷ rs) xs e =
       let f = sections-fit r rs xs e in
       (f .0, sections-shaped rs (drop (r .0) xs) (f .1))
 
   -- one row after another they are the list
-  pub join-sections : (rs : List (ℕ × Kind)) (xs : List A) → length xs ≡ length (spread rs) → join (sectionsOf rs xs) ≡ xs
-  unfolding spread
+  pub join-sections : (rs : List (ℕ × Kind)) (xs : List A) → length xs ≡ length (kindsOf rs) → join (sectionsOf rs xs) ≡ xs
+  unfolding kindsOf
   join-sections [] [] e = refl
   join-sections [] (x ∷ xs) e = absurd (suc-ne-zero (length xs) e)
   join-sections (r ∷ rs) xs e = rw (join-sections rs (drop (r .0) xs) (sections-fit r rs xs e .1)) (take-append-drop (r .0) xs)
@@ -99,13 +99,13 @@ givenRows g =
     ∷ map pos (g .indices)
     ∷ map pos (g .reporting)
     ∷ (pos (g .weight) ∷ [])
-    ∷ map pos (g .totals)
+    ∷ map pos (g .ulae)
     ∷ []
 
 -- one row after another they are the fields
 pub join-given : (g : Given) → join (givenRows g) ≡ givenFields g
 unfolding givenFields
-join-given g = rw (append-nil (map pos (g .totals)))
+join-given g = rw (append-nil (map pos (g .ulae)))
 
 -- a list of one entry
 single : {A : Type 0} (xs : List A) (d : A) → length xs ≡ 1 → getD xs 0 d ∷ [] ≡ xs
@@ -116,12 +116,12 @@ single (x ∷ y ∷ xs) d e = absurd (omega arith)
 module _ (k : ℕ) (vs : List ℤ) (f : RecordFields k vs) where
   -- each row of the fields has its length
   cut-shaped : Shaped (layout k) (sectionsOf (layout k) vs)
-  unfolding fields
+  unfolding fieldCount
   cut-shaped = sections-shaped (layout k) vs (f .size)
 
   -- the rows of what is cut out are the rows of the fields
   cut-rows : givenRows (cutBy k vs) ≡ asGivenRows (layout k) (sectionsOf (layout k) vs)
-  unfolding layout section exposuresIn incrementsIn indicesIn reportingIn weightIn totalsIn
+  unfolding layout section exposuresIn incrementsIn indicesIn reportingIn weightIn ulaeIn
   cut-rows =
       let row5 = section (layout k) 5 vs in
       let years : take 1 vs ≡ pos k ∷ [] = sym (single (take 1 vs) (pos 0) (cut-shaped .0)) ∙ rw (getD-take 1 vs 0 (pos 0) (omega arith), f .first) in
@@ -129,7 +129,7 @@ module _ (k : ℕ) (vs : List ℤ) (f : RecordFields k vs) where
 
   -- what is cut out of the fields of a record has those fields
   pub given-cut : givenFields (cutBy k vs) ≡ vs
-  unfolding fields
+  unfolding fieldCount
   given-cut =
       let rows = sectionsOf (layout k) vs in
       let j = join-sections (layout k) vs (f .size) in
@@ -137,8 +137,8 @@ module _ (k : ℕ) (vs : List ℤ) (f : RecordFields k vs) where
       sym (join-given (cutBy k vs)) ∙ ap join (cut-rows ∙ as-given-rows (layout k) rows cut-shaped r) ∙ j
 
   -- and the writer takes it, if k is from 1 to 15 and the shares sum to M
-  pub cut-taken : (m : ℕ) → 1 ≤ k → k ≤ 15 → m ≡ bytes k → total (reportingIn k vs) ≡ million → Taken (cutBy k vs) m
-  unfolding layout section exposuresIn incrementsIn indicesIn reportingIn totalsIn
+  pub cut-taken : (m : ℕ) → 1 ≤ k → k ≤ 15 → m ≡ byteCount k → total (reportingIn k vs) ≡ million → Taken (cutBy k vs) m
+  unfolding layout section exposuresIn incrementsIn indicesIn reportingIn ulaeIn
   cut-taken m years most size sum =
       let s = cut-shaped in
       let row = section {A = ℤ} (layout k) in
@@ -150,7 +150,7 @@ module _ (k : ℕ) (vs : List ℤ) (f : RecordFields k vs) where
         increments = s .1 .1 .0;
         indices = length-map (row 3 vs) natAbs ∙ s .1 .1 .1 .0;
         reporting = length-map (row 4 vs) natAbs ∙ s .1 .1 .1 .1 .0;
-        totals = length-map (row 6 vs) natAbs ∙ s .1 .1 .1 .1 .1 .1 .0;
+        ulae = length-map (row 6 vs) natAbs ∙ s .1 .1 .1 .1 .1 .1 .0;
         ranges = rw given-cut (f .ranges);
         sum = sum;
       }
@@ -163,12 +163,12 @@ module _ (g : Given) (m : ℕ) (t : Taken g m) where
       let exposures = length-map (g .exposures) pos ∙ t .exposures in
       let indices = length-map (g .indices) pos ∙ t .indices in
       let reporting = length-map (g .reporting) pos ∙ t .reporting in
-      let totals = length-map (g .totals) pos ∙ t .totals in
-      (refl, (exposures, (t .increments, (indices, (reporting, (refl, (totals, tt)))))))
+      let ulae = length-map (g .ulae) pos ∙ t .ulae in
+      (refl, (exposures, (t .increments, (indices, (reporting, (refl, (ulae, tt)))))))
 
   -- what a writer takes are the fields of a record
   pub given-fields : RecordFields (g .k) (givenFields g)
-  unfolding fields givenFields
+  unfolding fieldCount givenFields
   given-fields = record {
     size = ap length (sym (join-given g)) ∙ length-join (layout (g .k)) (givenRows g) given-shaped;
     first = refl;

@@ -7,7 +7,7 @@ use mathlib.Core.List.{List, [], _∷_, _++_, map, zipWith}
 use lib.Dec.{lit<}
 use lib.IntN.{ℤ, pos}
 use lib.ListN.{length, getD, replicate}
-use Rattle.rules.specs.Record.{Kind, bitsOf, layout, spread, fields, valueOf, codeOf, inRange, bitsInRange, everyField}
+use Rattle.rules.specs.Record.{Kind, bitsOf, layout, kindsOf, fieldCount, valueOf, codeOf, inRange, bitsInRange, everyField}
 use Rattle.packing.proofs.Pack.{Fits}
 use Rattle.layout.proofs.Every.{both-left, both-right}
 use Rattle.record.proofs.Field.{Wide, coded, valued}
@@ -22,12 +22,12 @@ wide-row : (n : ℕ) (κ : Kind) (κs : List Kind) → Wide κ → AllWide κs �
 wide-row zero κ κs h hs = hs
 wide-row (suc n) κ κs h hs = (h, wide-row n κ κs h hs)
 
-spread-wide : (rs : List (ℕ × Kind)) → AllWide (map (λ r. r .1) rs) → AllWide (spread rs)
-unfolding spread
+spread-wide : (rs : List (ℕ × Kind)) → AllWide (map (λ r. r .1) rs) → AllWide (kindsOf rs)
+unfolding kindsOf
 spread-wide [] h = tt
-spread-wide (r ∷ rs) h = wide-row (r .0) (r .1) (spread rs) (h .0) (spread-wide rs (h .1))
+spread-wide (r ∷ rs) h = wide-row (r .0) (r .1) (kindsOf rs) (h .0) (spread-wide rs (h .1))
 
-layout-wide : (k : ℕ) → AllWide (spread (layout k))
+layout-wide : (k : ℕ) → AllWide (kindsOf (layout k))
 unfolding layout
 layout-wide k = spread-wide (layout k) (lit< tt, (lit< tt, (lit< tt, (lit< tt, (lit< tt, (lit< tt, (lit< tt, tt)))))))
 
@@ -63,11 +63,11 @@ all-valued (κ ∷ κs) (x ∷ xs) (Fits.more l f) h =
 
 -- vs are the fields of a record of the years 0 to k: as many as it has, the first is k, and each is in its range
 pub record RecordFields (k : ℕ) (vs : List ℤ) : Type 0 where
-  pub size : length vs ≡ fields k
+  pub size : length vs ≡ fieldCount k
   pub first : getD vs 0 (pos 0) ≡ pos k
-  pub ranges : everyField inRange (spread (layout k)) vs ≡ true
+  pub ranges : everyField inRange (kindsOf (layout k)) vs ≡ true
 
 -- their bits
-pub fields-coded : (k : ℕ) (vs : List ℤ) → RecordFields k vs → AllCoded (spread (layout k)) vs
-unfolding fields
-fields-coded k vs f = all-coded (spread (layout k)) vs (layout-wide k) (f .size) (f .ranges)
+pub fields-coded : (k : ℕ) (vs : List ℤ) → RecordFields k vs → AllCoded (kindsOf (layout k)) vs
+unfolding fieldCount
+fields-coded k vs f = all-coded (kindsOf (layout k)) vs (layout-wide k) (f .size) (f .ranges)

@@ -8,10 +8,10 @@ use lib.IntN.{ℤ, natAbs}
 use lib.ListN.{length, take}
 use lib.Seq.{sets, sets-eq, take-at}
 use Rattle.rules.specs.Questions.{afterCall}
-use Rattle.rules.specs.Record.{fields, yearsOf, fieldsOf, recordOf}
+use Rattle.rules.specs.Record.{fieldCount, lastYearOf, fieldsOf, recordOf}
 use Rattle.rules.specs.Reading.{readAnswer, readInto}
 use Rattle.rules.specs.Writing.{Given, givenFields, writeAnswer, writeInto}
-use Rattle.packing.specs.Pending.{Fit}
+use Rattle.rules.specs.Packing.{Fit}
 use Rattle.layout.proofs.Sizes.{years-lt}
 use Rattle.record.proofs.Answers.{Accepted, Taken, reader-yes, yes-reader, writer-yes, yes-writer}
 use Rattle.record.proofs.Cut.{cut, cutBy, given-cut, cut-taken, given-fields, given-reporting}
@@ -19,23 +19,23 @@ use Rattle.record.proofs.Fields.{RecordFields}
 use Rattle.record.proofs.Number.{record-made, record-read}
 
 -- the fields of an accepted record are a record's, and make it again
-accepted-read : (s : List ℕ) (m : ℕ) → Fit 8 s → Accepted s m → RecordFields (yearsOf s) (fieldsOf s) × (recordOf (yearsOf s) (fieldsOf s) ≡ s)
+accepted-read : (s : List ℕ) (m : ℕ) → Fit 8 s → Accepted s m → RecordFields (lastYearOf s) (fieldsOf s) × (recordOf (lastYearOf s) (fieldsOf s) ≡ s)
 accepted-read s m h a = record-read s h (a .size) (a .filled) (a .ranges)
 
 -- what is cut out of the lent list after a reading is cut out of the fields
-cut-read : (s : List ℕ) (out : List ℤ) → RecordFields (yearsOf s) (fieldsOf s) → readAnswer s (length out) ≡ 0 → fields (yearsOf s) ≤ length out
-    → cut (take (fields (yearsOf s)) (readInto s out)) ≡ cutBy (yearsOf s) (fieldsOf s)
+cut-read : (s : List ℕ) (out : List ℤ) → RecordFields (lastYearOf s) (fieldsOf s) → readAnswer s (length out) ≡ 0 → fieldCount (lastYearOf s) ≤ length out
+    → cut (take (fieldCount (lastYearOf s)) (readInto s out)) ≡ cutBy (lastYearOf s) (fieldsOf s)
 unfolding readInto afterCall
 cut-read s out f r room =
-    let e : take (fields (yearsOf s)) (readInto s out) ≡ fieldsOf s = rw (r, sets-eq (fieldsOf s) out 0 (omega arith)) (take-at (fieldsOf s) _ _ (f .size)) in
+    let e : take (fieldCount (lastYearOf s)) (readInto s out) ≡ fieldsOf s = rw (r, sets-eq (fieldsOf s) out 0 (omega arith)) (take-at (fieldsOf s) _ _ (f .size)) in
     ap cut e ∙ ap (λ (z : ℤ). cutBy (natAbs z) (fieldsOf s)) (f .first)
 
 -- the writer makes an accepted record again from what is cut out of its fields
 cut-written : (s : List ℕ) (m : ℕ) (buffer : List ℕ) → Fit 8 s → Accepted s m → length buffer ≡ length s
-    → (writeAnswer (cutBy (yearsOf s) (fieldsOf s)) (length buffer) ≡ 0) × (writeInto (cutBy (yearsOf s) (fieldsOf s)) buffer ≡ s)
+    → (writeAnswer (cutBy (lastYearOf s) (fieldsOf s)) (length buffer) ≡ 0) × (writeInto (cutBy (lastYearOf s) (fieldsOf s)) buffer ≡ s)
 unfolding writeInto afterCall
 cut-written s m buffer h a e =
-    let k = yearsOf s in
+    let k = lastYearOf s in
     let vs = fieldsOf s in
     let f = accepted-read s m h a in
     let t = cut-taken k vs (f .0) (length buffer) (a .years) (omega (arith, years-lt s h)) (e ∙ a .size) (a .sum) in
@@ -44,7 +44,7 @@ cut-written s m buffer h a e =
 
 -- whatever the reader accepts, the writer makes again byte for byte
 pub written-again : (s : List ℕ) (out : List ℤ) (buffer : List ℕ) → Fit 8 s → readAnswer s (length out) ≡ 0 → length buffer ≡ length s
-    → let vs = take (fields (yearsOf s)) (readInto s out) in
+    → let vs = take (fieldCount (lastYearOf s)) (readInto s out) in
     (writeAnswer (cut vs) (length buffer) ≡ 0) × (writeInto (cut vs) buffer ≡ s)
 written-again s out buffer h r e =
     let a = reader-yes s (length out) r in
@@ -52,7 +52,7 @@ written-again s out buffer h r e =
     subst⁻¹ (λ (g : Given). (writeAnswer g (length buffer) ≡ 0) × (writeInto g buffer ≡ s)) c (cut-written s (length out) buffer h a e)
 
 -- the reader accepts the record of what a writer takes
-made-accepted : (g : Given) (m n : ℕ) → Taken g m → fields (g .k) ≤ n → Accepted (recordOf (g .k) (givenFields g)) n
+made-accepted : (g : Given) (m n : ℕ) → Taken g m → fieldCount (g .k) ≤ n → Accepted (recordOf (g .k) (givenFields g)) n
 made-accepted g m n t room =
     let h = record-made (g .k) (givenFields g) (given-fields g m t) in
     record {
@@ -65,7 +65,7 @@ made-accepted g m n t room =
     }
 
 -- whatever the writer accepts, the reader gives back
-pub read-back : (g : Given) (buffer : List ℕ) (out : List ℤ) → writeAnswer g (length buffer) ≡ 0 → fields (g .k) ≤ length out
+pub read-back : (g : Given) (buffer : List ℕ) (out : List ℤ) → writeAnswer g (length buffer) ≡ 0 → fieldCount (g .k) ≤ length out
     → (readAnswer (writeInto g buffer) (length out) ≡ 0) × (readInto (writeInto g buffer) out ≡ sets out 0 (givenFields g))
 unfolding readInto writeInto afterCall
 read-back g buffer out w room =
@@ -78,5 +78,5 @@ pub same-record : (s t : List ℕ) (m n : ℕ) → Fit 8 s → Fit 8 t → readA
 same-record s t m n hs ht rs rt e =
     let a = accepted-read s m hs (reader-yes s m rs) in
     let b = accepted-read t n ht (reader-yes t n rt) in
-    let k : yearsOf s ≡ yearsOf t = cc in
+    let k : lastYearOf s ≡ lastYearOf t = cc in
     sym (a .1) ∙ ap₂ recordOf k e ∙ b .1

@@ -9,31 +9,31 @@ use lib.ListN.{length}
 use lib.Seq.{sets}
 use Rattle.rules.specs.Lists.{total}
 use Rattle.rules.specs.Questions.{firstNo, afterCall}
-use Rattle.rules.specs.Record.{million, spread, layout, fields, bytes, everyField, bitsInRange, yearsOf, codesOf, fillingOf, fieldsOf, reportingIn}
+use Rattle.rules.specs.Record.{million, kindsOf, layout, fieldCount, byteCount, everyField, bitsInRange, lastYearOf, codesOf, fillingOf, fieldsOf, reportingIn}
 
 -- 1. Is there a first byte, and is k at least 1?
-unfoldable pub hasYears : List ℕ → Bool
-hasYears s = leb 1 (length s) && leb 1 (yearsOf s)
+unfoldable pub hasLastYear : List ℕ → Bool
+hasLastYear s = leb 1 (length s) && leb 1 (lastYearOf s)
 
 -- 2. Is the length just what k calls for, and every filling bit zero?
 unfoldable pub hasLength : List ℕ → Bool
-hasLength s = eqb (length s) (bytes (yearsOf s)) && eqb (fillingOf s) 0
+hasLength s = eqb (length s) (byteCount (lastYearOf s)) && eqb (fillingOf s) 0
 
 -- 3. Does the list, of m entries, hold the fields?
 unfoldable pub hasRoom : List ℕ → ℕ → Bool
-hasRoom s m = leb (fields (yearsOf s)) m
+hasRoom s m = leb (fieldCount (lastYearOf s)) m
 
 -- 4. Is every field in its range?
 unfoldable pub inRanges : List ℕ → Bool
-inRanges s = everyField bitsInRange (spread (layout (yearsOf s))) (codesOf s)
+inRanges s = everyField bitsInRange (kindsOf (layout (lastYearOf s))) (codesOf s)
 
 -- 5. Do the reporting shares sum to M?
 unfoldable pub sharesSum : List ℕ → Bool
-sharesSum s = eqb (total (reportingIn (yearsOf s) (fieldsOf s))) million
+sharesSum s = eqb (total (reportingIn (lastYearOf s) (fieldsOf s))) million
 
 -- the number that reading the record s into a list of m entries answers
 unfoldable pub readAnswer : List ℕ → ℕ → ℕ
-readAnswer s m = firstNo ((1, hasYears s) ∷ (2, hasLength s) ∷ (3, hasRoom s m) ∷ (4, inRanges s) ∷ (5, sharesSum s) ∷ [])
+readAnswer s m = firstNo ((1, hasLastYear s) ∷ (2, hasLength s) ∷ (3, hasRoom s m) ∷ (4, inRanges s) ∷ (5, sharesSum s) ∷ [])
 
 -- the lent list afterwards: the fields and then what it held, and unchanged on a refusal
 unfoldable pub readInto : List ℕ → List ℤ → List ℤ

@@ -21,8 +21,8 @@ pub record Kind : Type 0 where
   pub most : ℕ
 
 -- k, 4 bits, 1 to 15
-abbrev pub years : Kind
-years = record { signed = false; width = 4; least = 1; most = 15 }
+abbrev pub lastYear : Kind
+lastYear = record { signed = false; width = 4; least = 1; most = 15 }
 
 -- n_i, 20 bits, 1 to 1,000,000
 abbrev pub exposure : Kind
@@ -45,14 +45,14 @@ abbrev pub weight : Kind
 weight = record { signed = false; width = 20; least = 0; most = 1000000 }
 
 -- U_t, 34 bits, 0 to 10^10
-abbrev pub expense : Kind
-expense = record { signed = false; width = 34; least = 0; most = 10000000000 }
+abbrev pub ulae : Kind
+ulae = record { signed = false; width = 34; least = 0; most = 10000000000 }
 
 -- how many bits a field of this kind takes
 abbrev pub bitsOf : Kind → ℕ
 bitsOf κ = cond (κ .signed) (1 + κ .width) (κ .width)
 
--- how many cells the triangle of the years 0 to k has: row i has those with j from 0 to k − i
+-- how many cells the triangle of the years 0 to k has, row i those with j from 0 to k − i: a year more adds a row of one cell more
 unfoldable pub cells : ℕ → ℕ
 cells zero = 1
 cells (suc k) = cells k + suc (suc k)
@@ -60,12 +60,16 @@ cells (suc k) = cells k + suc (suc k)
 -- the fields in the record's order, a row for each kind: how many, and of which kind
 unfoldable pub layout : ℕ → List (ℕ × Kind)
 layout k =
-    (1, years) ∷ (k + 1, exposure) ∷ (cells k, increment) ∷ (k, index) ∷ (k + 1, reporting) ∷ (1, weight) ∷ (k + 1, expense) ∷ []
+    (1, lastYear) ∷ (k + 1, exposure) ∷ (cells k, increment) ∷ (k, index) ∷ (k + 1, reporting) ∷ (1, weight) ∷ (k + 1, ulae) ∷ []
+
+-- how many fields row i of the layout has
+abbrev pub countOf : ℕ → ℕ → ℕ
+countOf k i = getD (map (λ r. r .0) (layout k)) i 0
 
 -- the kind of each field of a layout, field by field
-unfoldable pub spread : List (ℕ × Kind) → List Kind
-spread [] = []
-spread (r ∷ rs) = replicate (r .0) (r .1) ++ spread rs
+unfoldable pub kindsOf : List (ℕ × Kind) → List Kind
+kindsOf [] = []
+kindsOf (r ∷ rs) = replicate (r .0) (r .1) ++ kindsOf rs
 
 -- of a list with an entry for each field of a layout, the entries of row i
 unfoldable pub section : {A : Type 0} → List (ℕ × Kind) → ℕ → List A → List A
@@ -73,33 +77,33 @@ section [] i xs = []
 section (r ∷ rs) zero xs = take (r .0) xs
 section (r ∷ rs) (suc i) xs = section rs i (drop (r .0) xs)
 
--- how many fields the record has, how many bits they take, how many bytes that is, and how many bits fill the last byte
-unfoldable pub fields : ℕ → ℕ
-fields k = length (spread (layout k))
+-- how many fields the record has, their widths, how many bits they take, how many bytes that is, and how many bits fill the last byte
+unfoldable pub fieldCount : ℕ → ℕ
+fieldCount k = length (kindsOf (layout k))
 
 unfoldable pub widths : ℕ → List ℕ
-widths k = map bitsOf (spread (layout k))
+widths k = map bitsOf (kindsOf (layout k))
 
-unfoldable pub bits : ℕ → ℕ
-bits k = total (widths k)
+unfoldable pub bitCount : ℕ → ℕ
+bitCount k = total (widths k)
 
-unfoldable pub bytes : ℕ → ℕ
-bytes k = (bits k + 7) / 8
+unfoldable pub byteCount : ℕ → ℕ
+byteCount k = (bitCount k + 7) / 8
 
-unfoldable pub filling : ℕ → ℕ
-filling k = 8 * bytes k - bits k
+unfoldable pub fillingCount : ℕ → ℕ
+fillingCount k = 8 * byteCount k - bitCount k
 
 -- the signed number with this sign bit, 1 for negative, and this size
 abbrev pub signedOf : ℕ → ℕ → ℤ
 signedOf zero n = pos n
 signedOf (suc b) n = negℤ (pos n)
 
--- the sign bit of a number: 1 for negative, 0 for zero
+-- the sign bit of a number: 1 for negative, 0 for zero and above
 abbrev pub signOf : ℤ → ℕ
 signOf (pos n) = 0
 signOf (negsuc n) = 1
 
--- the value of a field with these bits, and the bits of a field with this value
+-- the value of a field whose bits are the number x, and the number whose bits are those of a field with the value v: its code
 unfoldable pub valueOf : Kind → ℕ → ℤ
 valueOf κ x = cond (κ .signed) (signedOf (x / 2 ^ κ .width) (x % 2 ^ κ .width)) (pos x)
 
@@ -110,38 +114,38 @@ codeOf κ v = cond (κ .signed) (signOf v * 2 ^ κ .width + natAbs v) (natAbs v)
 unfoldable pub inRange : Kind → ℤ → Bool
 inRange κ v = (κ .signed || eqb (signOf v) 0) && (leb (κ .least) (natAbs v) && leb (natAbs v) (κ .most))
 
--- whether a field's bits are a zero with sign 1
+-- whether a code is a zero with sign 1
 unfoldable pub negativeZero : Kind → ℕ → Bool
 negativeZero κ x = κ .signed && eqb x (2 ^ κ .width)
 
--- whether a field's bits are in range: a zero with sign 1 is not
+-- whether a code is in range: a zero with sign 1 is not
 unfoldable pub bitsInRange : Kind → ℕ → Bool
 bitsInRange κ x = inRange κ (valueOf κ x) && not (negativeZero κ x)
 
--- whether each entry passes the test for the kind of its field
+-- whether every field has an entry that passes the test for its kind; entries past the last field are not asked
 unfoldable pub everyField : {A : Type 0} → (Kind → A → Bool) → List Kind → List A → Bool
 everyField ok [] xs = true
 everyField ok (κ ∷ κs) [] = false
 everyField ok (κ ∷ κs) (x ∷ xs) = ok κ x && everyField ok κs xs
 
 -- k, the first four bits of the record s
-unfoldable pub yearsOf : List ℕ → ℕ
-yearsOf s = getD s 0 0 / 16
+unfoldable pub lastYearOf : List ℕ → ℕ
+lastYearOf s = getD s 0 0 / 16
 
--- the bits of each field of the record s, and the filling bits after the last
+-- the code of each field of the record s, whose length is what k calls for, and the filling bits after the last field as a number
 unfoldable pub codesOf : List ℕ → List ℕ
-codesOf s = unpack (widths (yearsOf s)) (numberOf s / 2 ^ filling (yearsOf s))
+codesOf s = unpack (widths (lastYearOf s)) (numberOf s / 2 ^ fillingCount (lastYearOf s))
 
 unfoldable pub fillingOf : List ℕ → ℕ
-fillingOf s = numberOf s % 2 ^ filling (yearsOf s)
+fillingOf s = numberOf s % 2 ^ fillingCount (lastYearOf s)
 
 -- the value of each field of the record s, in the record's order
 unfoldable pub fieldsOf : List ℕ → List ℤ
-fieldsOf s = zipWith valueOf (spread (layout (yearsOf s))) (codesOf s)
+fieldsOf s = zipWith valueOf (kindsOf (layout (lastYearOf s))) (codesOf s)
 
 -- the record of the years 0 to k with the fields vs: their bits one after another, and zero bits to the byte end
 unfoldable pub recordOf : ℕ → List ℤ → List ℕ
-recordOf k vs = bytesOf (bytes k) (pack (widths k) (zipWith codeOf (spread (layout k)) vs) * 2 ^ filling k)
+recordOf k vs = bytesOf (byteCount k) (pack (widths k) (zipWith codeOf (kindsOf (layout k)) vs) * 2 ^ fillingCount k)
 
 -- the exposures n_0 to n_k, the increments P_ij by row, the indices e_1 to e_k, the reporting shares b_0 to b_k, the weight w and the ULAE
 -- totals U_0 to U_k among the fields vs of a record of the years 0 to k
@@ -160,17 +164,17 @@ reportingIn k vs = map natAbs (section (layout k) 4 vs)
 unfoldable pub weightIn : ℕ → List ℤ → ℕ
 weightIn k vs = getD (map natAbs (section (layout k) 5 vs)) 0 0
 
-unfoldable pub totalsIn : ℕ → List ℤ → List ℕ
-totalsIn k vs = map natAbs (section (layout k) 6 vs)
+unfoldable pub ulaeIn : ℕ → List ℤ → List ℕ
+ulaeIn k vs = map natAbs (section (layout k) 6 vs)
 
--- the figures of the record s, each list in its array
+-- the figures of the record s, each list in its array; 16 indices have room, for e_t is at place t − 1
 unfoldable pub figuresOf : List ℕ → Figures
 figuresOf s = record {
-  k = yearsOf s;
-  exposures = padded 16 0 (exposuresIn (yearsOf s) (fieldsOf s));
-  increments = padded 136 (pos 0) (incrementsIn (yearsOf s) (fieldsOf s));
-  indices = padded 16 0 (indicesIn (yearsOf s) (fieldsOf s));
-  reporting = padded 16 0 (reportingIn (yearsOf s) (fieldsOf s));
-  weight = weightIn (yearsOf s) (fieldsOf s);
-  totals = padded 16 0 (totalsIn (yearsOf s) (fieldsOf s));
+  k = lastYearOf s;
+  exposures = padded 16 0 (exposuresIn (lastYearOf s) (fieldsOf s));
+  increments = padded 136 (pos 0) (incrementsIn (lastYearOf s) (fieldsOf s));
+  indices = padded 16 0 (indicesIn (lastYearOf s) (fieldsOf s));
+  reporting = padded 16 0 (reportingIn (lastYearOf s) (fieldsOf s));
+  weight = weightIn (lastYearOf s) (fieldsOf s);
+  ulae = padded 16 0 (ulaeIn (lastYearOf s) (fieldsOf s));
 }

@@ -20,7 +20,7 @@ pub struct Figures {
     pub indices: [u64; 16],
     pub reporting: [u64; 16],
     pub weight: u64,
-    pub totals: [u64; 16],
+    pub ulae: [u64; 16],
 }
 
 // Shares and levels of the years 0 to k as one set of factors, zero past them. A share counts billionths, a level hundredths a claim.

@@ -6,27 +6,27 @@ use mathlib.Core.List.{List}
 use lib.ListN.{length}
 use Rattle.rules.specs.Questions.{firstNo, afterCall}
 use Rattle.rules.specs.Record.{recordOf}
-use Rattle.rules.specs.Writing.{Given, givenFields, givenYears, givenLengths, givenRanges, givenSum, writeAnswer, writeInto}
+use Rattle.rules.specs.Writing.{Given, givenFields, givenLastYear, givenLengths, givenRanges, givenSum, writeAnswer, writeInto}
 
 -- the number of the first question that says no, and 0 where each says yes
 module _ (g : Given) (m : ℕ) where
-  pub answer-1 : givenYears g ≡ false → writeAnswer g m ≡ 1
+  pub answer-1 : givenLastYear g ≡ false → writeAnswer g m ≡ 1
   unfolding writeAnswer firstNo
   answer-1 a = rw a
 
-  pub answer-2 : givenYears g ≡ true → givenLengths g m ≡ false → writeAnswer g m ≡ 2
+  pub answer-2 : givenLastYear g ≡ true → givenLengths g m ≡ false → writeAnswer g m ≡ 2
   unfolding writeAnswer firstNo
   answer-2 a b = rw (a, b)
 
-  pub answer-4 : givenYears g ≡ true → givenLengths g m ≡ true → givenRanges g ≡ false → writeAnswer g m ≡ 4
+  pub answer-4 : givenLastYear g ≡ true → givenLengths g m ≡ true → givenRanges g ≡ false → writeAnswer g m ≡ 4
   unfolding writeAnswer firstNo
   answer-4 a b c = rw (a, b, c)
 
-  pub answer-5 : givenYears g ≡ true → givenLengths g m ≡ true → givenRanges g ≡ true → givenSum g ≡ false → writeAnswer g m ≡ 5
+  pub answer-5 : givenLastYear g ≡ true → givenLengths g m ≡ true → givenRanges g ≡ true → givenSum g ≡ false → writeAnswer g m ≡ 5
   unfolding writeAnswer firstNo
   answer-5 a b c d = rw (a, b, c, d)
 
-  pub answer-0 : givenYears g ≡ true → givenLengths g m ≡ true → givenRanges g ≡ true → givenSum g ≡ true → writeAnswer g m ≡ 0
+  pub answer-0 : givenLastYear g ≡ true → givenLengths g m ≡ true → givenRanges g ≡ true → givenSum g ≡ true → writeAnswer g m ≡ 0
   unfolding writeAnswer firstNo
   answer-0 a b c d = rw (a, b, c, d)
 

@@ -9,10 +9,11 @@ use lib.ListN.{length, take, replicate}
 use lib.Seq.{take-length}
 use Rattle.rules.specs.Packing.{pack, numberOf}
 use Rattle.rules.specs.Lists.{total}
-use Rattle.rules.specs.Record.{Kind, bitsOf, spread, widths, layout, bits, bytes, filling, codeOf, recordOf}
+use Rattle.rules.specs.Record.{Kind, bitsOf, kindsOf, widths, layout, bitCount, byteCount, fillingCount, codeOf, recordOf}
 use Rattle.rules.specs.Writing.{Given, givenFields}
 use Rattle.packing.specs.declared.Pending.{Pending}
-use Rattle.packing.specs.Pending.{packedSo, placeOf, Ready, Packed, Fit}
+use Rattle.packing.specs.Pending.{packedSo, placeOf, Ready, Packed}
+use Rattle.rules.specs.Packing.{Fit}
 use Rattle.packing.proofs.Pack.{bytes-number}
 use Rattle.packing.proofs.Puts.{packed-none, packed-then, ready-then}
 use Rattle.layout.proofs.Sizes.{bytes-room, bits-most}
@@ -30,7 +31,7 @@ bitsRows n [] = n
 bitsRows n (r ∷ rs) = bitsRows (n + bitsOf (r .1) * r .0) rs
 
 bits-rows : (n : ℕ) (rs : List (ℕ × Kind)) → bitsRows n rs ≡ n + total (widthsOf rs)
-unfolding total spread
+unfolding total kindsOf
 bits-rows n [] = omega arith
 bits-rows n (r ∷ rs) = omega (arith, bits-rows (n + bitsOf (r .1) * r .0) rs, total-row r rs)
 
@@ -72,17 +73,17 @@ whole-number {s} {u} {r} {n} {x} f e =
 -- what the put of the filling bits asks
 pub record Fills (k : ℕ) (t : List ℕ) (q : Pending) : Type 0 where
   pub short : 8 * length t < 2 ^ 64
-  pub room : bits k ≤ 8 * length t
-  pub few : 8 * length t - bits k ≤ 56
-  pub ready : Ready t q (8 * length t - bits k)
+  pub room : bitCount k ≤ 8 * length t
+  pub few : 8 * length t - bitCount k ≤ 56
+  pub ready : Ready t q (8 * length t - bitCount k)
 
 module _ (g : Given) (s : List ℕ) (w : Writable g (length s)) where
   lengths : Lengths g (length s)
   lengths = lengths-are g (length s) (w .lengths)
 
   -- all rows have the record's bits
-  all-bits : bitsRows 0 (rowsOf g) ≡ bits (g .k)
-  unfolding bits widths
+  all-bits : bitsRows 0 (rowsOf g) ≡ bitCount (g .k)
+  unfolding bitCount widths
   all-bits =
       let e = ap (λ (rs : List (ℕ × Kind)). total (widthsOf rs)) (rows-layout g (length s) lengths) in
       omega (arith, bits-rows 0 (rowsOf g))
@@ -105,31 +106,31 @@ module _ (g : Given) (s : List ℕ) (w : Writable g (length s)) where
       (omega (arith, first-bits 0 (suc i) (rowsOf g), all-bits, lengths .buffer, bytes-room (g .k)))
 
   -- after all rows it has room for the filling bits
-  filling-bits : {t : List ℕ} {q : Pending} → FirstRows g 7 s t q → 8 * length t - bits (g .k) ≡ filling (g .k)
-  unfolding filling
+  filling-bits : {t : List ℕ} {q : Pending} → FirstRows g 7 s t q → 8 * length t - bitCount (g .k) ≡ fillingCount (g .k)
+  unfolding fillingCount
   filling-bits f = rw (f .long, lengths .buffer)
 
   pub fills : {t : List ℕ} {q : Pending} → FirstRows g 7 s t q → Fills (g .k) t q
   fills {t} f =
       let b = bytes-room (g .k) in
       let e = filling-bits f in
-      let l : length t ≡ bytes (g .k) = f .long ∙ lengths .buffer in
-      let r = ready-then (8 * length t - bits (g .k)) whole-room (f .packed) (f .long) (omega (arith, all-bits, f .long)) in
+      let l : length t ≡ byteCount (g .k) = f .long ∙ lengths .buffer in
+      let r = ready-then (8 * length t - bitCount (g .k)) whole-room (f .packed) (f .long) (omega (arith, all-bits, f .long)) in
       record { short = omega (arith, r .short); room = omega (arith, b); few = omega (arith, b); ready = r }
 
   -- the number packed is that of the record's fields
-  all-packed : packRows 0 (rowsOf g) (codesOf g) ≡ pack (widths (g .k)) (zipWith codeOf (spread (layout (g .k))) (givenFields g))
+  all-packed : packRows 0 (rowsOf g) (codesOf g) ≡ pack (widths (g .k)) (zipWith codeOf (kindsOf (layout (g .k))) (givenFields g))
   unfolding widths
   all-packed =
       rw (codes-join g (length s) lengths, ← rows-layout g (length s) lengths) (omega (arith, pack-rows 0 (rowsOf g) (codesOf g) (codes-shaped g)))
 
   -- with the filling bits the buffer holds the record
-  pub recorded : {t u : List ℕ} {q r : Pending} → FirstRows g 7 s t q → Packed t u q r (8 * length t - bits (g .k)) 0 → length u ≡ length t → Fit 8 u
+  pub recorded : {t u : List ℕ} {q r : Pending} → FirstRows g 7 s t q → Packed t u q r (8 * length t - bitCount (g .k)) 0 → length u ≡ length t → Fit 8 u
       → u ≡ recordOf (g .k) (givenFields g)
   unfolding recordOf
   recorded {t} {u} f h e fit =
-      let b : length u ≡ bytes (g .k) = omega (arith, f .long, lengths .buffer) in
-      let n : numberOf u ≡ packRows 0 (rowsOf g) (codesOf g) * 2 ^ (8 * length t - bits (g .k)) + 0 =
+      let b : length u ≡ byteCount (g .k) = omega (arith, f .long, lengths .buffer) in
+      let n : numberOf u ≡ packRows 0 (rowsOf g) (codesOf g) * 2 ^ (8 * length t - bitCount (g .k)) + 0 =
       whole-number (packed-then (f .packed) h) (omega (arith, all-bits, bytes-room (g .k), f .long, lengths .buffer)) in
       sym (bytes-number u fit)
-      ∙ rw (b, n, add-zero (packRows 0 (rowsOf g) (codesOf g) * 2 ^ (8 * length t - bits (g .k))), filling-bits f, all-packed)
+      ∙ rw (b, n, add-zero (packRows 0 (rowsOf g) (codesOf g) * 2 ^ (8 * length t - bitCount (g .k))), filling-bits f, all-packed)

@@ -8,8 +8,8 @@ use borrow.Author.Tests.{eqb-true, leb-true}
 use lib.Dec.{eqb, leb}
 use lib.IntN.{ℤ, pos}
 use lib.ListN.{length, length-map}
-use Rattle.rules.specs.Record.{Kind, years, exposure, increment, index, reporting, weight, expense, cells, layout, spread, bytes, codeOf, inRange}
-use Rattle.rules.specs.Writing.{Given, givenFields, givenYears, givenLengths, givenRanges}
+use Rattle.rules.specs.Record.{Kind, lastYear, exposure, increment, index, reporting, weight, ulae, cells, layout, kindsOf, byteCount, codeOf, inRange}
+use Rattle.rules.specs.Writing.{Given, givenFields, givenLastYear, givenLengths, givenRanges}
 use Rattle.rules.specs.Lists.{every, between}
 use Rattle.layout.proofs.Every.{both-left, both-right}
 use Rattle.layout.proofs.Sections.{join, Shaped, mapRows, zip-join, every-join}
@@ -24,7 +24,7 @@ valuesOf g =
     ∷ map pos (g .indices)
     ∷ map pos (g .reporting)
     ∷ (pos (g .weight) ∷ [])
-    ∷ map pos (g .totals)
+    ∷ map pos (g .ulae)
     ∷ []
 
 abbrev pub codesOf : Given → List (List ℕ)
@@ -35,25 +35,25 @@ codesOf g =
     ∷ g .indices
     ∷ g .reporting
     ∷ (g .weight ∷ [])
-    ∷ g .totals
+    ∷ g .ulae
     ∷ []
 
 -- how many fields each row has, and of which kind
 abbrev pub rowsOf : Given → List (ℕ × Kind)
 rowsOf g =
-    (1, years)
+    (1, lastYear)
     ∷ (length (g .exposures), exposure)
     ∷ (length (g .increments), increment)
     ∷ (length (g .indices), index)
     ∷ (length (g .reporting), reporting)
     ∷ (1, weight)
-    ∷ (length (g .totals), expense)
+    ∷ (length (g .ulae), ulae)
     ∷ []
 
 -- the fields are the values, one row after another
 fields-join : (g : Given) → givenFields g ≡ join (valuesOf g)
 unfolding givenFields
-fields-join g = rw (append-nil (map pos (g .totals)))
+fields-join g = rw (append-nil (map pos (g .ulae)))
 
 -- six tests that hold, each of them
 all-six : (a b c d e f : Bool) → a && (b && (c && (d && (e && f)))) ≡ true
@@ -72,40 +72,40 @@ all-six a b c d e f h =
     )
 
 -- what question 1 says
-pub few-years : (g : Given) → givenYears g ≡ true → g .k < 16
-unfolding givenYears
+pub few-years : (g : Given) → givenLastYear g ≡ true → g .k < 16
+unfolding givenLastYear
 few-years g h =
     let l = leb-true (g .k) 15 (both-right (leb 1 (g .k)) (leb (g .k) 15) h) in
     omega arith
 
 -- what question 2 says: the buffer has m bytes, and each list its length
 pub record Lengths (g : Given) (m : ℕ) : Type 0 where
-  pub buffer : m ≡ bytes (g .k)
+  pub buffer : m ≡ byteCount (g .k)
   pub exposures : length (g .exposures) ≡ g .k + 1
   pub increments : length (g .increments) ≡ cells (g .k)
   pub indices : length (g .indices) ≡ g .k
   pub reporting : length (g .reporting) ≡ g .k + 1
-  pub totals : length (g .totals) ≡ g .k + 1
+  pub ulae : length (g .ulae) ≡ g .k + 1
 
 pub lengths-are : (g : Given) (m : ℕ) → givenLengths g m ≡ true → Lengths g m
-unfolding givenLengths
+unfolding givenLengths layout
 lengths-are g m h =
     let (a, b, c, d, e, f) =
-    all-six (eqb m (bytes (g .k))) (eqb (length (g .exposures)) (g .k + 1)) (eqb (length (g .increments)) (cells (g .k)))
-    (eqb (length (g .indices)) (g .k)) (eqb (length (g .reporting)) (g .k + 1)) (eqb (length (g .totals)) (g .k + 1)) h in
+    all-six (eqb m (byteCount (g .k))) (eqb (length (g .exposures)) (g .k + 1)) (eqb (length (g .increments)) (cells (g .k)))
+    (eqb (length (g .indices)) (g .k)) (eqb (length (g .reporting)) (g .k + 1)) (eqb (length (g .ulae)) (g .k + 1)) h in
     record {
       buffer = eqb-true _ _ a;
       exposures = eqb-true _ _ b;
       increments = eqb-true _ _ c;
       indices = eqb-true _ _ d;
       reporting = eqb-true _ _ e;
-      totals = eqb-true _ _ f;
+      ulae = eqb-true _ _ f;
     }
 
 -- the rows' own lengths
 values-shaped : (g : Given) → Shaped (rowsOf g) (valuesOf g)
 values-shaped g =
-    (refl, (length-map (g .exposures) pos, (refl, (length-map (g .indices) pos, (length-map (g .reporting) pos, (refl, (length-map (g .totals) pos, tt)))))))
+    (refl, (length-map (g .exposures) pos, (refl, (length-map (g .indices) pos, (length-map (g .reporting) pos, (refl, (length-map (g .ulae) pos, tt)))))))
 
 pub codes-shaped : (g : Given) → Shaped (rowsOf g) (codesOf g)
 codes-shaped g = (refl, (refl, (length-map (g .increments) (codeOf increment), (refl, (refl, (refl, (refl, tt)))))))
@@ -130,36 +130,36 @@ codes-rows g =
       plain-codes exposure refl (g .exposures),
       plain-codes index refl (g .indices),
       plain-codes reporting refl (g .reporting),
-      plain-codes expense refl (g .totals),
+      plain-codes ulae refl (g .ulae),
     )
 
 module _ (g : Given) (m : ℕ) (l : Lengths g m) where
   -- the rows have the lengths that the layout gives
   pub rows-layout : rowsOf g ≡ layout (g .k)
   unfolding layout
-  rows-layout = rw (l .exposures, l .increments, l .indices, l .reporting, l .totals)
+  rows-layout = rw (l .exposures, l .increments, l .indices, l .reporting, l .ulae)
 
   -- the bits of the fields are those of the rows, one row after another
-  pub codes-join : zipWith codeOf (spread (layout (g .k))) (givenFields g) ≡ join (codesOf g)
+  pub codes-join : zipWith codeOf (kindsOf (layout (g .k))) (givenFields g) ≡ join (codesOf g)
   codes-join = rw (fields-join g, ← rows-layout, zip-join codeOf (rowsOf g) (valuesOf g) (values-shaped g)) (ap join (codes-rows g))
 
   -- question 4 row by row, where question 1 says yes
-  pub ranges-are : givenYears g ≡ true → givenRanges g ≡ rangesOf g
-  unfolding givenRanges rangesOf givenYears every
+  pub ranges-are : givenLastYear g ≡ true → givenRanges g ≡ rangesOf g
+  unfolding givenRanges rangesOf givenLastYear every
   ranges-are y =
       rw (
         fields-join g,
         ← rows-layout,
         every-join inRange (rowsOf g) (valuesOf g) (values-shaped g),
-        plain-range years refl (g .k ∷ []),
+        plain-range lastYear refl (g .k ∷ []),
         y,
         plain-range exposure refl (g .exposures),
         plain-range index refl (g .indices),
         plain-range reporting refl (g .reporting),
         plain-range weight refl (g .weight ∷ []),
-        plain-range expense refl (g .totals),
+        plain-range ulae refl (g .ulae),
         and-true (between 0 1000000 (g .weight)),
-        and-true (every (between 0 10000000000) (g .totals)),
+        and-true (every (between 0 10000000000) (g .ulae)),
       )
 
 -- what question 4 says, row by row
@@ -169,12 +169,12 @@ pub record Ranges (g : Given) : Type 0 where
   pub indices : every (between 1 5000000) (g .indices) ≡ true
   pub reporting : every (between 0 1000000) (g .reporting) ≡ true
   pub weight : every (between 0 1000000) (g .weight ∷ []) ≡ true
-  pub totals : every (between 0 10000000000) (g .totals) ≡ true
+  pub ulae : every (between 0 10000000000) (g .ulae) ≡ true
 
 pub ranges-hold : (g : Given) → rangesOf g ≡ true → Ranges g
 unfolding rangesOf every
 ranges-hold g h =
     let (a, b, c, d, e, f) =
     all-six (every (between 1 1000000) (g .exposures)) (every (inRange increment) (g .increments)) (every (between 1 5000000) (g .indices))
-    (every (between 0 1000000) (g .reporting)) (between 0 1000000 (g .weight)) (every (between 0 10000000000) (g .totals)) h in
-    record { exposures = a; increments = b; indices = c; reporting = d; weight = and-true (between 0 1000000 (g .weight)) ∙ e; totals = f }
+    (every (between 0 1000000) (g .reporting)) (between 0 1000000 (g .weight)) (every (between 0 10000000000) (g .ulae)) h in
+    record { exposures = a; increments = b; indices = c; reporting = d; weight = and-true (between 0 1000000 (g .weight)) ∙ e; ulae = f }

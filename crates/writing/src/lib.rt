@@ -7,6 +7,7 @@ use layout::within;
 use packing::Pending;
 use packing::put;
 use packing::put_row;
+use rules::ACCEPTED;
 use rules::MILLION;
 use rules::MOST_AMOUNT;
 use rules::MOST_INDEX;
@@ -18,14 +19,14 @@ ghost use Prim.Native.Nat.{_+_, _*_, _<_, _^_};
 ghost use lib.Dec.{eqb, leb};
 ghost use lib.ListN.{length, replicate};
 ghost use Rattle.rules.specs.Packing.{pack};
-ghost use Rattle.rules.specs.Record.{increment, inRange, codeOf, bytes, cells, recordOf};
+ghost use Rattle.rules.specs.Record.{increment, inRange, codeOf, byteCount, cells, recordOf};
 ghost use Rattle.rules.specs.Writing.{given, givenFields, writeAnswer, writeInto};
 ghost use Rattle.rules.specs.Lists.{every, between};
 ghost use Rattle.packing.specs.Pending.{Ready, Packed};
 ghost use Rattle.writing.specs.Writing.{Writable};
 
 // Question 1.
-fn given_years(k: u64) -> bool
+fn given_last_year(k: u64) -> bool
     ensures { λ r. ⌜ r ≡ leb 1 k && leb k 15 ⌝ }
 {
     if k < 1 {
@@ -42,11 +43,11 @@ fn given_lengths(
     increments: usize,
     indices: usize,
     reporting: usize,
-    totals: usize,
+    ulae: usize,
 ) -> bool
     requires { ⌜ k < 16 ⌝ }
-    ensures { λ r. ⌜ r ≡ eqb m (bytes k)
-        && (eqb exposures (k + 1) && (eqb increments (cells k) && (eqb indices k && (eqb reporting (k + 1) && eqb totals (k + 1))))) ⌝ }
+    ensures { λ r. ⌜ r ≡ eqb m (byteCount k)
+        && (eqb exposures (k + 1) && (eqb increments (cells k) && (eqb indices k && (eqb reporting (k + 1) && eqb ulae (k + 1))))) ⌝ }
 {
     if m != bytes_of(k) {
         return false;
@@ -63,7 +64,7 @@ fn given_lengths(
     if reporting != k + 1 {
         return false;
     }
-    totals == k + 1
+    ulae == k + 1
 }
 
 // Whether an increment is in its range.
@@ -96,13 +97,13 @@ fn given_ranges(
     indices: &[u64],
     reporting: &[u64],
     weight: u64,
-    totals: &[u64],
+    ulae: &[u64],
 ) -> bool
     ensures { λ r. ⌜ r ≡ every (between 1 1000000) (now (exposures .entry))
         && (every (inRange increment) (now (increments .entry))
         && (every (between 1 5000000) (now (indices .entry))
         && (every (between 0 1000000) (now (reporting .entry))
-        && (between 0 1000000 weight && every (between 0 10000000000) (now (totals .entry)))))) ⌝ }
+        && (between 0 1000000 weight && every (between 0 10000000000) (now (ulae .entry)))))) ⌝ }
 {
     if !within(exposures, exposures.len(), 1, MILLION) {
         return false;
@@ -119,7 +120,7 @@ fn given_ranges(
     if weight > MILLION {
         return false;
     }
-    within(totals, totals.len(), 0, MOST_AMOUNT)
+    within(ulae, ulae.len(), 0, MOST_AMOUNT)
 }
 
 // The bits of an increment: its sign bit and 34 bits of size.
@@ -150,23 +151,23 @@ fn put_increments(buffer: &mut [u8], p: Pending, ps: &[i64]) -> Pending
 }
 
 // The record goes into the buffer, field after field, and zero bits to the byte end.
-fn put_fields(
+fn put_record(
     k: u64,
     exposures: &[u64],
     increments: &[i64],
     indices: &[u64],
     reporting: &[u64],
     weight: u64,
-    totals: &[u64],
+    ulae: &[u64],
     buffer: &mut [u8],
 )
     requires { ⌜ Writable
-        (given k (now exposures) (now increments) (now indices) (now reporting) weight (now totals))
+        (given k (now exposures) (now increments) (now indices) (now reporting) weight (now ulae))
         (length (now buffer)) ⌝ }
     ensures { λ _. ⌜ now (buffer .exit)
         ≡ recordOf k
         (givenFields
-        (given k (now (exposures .entry)) (now (increments .entry)) (now (indices .entry)) (now (reporting .entry)) weight (now (totals .entry)))) ⌝ }
+        (given k (now (exposures .entry)) (now (increments .entry)) (now (indices .entry)) (now (reporting .entry)) weight (now (ulae .entry)))) ⌝ }
 {
     let none = Pending {
         at: 0,
@@ -179,13 +180,13 @@ fn put_fields(
     let d = put_row(buffer, c, 23, indices);
     let e = put_row(buffer, d, 20, reporting);
     let f = put(buffer, e, 20, weight);
-    let g = put_row(buffer, f, 34, totals);
+    let g = put_row(buffer, f, 34, ulae);
     let end = places_of(k as usize).end;
     put(buffer, g, 8 * buffer.len() - end, 0);
 }
 
 // Fills the buffer with the record of these fields and answers 0, or leaves it and answers the number of the first of questions 1, 2, 4
-// and 5 that says no.
+// and 5 that says no. Question 2 is asked of the buffer's length and of each list's.
 #[no_mangle]
 pub extern "C" fn doonamurk_write(
     k: u64,
@@ -194,19 +195,19 @@ pub extern "C" fn doonamurk_write(
     indices: &[u64],
     reporting: &[u64],
     weight: u64,
-    totals: &[u64],
+    ulae: &[u64],
     buffer: &mut [u8],
 ) -> u64
     ensures { λ r. ⌜ (r
         ≡ writeAnswer
-        (given k (now (exposures .entry)) (now (increments .entry)) (now (indices .entry)) (now (reporting .entry)) weight (now (totals .entry)))
+        (given k (now (exposures .entry)) (now (increments .entry)) (now (indices .entry)) (now (reporting .entry)) weight (now (ulae .entry)))
         (length (now (buffer .entry))))
         × (now (buffer .exit)
         ≡ writeInto
-        (given k (now (exposures .entry)) (now (increments .entry)) (now (indices .entry)) (now (reporting .entry)) weight (now (totals .entry)))
+        (given k (now (exposures .entry)) (now (increments .entry)) (now (indices .entry)) (now (reporting .entry)) weight (now (ulae .entry)))
         (now (buffer .entry))) ⌝ }
 {
-    if !given_years(k) {
+    if !given_last_year(k) {
         return 1;
     }
     if !given_lengths(
@@ -216,25 +217,25 @@ pub extern "C" fn doonamurk_write(
         increments.len(),
         indices.len(),
         reporting.len(),
-        totals.len(),
+        ulae.len(),
     ) {
         return 2;
     }
-    if !given_ranges(exposures, increments, indices, reporting, weight, totals) {
+    if !given_ranges(exposures, increments, indices, reporting, weight, ulae) {
         return 4;
     }
     if sum_of(reporting, reporting.len()) != MILLION {
         return 5;
     }
-    put_fields(
+    put_record(
         k,
         exposures,
         increments,
         indices,
         reporting,
         weight,
-        totals,
+        ulae,
         buffer,
     );
-    0
+    ACCEPTED
 }

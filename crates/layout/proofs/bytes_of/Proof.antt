@@ -2,7 +2,7 @@
 use mathlib.Core.Path.{ap}
 use native.Mathlib.Omega.{arith}
 use borrow.Author.Needs.{needs}
-use Rattle.rules.specs.Record.{bytes}
+use Rattle.rules.specs.Record.{byteCount}
 use Rattle.layout.specs.declared.Places.{Places}
 use Rattle.layout.specs.Places.{placesOf}
 use Rattle.layout.proofs.Sizes.{bits-most}
@@ -19,7 +19,7 @@ add-result c =
     omega (arith, bits-most k (c .before .before .pre), ap (λ (p : Places). p .end) (c .before .places-of .ensures))
 
 returns : tie.Need-returns
-unfolding placesOf bytes
+unfolding placesOf byteCount
 returns c =
     let k = c .before .before .args .k in
     omega (arith, bits-most k (c .before .before .pre), ap (λ (p : Places). p .end) (c .before .places-of .ensures))

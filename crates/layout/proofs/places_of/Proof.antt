@@ -3,7 +3,7 @@ use mathlib.Core.Path.{_≡_}
 use Prim.Native.Nat.{ℕ}
 use native.Mathlib.Omega.{arith}
 use borrow.Author.Needs.{needs}
-use Rattle.rules.specs.Record.{cells, bits}
+use Rattle.rules.specs.Record.{cells, bitCount}
 use Rattle.layout.specs.declared.Places.{Places}
 use Rattle.layout.specs.Places.{startOf, placesOf}
 use Rattle.layout.proofs.Sizes.{starts}
@@ -12,8 +12,8 @@ use Rattle.layout.proofs.places_of.Tie as tie
 
 -- numbers that are the places, one by one, make the places
 of-places : {n a b d e f g : ℕ} (k : ℕ)
-    → n ≡ cells k → a ≡ startOf k 2 → b ≡ startOf k 3 → d ≡ startOf k 4 → e ≡ startOf k 5 → f ≡ startOf k 6 → g ≡ bits k
-    → _≡_ {A = Places} (record { cells = n; increments = a; indices = b; reporting = d; weight = e; totals = f; end = g }) (placesOf k)
+    → n ≡ cells k → a ≡ startOf k 2 → b ≡ startOf k 3 → d ≡ startOf k 4 → e ≡ startOf k 5 → f ≡ startOf k 6 → g ≡ bitCount k
+    → _≡_ {A = Places} (record { cells = n; increments = a; indices = b; reporting = d; weight = e; ulae = f; end = g }) (placesOf k)
 unfolding placesOf
 of-places k p q r s t u v = rw (p, q, r, s, t, u, v)
 
@@ -47,8 +47,8 @@ mul-weight c = search needs
 add-weight-2 : tie.Need-add-weight-2
 add-weight-2 c = search needs
 
-add-totals : tie.Need-add-totals
-add-totals c = search needs
+add-ulae : tie.Need-add-ulae
+add-ulae c = search needs
 
 add-end : tie.Need-add-end
 add-end c = search needs
@@ -78,7 +78,7 @@ places-of-spec =
     add-weight
     mul-weight
     add-weight-2
-    add-totals
+    add-ulae
     add-end
     mul-end
     add-end-2

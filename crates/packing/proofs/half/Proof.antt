@@ -5,7 +5,7 @@ use Prim.Native.Nat.{ℕ, _+_, _*_, _≤_}
 use native.Mathlib.Omega.{arith}
 use lib.ListN.{length, getD}
 use Rattle.packing.specs.Field.{fieldAt}
-use Rattle.packing.specs.Pending.{Fit}
+use Rattle.rules.specs.Packing.{Fit}
 use Rattle.packing.proofs.Places.{field-byte, byte-more}
 use borrow.Author.Needs.{needs}
 use Rattle.packing.proofs.half.Statement.{statement}

@@ -10,8 +10,8 @@ use lib.IntN.{ℤ}
 use lib.ListN.{length}
 use lib.Seq.{sets}
 use Rattle.rules.specs.Questions.{firstNo, afterCall}
-use Rattle.rules.specs.Record.{yearsOf, fields, figuresOf}
-use Rattle.rules.specs.Reading.{hasYears, hasLength, hasRoom, inRanges, sharesSum, readAnswer, readInto}
+use Rattle.rules.specs.Record.{lastYearOf, fieldCount, figuresOf}
+use Rattle.rules.specs.Reading.{hasLastYear, hasLength, hasRoom, inRanges, sharesSum, readAnswer, readInto}
 use Rattle.reading.specs.Reading.{readingOf, rangesOf, sumOf, listOf, Listable}
 use Rattle.reading.specs.declared.Reading.{Reading}
 use Rattle.reading.proofs.Rows.{Whole, whole, years-known}
@@ -25,7 +25,7 @@ refused : (s : List ℕ) (out : List ℤ) (n : ℕ) → readAnswer s (length out
 unfolding readInto afterCall
 refused s out n e = (sym e, rw e)
 
-module _ (s : List ℕ) (out : List ℤ) (a : hasYears s ≡ true) (b : hasLength s ≡ true) (d : hasRoom s (length out) ≡ true) where
+module _ (s : List ℕ) (out : List ℤ) (a : hasLastYear s ≡ true) (b : hasLength s ≡ true) (d : hasRoom s (length out) ≡ true) where
   out-of-range : inRanges s ≡ false → readAnswer s (length out) ≡ 4
   unfolding readAnswer firstNo
   out-of-range e = rw (a, b, d, e)
@@ -39,8 +39,8 @@ module _ (s : List ℕ) (out : List ℤ) (a : hasYears s ≡ true) (b : hasLengt
   accepted e f = rw (a, b, d, e, f)
 
 -- what each test has shown where it was passed
-yes-1 : (c : tie.Else1) → hasYears (c .before .before .before .args .packed .now) ≡ true
-yes-1 c = sym (c .before .has-years .ensures) ∙ not-false (c .before .has-years .result) (c .if1 .left)
+yes-1 : (c : tie.Else1) → hasLastYear (c .before .before .before .args .packed .now) ≡ true
+yes-1 c = sym (c .before .has-last-year .ensures) ∙ not-false (c .before .has-last-year .result) (c .if1 .left)
 
 yes-2 : (c : tie.Else2) → hasLength (c .before .before .before .before .before .args .packed .now) ≡ true
 yes-2 c = sym (c .before .has-length .ensures) ∙ not-false (c .before .has-length .result) (c .if2 .left)
@@ -62,9 +62,9 @@ few : (c : tie.After-read) → c .read .result .figures .k < 16
 few c = years-read (c .before .before .before .before .before .before .before .before .args .packed .now) (c .read .result) (c .read .ensures) (passed (c .before .before .before))
 
 room : (c : tie.Else3) (r : Reading) → r ≡ readingOf (c .before .before .before .before .before .before .before .args .packed .now)
-    → fields (r .figures .k) ≤ length (c .before .before .before .before .before .before .before .args .list .now)
+    → fieldCount (r .figures .k) ≤ length (c .before .before .before .before .before .before .before .args .list .now)
 unfolding hasRoom readingOf figuresOf
-room c r e = rw e (leb-true (fields (yearsOf (c .before .before .before .before .before .before .before .args .packed .now))) (length (c .before .before .before .before .before .before .before .args .list .now)) (yes-3 c))
+room c r e = rw e (leb-true (fieldCount (lastYearOf (c .before .before .before .before .before .before .before .args .packed .now))) (length (c .before .before .before .before .before .before .before .args .list .now)) (yes-3 c))
 
 -- questions 4 and 5 of what was read are those of the record
 ranges-asked : (c : tie.After-in-ranges) → c .in-ranges .result ≡ inRanges (c .before .before .before .before .before .before .before .before .before .args .packed .now)
@@ -87,14 +87,14 @@ yes-4 c = not-false (c .before .in-ranges .result) (c .if4 .left)
 listed : (c : tie.Else4) → Listable (c .before .before .read .result .figures)
 listed c = listable (c .before .before .read .result) (few (c .before .before)) (sym (c .before .in-ranges .ensures) ∙ yes-4 c)
 
-has-years-requires : tie.Need-has-years-requires
-has-years-requires c κs = search needs
+has-last-year-requires : tie.Need-has-last-year-requires
+has-last-year-requires c κs = search needs
 
 returns : tie.Need-returns
 unfolding readAnswer firstNo
 returns c =
     refused (c .before .before .before .args .packed .now) (c .before .before .before .args .list .now) 0
-    (rw (sym (c .before .has-years .ensures) ∙ not-true (c .before .has-years .result) (c .if1 .taken)))
+    (rw (sym (c .before .has-last-year .ensures) ∙ not-true (c .before .has-last-year .result) (c .if1 .taken)))
 
 has-length-requires : tie.Need-has-length-requires
 has-length-requires c κs = yes-1 c
@@ -160,7 +160,7 @@ pub doonamurk-read-spec : {M : Type 1} → statement M
 doonamurk-read-spec =
     tie.close
     (tie.spec
-    has-years-requires
+    has-last-year-requires
     returns
     has-length-requires
     returns-2

@@ -4,15 +4,15 @@ use Rattle.rules.specs.Reading.{hasRoom}
 use Rattle.reading.proofs.has_room.Statement.{statement}
 use Rattle.reading.proofs.has_room.Tie as tie
 
-years-of-requires : tie.Need-years-of-requires
-years-of-requires c κs = search needs
+last-year-of-requires : tie.Need-last-year-of-requires
+last-year-of-requires c κs = search needs
 
 fields-of-requires : tie.Need-fields-of-requires
 fields-of-requires c κs = search needs
 
 returns : tie.Need-returns
 unfolding hasRoom
-returns c = rw (c .fields-of .ensures .0, c .before .years-of .ensures .0)
+returns c = rw (c .fields-of .ensures .0, c .before .last-year-of .ensures .0)
 
 pub has-room-spec : {M : Type 1} → statement M
-has-room-spec = tie.close (tie.spec years-of-requires fields-of-requires returns)
+has-room-spec = tie.close (tie.spec last-year-of-requires fields-of-requires returns)

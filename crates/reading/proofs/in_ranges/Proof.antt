@@ -56,7 +56,7 @@ slice-aggregate-within-4 c = search needs
 within-requires-4 : tie.Need-within-requires-4
 within-requires-4 c κs =
     let s = c .before .before .before .before .before .before .before .before .before .before .before .before .before in
-    let long : length (s .args .r .figures .totals) ≡ 16 = search needs in
+    let long : length (s .args .r .figures .ulae) ≡ 16 = search needs in
     omega arith
 
 -- src/lib.rt:199:56

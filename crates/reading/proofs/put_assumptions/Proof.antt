@@ -62,8 +62,8 @@ put-naturals-requires-3 : tie.Need-put-naturals-requires-3
 put-naturals-requires-3 c κs =
     let s = c .before .before .before .before .before .before .before .before .before .before .before .before .before .before .before .before in
     let f = s .args .f in
-    let long : length (f .totals) ≡ 16 = search needs in
-    (omega arith, (omega arith, λ i h. omega (arith, most 0 10000000000 (f .k + 1) (f .totals) i h (s .pre .0 .totals))))
+    let long : length (f .ulae) ≡ 16 = search needs in
+    (omega arith, (omega arith, λ i h. omega (arith, most 0 10000000000 (f .k + 1) (f .ulae) i h (s .pre .0 .ulae))))
 
 same-length : tie.Need-same-length
 same-length c = search needs
@@ -80,7 +80,7 @@ returns c =
     let two : length (f .reporting) ≡ 16 = search needs in
     let a = map pos (take (f .k) (f .indices)) in
     let b = map pos (take n (f .reporting)) in
-    let e = map pos (take n (f .totals)) in
+    let e = map pos (take n (f .ulae)) in
     let sa : length a ≡ f .k = length-naturals (f .k) (f .indices) (omega arith) in
     let sb : length b ≡ n = length-naturals n (f .reporting) (omega arith) in
     rw (

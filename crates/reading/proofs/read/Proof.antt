@@ -11,11 +11,11 @@ use Rattle.reading.proofs.read.Tie as tie
 passed : (c : tie.After-shared-slice-known) → Whole (c .before .args .s .now)
 passed c = whole (c .before .args .s .now) (λ i. omega (arith, c .shared-slice-known .given i)) (c .before .pre .0) (c .before .pre .1)
 
-places : (c : tie.After-places-of) → Found (c .before .before .before .args .s .now) (c .before .years-of .result) (c .places-of .result)
-places c = found (passed (c .before .before)) (c .before .years-of .result) (c .places-of .result) (c .before .years-of .ensures .0) (c .places-of .ensures)
+places : (c : tie.After-places-of) → Found (c .before .before .before .args .s .now) (c .before .last-year-of .result) (c .places-of .result)
+places c = found (passed (c .before .before)) (c .before .last-year-of .result) (c .places-of .result) (c .before .last-year-of .ensures .0) (c .places-of .ensures)
 
-years-of-requires : tie.Need-years-of-requires
-years-of-requires c κs = years-known (c .before .args .s .now) (c .before .pre .0) .0
+last-year-of-requires : tie.Need-last-year-of-requires
+last-year-of-requires c κs = years-known (c .before .args .s .now) (c .before .pre .0) .0
 
 places-of-requires : tie.Need-places-of-requires
 places-of-requires c κs = search needs
@@ -45,13 +45,13 @@ add-read-row-3 : tie.Need-add-read-row-3
 add-read-row-3 c = search needs
 
 read-row-requires-4 : tie.Need-read-row-requires-4
-read-row-requires-4 c κs = (places (c .before .before .before .before .before) .totals, omega arith)
+read-row-requires-4 c κs = (places (c .before .before .before .before .before) .ulae, omega arith)
 
 returns : tie.Need-returns
 returns c =
     let p = c .before .before .before .before .before .before .before in
-    made (passed (p .before .before)) (p .before .years-of .result) (p .places-of .result) (c .before .before .before .before .before .read-increments .result) (c .before .before .before .before .before .before .read-row .result)
-    (c .before .before .before .before .read-row2 .result) (c .before .before .before .read-row3 .result) (c .before .before .field .result) (c .before .read-row4 .result) (p .before .years-of .ensures .0)
+    made (passed (p .before .before)) (p .before .last-year-of .result) (p .places-of .result) (c .before .before .before .before .before .read-increments .result) (c .before .before .before .before .before .before .read-row .result)
+    (c .before .before .before .before .read-row2 .result) (c .before .before .before .read-row3 .result) (c .before .before .field .result) (c .before .read-row4 .result) (p .before .last-year-of .ensures .0)
     (p .places-of .ensures) (c .before .before .before .before .before .before .read-row .ensures) (c .before .before .before .before .before .read-increments .ensures) (c .before .before .before .before .read-row2 .ensures) (c .before .before .before .read-row3 .ensures)
     (c .before .before .field .ensures) (c .before .read-row4 .ensures)
 
@@ -59,7 +59,7 @@ pub read-spec : {M : Type 1} → statement M
 read-spec =
     tie.close
     (tie.spec
-    years-of-requires
+    last-year-of-requires
     places-of-requires
     add-read-row
     read-row-requires

@@ -9,7 +9,8 @@ use borrow.Author.Tests.{eq-eqb, ne-eqb, not-true, not-false}
 use lib.ListN.{length}
 use lib.Seq.{take-length}
 use Rattle.rules.specs.Lists.{total}
-use Rattle.rules.specs.Writing.{Given, given, givenYears, givenLengths, givenRanges, givenSum}
+use Rattle.rules.specs.Record.{layout}
+use Rattle.rules.specs.Writing.{Given, given, givenLastYear, givenLengths, givenRanges, givenSum}
 use Rattle.writing.specs.Writing.{rangesOf, Writable}
 use Rattle.layout.proofs.Every.{at-most}
 use Rattle.writing.proofs.Rows.{few-years, lengths-are, ranges-are, ranges-hold}
@@ -20,10 +21,10 @@ use Rattle.writing.proofs.doonamurk_write.Tie as tie
 -- what the function is given
 abbrev from : tie.Start → Given
 from s =
-    given (s .args .k) (s .args .exposures .now) (s .args .increments .now) (s .args .indices .now) (s .args .reporting .now) (s .args .weight) (s .args .totals .now)
+    given (s .args .k) (s .args .exposures .now) (s .args .increments .now) (s .args .indices .now) (s .args .reporting .now) (s .args .weight) (s .args .ulae .now)
 
 -- where it starts, from each question that was passed
-abbrev start-1 : tie.After-given-years → tie.Start
+abbrev start-1 : tie.After-given-last-year → tie.Start
 start-1 c = c .before .before .before .before .before .before
 
 abbrev start-2 : tie.After-given-lengths → tie.Start
@@ -36,15 +37,15 @@ abbrev start-5 : tie.After-sum-of → tie.Start
 start-5 c = start-4 (c .before .before)
 
 -- what each question says
-asked-1 : (c : tie.After-given-years) → givenYears (from (start-1 c)) ≡ c .given-years .result
-unfolding givenYears
-asked-1 c = sym (c .given-years .ensures)
+asked-1 : (c : tie.After-given-last-year) → givenLastYear (from (start-1 c)) ≡ c .given-last-year .result
+unfolding givenLastYear
+asked-1 c = sym (c .given-last-year .ensures)
 
 asked-2 : (c : tie.After-given-lengths) → givenLengths (from (start-2 c)) (length (start-2 c .args .buffer .now)) ≡ c .given-lengths .result
-unfolding givenLengths
+unfolding givenLengths layout
 asked-2 c = sym (c .given-lengths .ensures)
 
-said-1 : (c : tie.Else1) → givenYears (from (start-1 (c .before))) ≡ true
+said-1 : (c : tie.Else1) → givenLastYear (from (start-1 (c .before))) ≡ true
 said-1 c = asked-1 (c .before) ∙ not-false _ (c .if1 .left)
 
 said-2 : (c : tie.Else2) → givenLengths (from (start-2 (c .before))) (length (start-2 (c .before) .args .buffer .now)) ≡ true
@@ -72,8 +73,8 @@ writable c =
 sum-is : (c : tie.After-sum-of) → total (start-5 c .args .reporting .now) ≡ c .sum-of .result
 sum-is c = sym (rw (take-length (start-5 c .args .reporting .now)) at (c .sum-of .ensures))
 
-given-years-requires : tie.Need-given-years-requires
-given-years-requires c κs = search needs
+given-last-year-requires : tie.Need-given-last-year-requires
+given-last-year-requires c κs = search needs
 
 returns : tie.Need-returns
 returns c =
@@ -120,8 +121,8 @@ returns-4 c =
     refused (from s) buffer 4
     (answer-5 (from s) (length buffer) (w .years) (w .lengths) (said-4 d) (ne-eqb _ _ (λ e. c .if4 .taken (sym (sum-is (c .before)) ∙ e))))
 
-put-fields-requires : tie.Need-put-fields-requires
-put-fields-requires c κs = writable (c .before .before .before)
+put-record-requires : tie.Need-put-record-requires
+put-record-requires c κs = writable (c .before .before .before)
 
 same-length : tie.Need-same-length
 same-length c = search needs
@@ -137,13 +138,13 @@ returns-5 c =
     let w = writable d in
     accepted (from s) buffer
     (answer-0 (from s) (length buffer) (w .years) (w .lengths) (said-4 d) (eq-eqb _ _ (sum-is (q .before) ∙ q .if4 .left)))
-    (p .put-fields .ensures)
+    (p .put-record .ensures)
 
 pub doonamurk-write-spec : {M : Type 1} → statement M
 doonamurk-write-spec =
     tie.close
     (tie.spec
-    given-years-requires
+    given-last-year-requires
     returns
     given-lengths-requires
     returns-2
@@ -151,6 +152,6 @@ doonamurk-write-spec =
     returns-3
     sum-of-requires
     returns-4
-    put-fields-requires
+    put-record-requires
     same-length
     returns-5)

@@ -4,7 +4,7 @@ use Prim.Native.Nat.{_+_}
 use native.Mathlib.Omega.{arith}
 use borrow.Author.Needs.{needs}
 use borrow.Author.Tests.{eq-eqb, ne-eqb}
-use Rattle.rules.specs.Record.{bytes, cells}
+use Rattle.rules.specs.Record.{byteCount, cells}
 use Rattle.writing.proofs.given_lengths.Statement.{statement}
 use Rattle.writing.proofs.given_lengths.Tie as tie
 
@@ -14,7 +14,7 @@ bytes-of-requires c κs = search needs
 returns : tie.Need-returns
 returns c =
     let a = c .before .before .args in
-    rw (ne-eqb (a .m) (bytes (a .k)) (λ e. omega arith))
+    rw (ne-eqb (a .m) (byteCount (a .k)) (λ e. omega arith))
 
 add-if2 : tie.Need-add-if2
 add-if2 c = search needs
@@ -52,7 +52,7 @@ returns-6 : tie.Need-returns-6
 returns-6 c =
     let a = c .before .before .before .before .before .before .before .args in
     rw (
-      eq-eqb (a .m) (bytes (a .k)) (omega arith),
+      eq-eqb (a .m) (byteCount (a .k)) (omega arith),
       eq-eqb (a .exposures) (a .k + 1) (omega arith),
       eq-eqb (a .increments) (cells (a .k)) (omega arith),
       eq-eqb (a .indices) (a .k) (omega arith),

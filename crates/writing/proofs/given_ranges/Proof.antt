@@ -71,7 +71,7 @@ returns-6 c =
       leb·zero (a .weight),
       le-leb (a .weight) 1000000 (omega arith),
     )
-    (sym (whole 0 10000000000 (a .totals .now) (c .within4 .ensures)))
+    (sym (whole 0 10000000000 (a .ulae .now) (c .within4 .ensures)))
 
 pub given-ranges-spec : {M : Type 1} → statement M
 given-ranges-spec =

@@ -1,9 +1,9 @@
--- `writing::put_fields` meets its contract: after each call one row more is packed, and the filling bits end the record. Assumes nothing.
+-- `writing::put_record` meets its contract: after each call one row more is packed, and the filling bits end the record. Assumes nothing.
 use mathlib.Core.Path.{_≡_, refl, ap, _∙_}
 use mathlib.Core.List.{[], _∷_}
 use lib.Dec.{lit<, lit≤}
 use lib.Pow.{pow-pos}
-use Rattle.rules.specs.Record.{bits}
+use Rattle.rules.specs.Record.{bitCount}
 use Rattle.rules.specs.Writing.{Given, given}
 use Rattle.layout.specs.declared.Places.{Places}
 use Rattle.layout.specs.Places.{placesOf}
@@ -11,13 +11,13 @@ use Rattle.packing.proofs.Puts.{packed-then}
 use Rattle.layout.proofs.Every.{fit-between}
 use Rattle.writing.proofs.Rows.{few-years, ranges-hold}
 use Rattle.writing.proofs.Recorded.{FirstRows, packed-one, no-rows, ready, Fills, fills, recorded}
-use Rattle.writing.proofs.put_fields.Statement.{statement}
-use Rattle.writing.proofs.put_fields.Tie as tie
+use Rattle.writing.proofs.put_record.Statement.{statement}
+use Rattle.writing.proofs.put_record.Tie as tie
 
 -- what the function is given
 abbrev from : tie.Start → Given
 from s =
-    given (s .args .k) (s .args .exposures .now) (s .args .increments .now) (s .args .indices .now) (s .args .reporting .now) (s .args .weight) (s .args .totals .now)
+    given (s .args .k) (s .args .exposures .now) (s .args .increments .now) (s .args .indices .now) (s .args .reporting .now) (s .args .weight) (s .args .ulae .now)
 
 -- where it starts, from the end of each row
 abbrev start-1 : tie.After-put → tie.Start
@@ -124,7 +124,7 @@ put-row-requires-4 c κs =
     let d = c .before .before .before in
     let s = start-6 d in
     let r = ranges-hold (from s) (s .pre .ranges) in
-    (ready (from s) (s .args .buffer .now) (s .pre) 6 _ (rows-6 d) refl, (lit≤ tt, fit-between 0 10000000000 34 (lit< tt) (s .args .totals .now) (r .totals)))
+    (ready (from s) (s .args .buffer .now) (s .pre) 6 _ (rows-6 d) refl, (lit≤ tt, fit-between 0 10000000000 34 (lit< tt) (s .args .ulae .now) (r .ulae)))
 
 places-of-requires : tie.Need-places-of-requires
 places-of-requires c κs =
@@ -132,7 +132,7 @@ places-of-requires c κs =
     few-years (from s) (s .pre .years)
 
 -- where the fields end, and what the put of the filling bits asks
-ends : (c : tie.After-places-of) → c .places-of .result .end ≡ bits (start-7 (c .before .before .before) .args .k)
+ends : (c : tie.After-places-of) → c .places-of .result .end ≡ bitCount (start-7 (c .before .before .before) .args .k)
 unfolding placesOf
 ends c = ap (λ (p : Places). p .end) (c .places-of .ensures)
 
@@ -165,8 +165,8 @@ returns c =
     let last = rw (ends (p .before .before)) at (p .put3 .ensures) in
     recorded (from s) (s .args .buffer .now) (s .pre) (rows-7 d) last (p .put3 .kept .0) (λ i. c .slice-known9 .given i .fits)
 
-pub put-fields-spec : {M : Type 1} → statement M
-put-fields-spec =
+pub put-record-spec : {M : Type 1} → statement M
+put-record-spec =
     tie.close
     (tie.spec
     put-requires
