@@ -1,4 +1,3 @@
-pub mod Every
 pub mod Sizes
 pub mod Sections
 pub mod Codes

@@ -1,25 +1,16 @@
 -- The sizes of a record by k: its cells, the bit places of its rows, its bits, bytes and fields; and the sum of the first entries of a list. Assumes nothing.
 use mathlib.Core.Path.{_≡_, refl}
+use mathlib.Core.Bool.{true}
 use mathlib.Core.List.{List, [], _∷_, _++_, map}
-use Prim.Native.Nat.{ℕ, zero, suc, _+_, _*_, _≤_, _<_}
-use native.Mathlib.Nat.{mul-le-mul}
-use native.Mathlib.Numerals.{add-one}
+use Prim.Native.Nat.{ℕ, zero, suc, _+_, _*_, _^_, _≤_, _<_}
+use native.Mathlib.Nat.{lt-of-le-of-lt, mul-le-mul}
 use native.Mathlib.Omega.{arith}
-use lib.ListN.{length, getD, take, replicate, length-append, length-replicate}
-use lib.Seq.{take-nil}
-use Rattle.rules.specs.Lists.{total}
+use lib.ListN.{length, take, replicate, length-append, length-replicate}
+use Rattle.rules.specs.Lists.{total, every, between}
 use Rattle.rules.specs.Record.{Kind, bitsOf, cells, layout, kindsOf, widths, bitCount, byteCount, fillingCount, fieldCount, lastYearOf}
 use Rattle.rules.specs.Packing.{Fit}
 use Rattle.layout.specs.Places.{startOf}
-
--- the sum of one entry more; past the end it is 0
-pub total-more : (xs : List ℕ) (i : ℕ) → total (take (i + 1) xs) ≡ total (take i xs) + getD xs i 0
-unfolding total
-total-more [] i = rw (add-one i, take-nil i) (omega arith)
-total-more (x ∷ xs) zero = omega arith
-total-more (x ∷ xs) (suc i) =
-    let h : total (take (suc i) xs) ≡ total (take i xs) + getD xs i 0 = rw (add-one i) at (total-more xs i) in
-    rw (add-one (suc i)) (omega arith)
+use Rattle.laws.proofs.Lists.{at-most}
 
 -- the bits of a row of n fields of one kind and the fields after it
 pub bits-of-row : (n : ℕ) (κ : Kind) (κs : List Kind) → total (map bitsOf (replicate n κ ++ κs)) ≡ bitsOf κ * n + total (map bitsOf κs)
@@ -100,3 +91,7 @@ bytes-least k h =
 pub years-lt : (s : List ℕ) → Fit 8 s → lastYearOf s < 16
 unfolding lastYearOf
 years-lt s h = omega (arith, h 0)
+
+-- a number of a list whose range is known has no more bits than the limit
+pub fit-between : (least most w : ℕ) → most < 2 ^ w → (xs : List ℕ) → every (between least most) xs ≡ true → Fit w xs
+fit-between least most w l xs h i = lt-of-le-of-lt (at-most least most xs h i) l

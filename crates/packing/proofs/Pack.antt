@@ -3,18 +3,19 @@ use mathlib.Core.Path.{_≡_, refl, sym, ap, ap₂, _∙_}
 use mathlib.Core.List.{List, [], _∷_, _++_}
 use Prim.Native.Nat.{ℕ, zero, suc, _+_, _-_, _*_, _/_, _%_, _^_, _≤_, _<_}
 use native.Mathlib.Decide.{decLt}
-use native.Mathlib.Nat.{add-comm, add-zero, mod-eq-of-lt, mod-lt, mod-one, mul-add-div-right, mul-add-mod-self-right, mul-le-mul-left, not-suc-le-zero, sub-zero, suc-sub-suc}
+use native.Mathlib.Nat.{add-comm, add-zero, mod-eq-of-lt, mod-lt, mod-one, mul-add-div-right, mul-add-mod-self-right, mul-le-mul-left, sub-zero, suc-sub-suc}
 use native.Mathlib.Numerals.{add-one}
 use native.Mathlib.Omega.{arith}
 use lib.Arith.{digits-lt}
 use lib.Dec.{lit<}
-use lib.ListN.{length, getD, take, replicate, length-append, length-replicate, replicate-append-replicate, List·getD-append, List·getD-eq-default}
+use lib.ListN.{length, getD, take, replicate, length-append, length-replicate, replicate-append-replicate, List·getD-eq-default}
 use lib.Pow.{pow-add, pow-pos, shr-shr, high, mod-pow-add}
-use lib.Seq.{getD-at, length-take-le, take-suc}
+use lib.Seq.{length-take-le, take-suc}
 use Rattle.rules.specs.Packing.{pack, unpack, numberOf, bytesOf}
 use Rattle.rules.specs.Lists.{total, upTo}
 use Rattle.packing.specs.Field.{fieldAt, rowAt}
 use Rattle.rules.specs.Packing.{Fit}
+use Rattle.laws.proofs.Lists.{length-upTo, getD-upTo, upTo-ext, upTo-cons}
 
 -- the widths of two rows, one after the other
 pub total-append : (ws vs : List ℕ) → total (ws ++ vs) ≡ total ws + total vs
@@ -147,36 +148,6 @@ number-bytes m n = rw (length-unpack (replicate m 8) n, length-replicate {A = �
 pub bytes-small : (m n : ℕ) → Fit 8 (bytesOf m n)
 unfolding bytesOf
 bytes-small m n = row-fits 8 m (unpack (replicate m 8) n) (unpack-fits (replicate m 8) n)
-
--- n values
-pub length-upTo : {A : Type 0} (f : ℕ → A) (n : ℕ) → length (upTo f n) ≡ n
-unfolding upTo
-length-upTo f zero = refl
-length-upTo f (suc n) = rw (length-append (upTo f n) (f n ∷ []), length-upTo f n) (omega arith)
-
--- value i
-pub getD-upTo : {A : Type 0} (f : ℕ → A) (n i : ℕ) (d : A) → i < n → getD (upTo f n) i d ≡ f i
-unfolding upTo
-getD-upTo f zero i d h = absurd (not-suc-le-zero h)
-getD-upTo f (suc n) i d h = go (getD-upTo f n i d) (decLt i n)
-  where
-    go : (i < n → getD (upTo f n) i d ≡ f i) → Dec (i < n) → getD (upTo f n ++ (f n ∷ [])) i d ≡ f i
-    go below (yes l) = List·getD-append (upTo f n) (f n ∷ []) d i (rw (length-upTo f n) l) ∙ below l
-    go below (no l) =
-        let e : i ≡ n = omega arith in
-        rw e (getD-at (upTo f n) (f n) [] d n (length-upTo f n))
-
--- equal values make equal lists
-pub upTo-ext : {A : Type 0} (f g : ℕ → A) (n : ℕ) → ((i : ℕ) → i < n → f i ≡ g i) → upTo f n ≡ upTo g n
-unfolding upTo
-upTo-ext f g zero e = refl
-upTo-ext f g (suc n) e = rw (upTo-ext f g n (λ i h. e i (omega arith)), e n (omega arith))
-
--- the first value apart
-pub upTo-cons : {A : Type 0} (f : ℕ → A) (n : ℕ) → upTo f (suc n) ≡ f 0 ∷ upTo (λ i. f (suc i)) n
-unfolding upTo
-upTo-cons f zero = refl
-upTo-cons {A} f (suc n) = ap {B = List A} (λ l. l ++ (f (suc n) ∷ [])) (upTo-cons f n)
 
 -- the bits after field i of n
 place : (at w n after m i : ℕ) → at + w * n + after ≡ m → i < n → after + w * (n - suc i) ≡ m - (at + w * i + w)

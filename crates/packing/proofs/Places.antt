@@ -10,7 +10,8 @@ use lib.Pow.{shl-exact, shr-shr, mod-pow-add, mod-mod-pow, field}
 use Rattle.rules.specs.Packing.{numberOf, bytesOf}
 use Rattle.packing.specs.Field.{fieldAt, rowAt}
 use Rattle.rules.specs.Packing.{Fit}
-use Rattle.packing.proofs.Pack.{bytes-number, rows-are, getD-upTo}
+use Rattle.laws.proofs.Lists.{getD-upTo}
+use Rattle.packing.proofs.Pack.{bytes-number, rows-are}
 
 -- `1 << n` of the code
 pub one-shl : (n : ℕ) → n < 64 → 1 * 2 ^ n % 2 ^ 64 ≡ 2 ^ n

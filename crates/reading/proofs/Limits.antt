@@ -7,7 +7,7 @@ use lib.IntN.{pos}
 use lib.ListN.{length, getD, take, length-map}
 use lib.Seq.{getD-take, length-take-le}
 use Rattle.rules.specs.Lists.{every, between}
-use Rattle.layout.proofs.Every.{at-most, both-left, both-right}
+use Rattle.laws.proofs.Lists.{at-most, both-left, both-right}
 use Rattle.reading.specs.Reading.{rangesOf, Listable}
 use Rattle.reading.specs.declared.Reading.{Reading}
 

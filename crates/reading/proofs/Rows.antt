@@ -13,7 +13,7 @@ use Rattle.packing.specs.Field.{fieldAt}
 use Rattle.rules.specs.Packing.{Fit}
 use Rattle.packing.proofs.Pack.{field-lt}
 use Rattle.packing.proofs.Places.{field-append, field-byte}
-use Rattle.layout.proofs.Every.{both-left, both-right}
+use Rattle.laws.proofs.Lists.{both-left, both-right}
 use Rattle.layout.proofs.Sections.{join, Shaped, mapRows, everyRow, section-join, zip-join, mapRows-shaped, every-join}
 use Rattle.layout.proofs.Codes.{rowsFrom, rows-shaped, unpack-rows}
 use Rattle.layout.proofs.Sizes.{bytes-room, bytes-least, years-lt}

@@ -12,7 +12,7 @@ use Rattle.rules.specs.Questions.{firstNo}
 use Rattle.rules.specs.Record.{million, layout, kindsOf, fieldCount, byteCount, cells, everyField, inRange, bitsInRange, lastYearOf, codesOf, fillingOf, fieldsOf, reportingIn}
 use Rattle.rules.specs.Reading.{hasLastYear, hasLength, hasRoom, inRanges, sharesSum, readAnswer}
 use Rattle.rules.specs.Writing.{Given, givenFields, givenLastYear, givenLengths, givenRanges, givenSum, writeAnswer}
-use Rattle.layout.proofs.Every.{both-left, both-right}
+use Rattle.laws.proofs.Lists.{both-left, both-right}
 use Rattle.layout.proofs.Sizes.{bytes-least}
 
 -- the first answer is yes, and so are the others

@@ -11,7 +11,7 @@ use lib.Seq.{length-take-le, getD-take}
 use Rattle.rules.specs.Lists.{total, every}
 use Rattle.rules.specs.Record.{Kind, million, layout, kindsOf, section, fieldCount, byteCount, inRange, exposuresIn, incrementsIn, indicesIn, reportingIn, weightIn, ulaeIn}
 use Rattle.rules.specs.Writing.{Given, given, givenFields}
-use Rattle.layout.proofs.Every.{both-left, both-right}
+use Rattle.laws.proofs.Lists.{both-left, both-right}
 use Rattle.layout.proofs.Sections.{join, Shaped, everyRow, length-join, section-join, every-join}
 use Rattle.record.proofs.Answers.{Taken}
 use Rattle.record.proofs.Field.{not-below}

@@ -9,7 +9,7 @@ use lib.IntN.{ℤ, pos, negsuc, natAbs}
 use lib.Pow.{pow-add, split, high, low, shr-lt}
 use borrow.Author.Tests.{leb-true, not-true, eqb-false, ne-eqb}
 use Rattle.rules.specs.Record.{Kind, bitsOf, signedOf, signOf, valueOf, codeOf, inRange, negativeZero, bitsInRange}
-use Rattle.layout.proofs.Every.{both-left, both-right}
+use Rattle.laws.proofs.Lists.{both-left, both-right}
 
 -- the sizes of a kind fit its width
 abbrev pub Wide : Kind → Type 0

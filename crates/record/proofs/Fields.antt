@@ -9,7 +9,7 @@ use lib.IntN.{ℤ, pos}
 use lib.ListN.{length, getD, replicate}
 use Rattle.rules.specs.Record.{Kind, bitsOf, layout, kindsOf, fieldCount, valueOf, codeOf, inRange, bitsInRange, everyField}
 use Rattle.packing.proofs.Pack.{Fits}
-use Rattle.layout.proofs.Every.{both-left, both-right}
+use Rattle.laws.proofs.Lists.{both-left, both-right}
 use Rattle.record.proofs.Field.{Wide, coded, valued}
 
 -- the sizes of each kind fit its width

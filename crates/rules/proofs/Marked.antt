@@ -1,10 +1,10 @@
 -- The marked triangles and edges of document 01: a row for each starred item, what the rules give and what the paper prints, and one theorem.
 -- Assumes nothing.
-use Prim.Native.Nat.{ℕ, _+_, _-_, _*_, _/_}
+use Prim.Native.Nat.{ℕ}
 use mathlib.Core.Path.{_≡_, refl}
 use mathlib.Core.List.{List, [], _∷_, map}
 use lib.IntN.{ℤ, pos, negsuc}
-use Rattle.rules.specs.Lists.{upTo, padded}
+use Rattle.rules.specs.Lists.{upTo}
 use Rattle.rules.specs.Triangle.{averageOf, nearest, cellsTotal, cellOf, columnTotal, diagonalTotal, cornerTotal, sumTo}
 use Rattle.rules.specs.Separation.{columnOf, diagonalOf, cornerOf, runningDown, runningOf, shareOf, levelOf}
 

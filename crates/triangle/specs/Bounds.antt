@@ -1,5 +1,5 @@
 -- What question 4 has shown of the increments and exposures, and how large a cell of a square may be. Assumes nothing.
-use Prim.Native.Nat.{ℕ, _≤_, _<_}
+use Prim.Native.Nat.{ℕ, _≤_}
 use mathlib.Core.List.{List}
 use lib.IntN.{ℤ, pos, natAbs}
 use lib.ListN.{getD}

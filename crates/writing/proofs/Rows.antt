@@ -11,7 +11,7 @@ use lib.ListN.{length, length-map}
 use Rattle.rules.specs.Record.{Kind, lastYear, exposure, increment, index, reporting, weight, ulae, cells, layout, kindsOf, byteCount, codeOf, inRange}
 use Rattle.rules.specs.Writing.{Given, givenFields, givenLastYear, givenLengths, givenRanges}
 use Rattle.rules.specs.Lists.{every, between}
-use Rattle.layout.proofs.Every.{both-left, both-right}
+use Rattle.laws.proofs.Lists.{both-left, both-right}
 use Rattle.layout.proofs.Sections.{join, Shaped, mapRows, zip-join, every-join}
 use Rattle.writing.specs.Writing.{rangesOf}
 

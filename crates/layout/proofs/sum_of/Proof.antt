@@ -5,7 +5,7 @@ use Prim.Native.Nat.{_-_, _*_, _≤_}
 use native.Mathlib.Omega.{arith}
 use lib.ListN.{take}
 use Rattle.rules.specs.Lists.{total}
-use Rattle.layout.proofs.Sizes.{total-more}
+use Rattle.laws.proofs.Lists.{total-more}
 use Rattle.layout.proofs.sum_of.Statement.{statement}
 use Rattle.layout.proofs.sum_of.Tie as tie
 

@@ -10,7 +10,7 @@ use lib.Seq.{getD-take, length-take-le}
 use borrow.Author.Needs.{needs}
 use borrow.Author.Tests.{le-leb, lt-leb}
 use Rattle.rules.specs.Lists.{every, between}
-use Rattle.layout.proofs.Every.{every-more, every-fails}
+use Rattle.laws.proofs.Lists.{every-more, every-fails}
 use Rattle.layout.proofs.within.Statement.{statement}
 use Rattle.layout.proofs.within.Tie as tie
 

@@ -11,7 +11,7 @@ use lib.ListN.{length, set, take}
 use lib.Seq.{sets}
 use denote.Ref.{now}
 use Rattle.entries.proofs.Runs.{sets-append}
-use Rattle.layout.proofs.Every.{both-right}
+use Rattle.laws.proofs.Lists.{both-right}
 use Rattle.reading.specs.Reading.{assumptionsOf}
 use Rattle.reading.proofs.Limits.{most, length-naturals}
 use Rattle.reading.proofs.put_assumptions.Statement.{statement}

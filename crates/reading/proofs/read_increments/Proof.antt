@@ -14,9 +14,9 @@ use Rattle.rules.specs.Record.{increment, valueOf, bitsInRange}
 use Rattle.rules.specs.Lists.{padded, upTo, every}
 use Rattle.packing.specs.Field.{fieldAt, rowAt}
 use Rattle.packing.proofs.Pack.{length-row, field-lt}
-use Rattle.layout.proofs.Every.{every-append}
+use Rattle.laws.proofs.Lists.{every-append, padded-more}
 use Rattle.reading.specs.Reading.{incrementsAt}
-use Rattle.reading.proofs.Padded.{padded-more, row-more}
+use Rattle.reading.proofs.Padded.{row-more}
 use Rattle.reading.proofs.read_increments.Statement.{statement}
 use Rattle.reading.proofs.read_increments.Tie as tie
 

@@ -7,7 +7,8 @@ use Rattle.rules.specs.Lists.{padded, upTo}
 use Rattle.packing.specs.Field.{rowAt}
 use Rattle.packing.proofs.Pack.{length-row}
 use Rattle.packing.proofs.Pack.{room}
-use Rattle.reading.proofs.Padded.{padded-more, row-more}
+use Rattle.laws.proofs.Lists.{padded-more}
+use Rattle.reading.proofs.Padded.{row-more}
 use Rattle.reading.proofs.read_row.Statement.{statement}
 use Rattle.reading.proofs.read_row.Tie as tie
 

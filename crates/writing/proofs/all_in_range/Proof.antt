@@ -11,7 +11,7 @@ use borrow.Author.Tests.{not-true, not-false}
 use mir.Facts.{toZ-ofZ}
 use Rattle.rules.specs.Record.{increment, inRange}
 use Rattle.rules.specs.Lists.{every}
-use Rattle.layout.proofs.Every.{every-more, every-fails}
+use Rattle.laws.proofs.Lists.{every-more, every-fails}
 use Rattle.writing.proofs.all_in_range.Statement.{statement}
 use Rattle.writing.proofs.all_in_range.Tie as tie
 

@@ -12,7 +12,7 @@ use Rattle.rules.specs.Lists.{total}
 use Rattle.rules.specs.Record.{layout}
 use Rattle.rules.specs.Writing.{Given, given, givenLastYear, givenLengths, givenRanges, givenSum}
 use Rattle.writing.specs.Writing.{rangesOf, Writable}
-use Rattle.layout.proofs.Every.{at-most}
+use Rattle.laws.proofs.Lists.{at-most}
 use Rattle.writing.proofs.Rows.{few-years, lengths-are, ranges-are, ranges-hold}
 use Rattle.writing.proofs.Answers.{answer-0, answer-1, answer-2, answer-4, answer-5, refused, accepted}
 use Rattle.writing.proofs.doonamurk_write.Statement.{statement}

@@ -13,7 +13,7 @@ use Rattle.rules.specs.Record.{increment, inRange, codeOf}
 use Rattle.packing.specs.Pending.{Packed}
 use Rattle.packing.proofs.Pack.{pack-next}
 use Rattle.packing.proofs.Puts.{packed-none, packed-then, ready-then}
-use Rattle.layout.proofs.Every.{every-at}
+use Rattle.laws.proofs.Lists.{every-at}
 use Rattle.writing.proofs.put_increments.Statement.{statement}
 use Rattle.writing.proofs.put_increments.Tie as tie
 

@@ -8,7 +8,7 @@ use Rattle.rules.specs.Writing.{Given, given}
 use Rattle.layout.specs.declared.Places.{Places}
 use Rattle.layout.specs.Places.{placesOf}
 use Rattle.packing.proofs.Puts.{packed-then}
-use Rattle.layout.proofs.Every.{fit-between}
+use Rattle.layout.proofs.Sizes.{fit-between}
 use Rattle.writing.proofs.Rows.{few-years, ranges-hold}
 use Rattle.writing.proofs.Recorded.{FirstRows, packed-one, no-rows, ready, Fills, fills, recorded}
 use Rattle.writing.proofs.put_record.Statement.{statement}
