@@ -4,6 +4,7 @@ use printing::put_lines;
 use printing::put_number;
 use printing::put_text;
 use reading::doonamurk_read;
+ghost use Prim.Native.Nat.{_<_};
 
 // Whether each entry is still -7.
 fn unchanged(list: &[i64]) -> bool {
@@ -16,20 +17,29 @@ fn unchanged(list: &[i64]) -> bool {
     true
 }
 
-fn show(packed: &[u8], list: &mut [i64]) {
+// Reads a record of this length and shows what the reader makes of it; false where the input ends before.
+fn show(packed: &mut [u8], list: &mut [i64]) -> bool {
+    if io::read_full(0, packed) < packed.len() {
+        return false;
+    }
     let answer = doonamurk_read(packed, list);
     put_text(b"answer ");
     put_number(answer);
     put_text(b"\n");
     if answer == 0 {
         put_lines(list, list.len());
-        return;
-    }
-    if unchanged(list) {
+    } else if unchanged(list) {
         put_text(b"unchanged\n");
     } else {
         put_text(b"changed\n");
     }
+    true
+}
+
+fn wide(x: u8) -> usize
+    ensures { λ r. ⌜ r < 256 ⌝ }
+{
+    x as usize
 }
 
 // One case; false at the end of the input.
@@ -38,22 +48,18 @@ fn case() -> bool {
     if io::read_full(0, &mut head) < 3 {
         return false;
     }
-    let room = head[0] as usize;
-    let size = 256 * (head[1] as usize) + (head[2] as usize);
+    let room = wide(head[0]);
+    let size = 256 * wide(head[1]) + wide(head[2]);
     if 4096 < size {
         return false;
     }
-    let mut packed = [0u8; 4096];
-    if io::read_full(0, &mut packed[..size]) < size {
-        return false;
-    }
+    let mut packed = io::buffer();
     let mut list = [-7i64; 255];
-    show(&packed[..size], &mut list[..room]);
-    true
+    show(&mut packed[..size], &mut list[..room])
 }
 
 fn main() {
-    for _ in 0..1000 {
+    for _ in 0..1000usize {
         if !case() {
             return;
         }

@@ -1,0 +1,51 @@
+-- A signed number of 64 bits by its sign, and the steps by which `size_of` takes the size of a negative one. Assumes nothing.
+use mathlib.Core.Path.{_≡_, refl, subst, _∙_}
+use mathlib.Core.Bool.{true, false}
+use Prim.Native.Nat.{ℕ, zero, suc, _<_, _^_}
+use native.Mathlib.Omega.{arith}
+use borrow.Author.Tests.{ltb-true}
+use lib.Dec.{lit<, T}
+use lib.IntN.{ℤ, pos, negsuc, negℤ, sucℤ, _+ℤ_, _-ℤ_, +ℤ-idl, +ℤ-one, negℤ-negℤ}
+use lib.Signed.{ltZ}
+use mir.Facts.{toZ-ofZ}
+use mir.Syntax.{w64}
+use mir.Val.{SFits, toZ, ofZ}
+
+-- a number below 0 is −(n + 1)
+pub below : (x : ℤ) → SFits w64 x → ltZ (toZ w64 (ofZ w64 x)) (pos 0) ≡ true → (n : ℕ) × (x ≡ negsuc n) × (n < 2 ^ 63)
+below x f h = go x f (rw (toZ-ofZ f) at h)
+  where
+    go : (z : ℤ) → SFits w64 z → ltZ z (pos 0) ≡ true → (n : ℕ) × (z ≡ negsuc n) × (n < 2 ^ 63)
+    go (pos n) g e = let z : n < 0 = ltb-true n 0 e in absurd (omega arith)
+    go (negsuc n) g e = (n, refl, g .sfits)
+
+-- a number not below 0 is a natural number
+pub above : (x : ℤ) → SFits w64 x → ltZ (toZ w64 (ofZ w64 x)) (pos 0) ≡ false → (n : ℕ) × (x ≡ pos n) × (n < 2 ^ 63)
+above x f h = go x f (rw (toZ-ofZ f) at h)
+  where
+    go : (z : ℤ) → SFits w64 z → ltZ z (pos 0) ≡ false → (n : ℕ) × (z ≡ pos n) × (n < 2 ^ 63)
+    go (pos n) g e = (n, refl, g .sfits)
+    go (negsuc n) g e = absurd (subst T e tt)
+
+-- −(n + 1) and one more is −n
+suc-neg : (n : ℕ) → sucℤ (negsuc n) ≡ negℤ (pos n)
+suc-neg zero = refl
+suc-neg (suc n) = refl
+
+-- −n fits 64 bits
+pub neg-fits : (n : ℕ) → n < 2 ^ 63 → SFits w64 (negℤ (pos n))
+neg-fits zero h = record { sfits = lit< tt }
+neg-fits (suc n) h = record { sfits = omega arith }
+
+-- a natural number at 64 bits
+pub natural : (n : ℕ) → n < 2 ^ 63 → toZ w64 (ofZ w64 (pos n)) ≡ pos n
+natural n h = toZ-ofZ {w = w64} {z = pos n} (record { sfits = h })
+
+module _ (n : ℕ) (h : n < 2 ^ 63) where
+  -- `x + 1` at x = −(n + 1) is −n
+  pub plus-one : toZ w64 (ofZ w64 (negsuc n)) +ℤ pos 1 ≡ negℤ (pos n)
+  plus-one = rw (toZ-ofZ {w = w64} {z = negsuc n} (record { sfits = h })) (+ℤ-one (negsuc n) ∙ suc-neg n)
+
+  -- `0 - (x + 1)` is n
+  pub turned : pos 0 -ℤ toZ w64 (ofZ w64 (toZ w64 (ofZ w64 (negsuc n)) +ℤ pos 1)) ≡ pos n
+  turned = rw (plus-one, toZ-ofZ (neg-fits n h)) (+ℤ-idl (negℤ (negℤ (pos n))) ∙ negℤ-negℤ (pos n))
