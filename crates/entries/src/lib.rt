@@ -1,10 +1,12 @@
-// Entries of a lent list of signed 64-bit numbers. Each function answers the place after those that it filled.
+// Lists of numbers: entries put into a lent list of signed 64-bit numbers, each function answering the place after those that it filled;
+// ranges; sums.
 ghost use mathlib.Core.Path.{_≡_};
 ghost use mathlib.Core.List.{map};
 ghost use Prim.Native.Nat.{ℕ, _+_, _<_, _≤_, _^_};
 ghost use lib.IntN.{pos};
 ghost use lib.ListN.{length, getD, set, take};
 ghost use lib.Seq.{sets};
+ghost use Rattle.rules.specs.Lists.{total, every, between};
 
 // The first n of vs go into out from place `at` on.
 pub fn put_naturals(out: &mut [i64], at: usize, vs: &[u64], n: usize) -> usize
@@ -35,4 +37,33 @@ pub fn put_integers(out: &mut [i64], at: usize, vs: &[i64], n: usize) -> usize
         out[at + i] = vs[i];
     }
     at + n
+}
+
+// Whether each of the first n of vs is from least to most.
+pub fn within(vs: &[u64], n: usize, least: u64, most: u64) -> bool
+    requires { ⌜ n ≤ length (now vs) ⌝ }
+    ensures { λ r. ⌜ r ≡ every (between least most) (take n (now (vs .entry))) ⌝ }
+{
+    for i in 0..n {
+        let x = vs[i];
+        if x < least {
+            return false;
+        }
+        if x > most {
+            return false;
+        }
+    }
+    true
+}
+
+// The sum of the first n of vs, at most sixteen numbers up to a million.
+pub fn sum_of(vs: &[u64], n: usize) -> u64
+    requires { ⌜ (n ≤ length (now vs)) × ((n ≤ 16) × ((i : ℕ) → i < n → getD (now vs) i 0 ≤ 1000000)) ⌝ }
+    ensures { λ r. ⌜ r ≡ total (take n (now (vs .entry))) ⌝ }
+{
+    let mut sum: u64 = 0;
+    for i in 0..n {
+        sum += vs[i];
+    }
+    sum
 }

@@ -1,8 +1,6 @@
-// The places of a record's rows by k, its sizes, and the ranges and sums of a row.
+// The places of a record's rows by k, and its sizes.
 ghost use mathlib.Core.Path.{_≡_};
-ghost use Prim.Native.Nat.{ℕ, _+_, _<_, _≤_};
-ghost use lib.ListN.{length, getD, take};
-ghost use Rattle.rules.specs.Lists.{total, every, between};
+ghost use Prim.Native.Nat.{_+_, _<_, _≤_};
 ghost use Rattle.rules.specs.Record.{cells, byteCount, fieldCount};
 ghost use Rattle.layout.specs.Places.{placesOf};
 
@@ -60,33 +58,4 @@ pub fn fields_of(k: usize) -> usize
     ensures { λ r. ⌜ (r ≡ fieldCount k) × (r ≤ 201) ⌝ }
 {
     cells_of(k) + 4 * k + 5
-}
-
-// Whether each of the first n of vs is from least to most.
-pub fn within(vs: &[u64], n: usize, least: u64, most: u64) -> bool
-    requires { ⌜ n ≤ length (now vs) ⌝ }
-    ensures { λ r. ⌜ r ≡ every (between least most) (take n (now (vs .entry))) ⌝ }
-{
-    for i in 0..n {
-        let x = vs[i];
-        if x < least {
-            return false;
-        }
-        if x > most {
-            return false;
-        }
-    }
-    true
-}
-
-// The sum of the first n of vs, at most sixteen numbers up to a million.
-pub fn sum_of(vs: &[u64], n: usize) -> u64
-    requires { ⌜ (n ≤ length (now vs)) × ((n ≤ 16) × ((i : ℕ) → i < n → getD (now vs) i 0 ≤ 1000000)) ⌝ }
-    ensures { λ r. ⌜ r ≡ total (take n (now (vs .entry))) ⌝ }
-{
-    let mut sum: u64 = 0;
-    for i in 0..n {
-        sum += vs[i];
-    }
-    sum
 }

@@ -2,11 +2,11 @@
 use entries::put_integers;
 use entries::put_natural;
 use entries::put_naturals;
+use entries::sum_of;
+use entries::within;
 use layout::cells_of;
 use layout::fields_of;
 use layout::places_of;
-use layout::sum_of;
-use layout::within;
 use packing::field;
 use rules::ACCEPTED;
 use rules::Figures;

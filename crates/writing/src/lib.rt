@@ -1,9 +1,9 @@
 // The writer: a record from its fields, or the number of the first question that says no.
+use entries::sum_of;
+use entries::within;
 use layout::bytes_of;
 use layout::cells_of;
 use layout::places_of;
-use layout::sum_of;
-use layout::within;
 use packing::Pending;
 use packing::put;
 use packing::put_row;

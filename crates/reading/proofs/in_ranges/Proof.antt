@@ -6,10 +6,6 @@ use lib.ListN.{length}
 use Rattle.reading.specs.Reading.{rangesOf}
 use Rattle.reading.proofs.in_ranges.Statement.{statement}
 use Rattle.reading.proofs.in_ranges.Tie as tie
-use Rattle.reading.proofs.in_ranges.Reads as reads
-use Rattle.reading.proofs.in_ranges.Lts as lts
-use Rattle.layout.proofs.within.Reads as within-reads
-use Rattle.reading.proofs.both.Reads as both-reads
 
 -- src/lib.rt:190:13
 add-n : tie.Need-add-n

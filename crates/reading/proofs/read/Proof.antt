@@ -3,7 +3,6 @@ use borrow.Author.Needs.{needs}
 use native.Mathlib.Omega.{arith}
 use Rattle.reading.proofs.Rows.{Whole, whole, years-known}
 use Rattle.reading.proofs.Made.{Found, found, made}
-use Rattle.reading.proofs.read.Lts as lts
 use Rattle.reading.proofs.read.Statement.{statement}
 use Rattle.reading.proofs.read.Tie as tie
 

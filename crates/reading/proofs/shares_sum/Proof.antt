@@ -8,9 +8,6 @@ use Rattle.reading.specs.Reading.{sumOf}
 use Rattle.reading.proofs.Limits.{most}
 use Rattle.reading.proofs.shares_sum.Statement.{statement}
 use Rattle.reading.proofs.shares_sum.Tie as tie
-use Rattle.reading.proofs.shares_sum.Reads as reads
-use Rattle.reading.proofs.shares_sum.Lts as lts
-use Rattle.layout.proofs.sum_of.Reads as sum-of-reads
 
 -- src/lib.rt:219:12
 slice-aggregate-sum-of : tie.Need-slice-aggregate-sum-of

@@ -11,8 +11,8 @@ use borrow.Author.Needs.{needs}
 use borrow.Author.Tests.{le-leb, lt-leb}
 use Rattle.rules.specs.Lists.{every, between}
 use Rattle.laws.proofs.Lists.{every-more, every-fails}
-use Rattle.layout.proofs.within.Statement.{statement}
-use Rattle.layout.proofs.within.Tie as tie
+use Rattle.entries.proofs.within.Statement.{statement}
+use Rattle.entries.proofs.within.Tie as tie
 
 abbrev Inv-loop : tie.InvT-loop
 Inv-loop vs n least most i₀ i = (i ≤ n) × (every (between least most) (take i vs) ≡ true)

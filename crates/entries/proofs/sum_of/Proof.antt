@@ -6,8 +6,8 @@ use native.Mathlib.Omega.{arith}
 use lib.ListN.{take}
 use Rattle.rules.specs.Lists.{total}
 use Rattle.laws.proofs.Lists.{total-more}
-use Rattle.layout.proofs.sum_of.Statement.{statement}
-use Rattle.layout.proofs.sum_of.Tie as tie
+use Rattle.entries.proofs.sum_of.Statement.{statement}
+use Rattle.entries.proofs.sum_of.Tie as tie
 
 abbrev Inv-loop : tie.InvT-loop
 Inv-loop vs n sum₀ i₀ sum i = (i ≤ n) × (sum ≡ total (take i vs)) × (sum ≤ 1000000 * i)
