@@ -53,12 +53,12 @@ padded-more m z xs x n e h =
     rw (f, g, set-at xs z (replicate (m - suc n) z) x n e) (sym (append-snoc xs x (replicate (m - suc n) z)))
 
 -- the sum of one entry more; past the end it is 0
-pub total-more : (xs : List ℕ) (i : ℕ) → total (take (i + 1) xs) ≡ total (take i xs) + getD xs i 0
+pub total-take : (xs : List ℕ) (i : ℕ) → total (take (i + 1) xs) ≡ total (take i xs) + getD xs i 0
 unfolding total
-total-more [] i = rw (add-one i, take-nil i) (omega arith)
-total-more (x ∷ xs) zero = omega arith
-total-more (x ∷ xs) (suc i) =
-    let h : total (take (suc i) xs) ≡ total (take i xs) + getD xs i 0 = rw (add-one i) at (total-more xs i) in
+total-take [] i = rw (add-one i, take-nil i) (omega arith)
+total-take (x ∷ xs) zero = omega arith
+total-take (x ∷ xs) (suc i) =
+    let h : total (take (suc i) xs) ≡ total (take i xs) + getD xs i 0 = rw (add-one i) at (total-take xs i) in
     rw (add-one (suc i)) (omega arith)
 
 -- both parts of a test that holds
@@ -103,3 +103,7 @@ at-most least most [] h i = zero-le
 at-most least most (x ∷ xs) h zero =
     leb-true x most (both-right (leb least x) (leb x most) (both-left (between least most x) (every (between least most) xs) h))
 at-most least most (x ∷ xs) h (suc i) = at-most least most xs (both-right (between least most x) (every (between least most) xs) h) i
+
+-- what a test says of entry i of f 0, .., f (n − 1)
+pub every-upTo : {A : Type 0} (p : A → Bool) (f : ℕ → A) (n i : ℕ) → every p (upTo f n) ≡ true → i < n → p (f i) ≡ true
+every-upTo p f n i e h = rw (getD-upTo f n i (f i) h) at (every-at p (upTo f n) i (f i) (rw (length-upTo f n) h) e)

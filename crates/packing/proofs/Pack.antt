@@ -15,13 +15,8 @@ use Rattle.rules.specs.Packing.{pack, unpack, numberOf, bytesOf}
 use Rattle.rules.specs.Lists.{total, upTo}
 use Rattle.packing.specs.Field.{fieldAt, rowAt}
 use Rattle.rules.specs.Packing.{Fit}
+use Rattle.laws.proofs.Totals.{total-append}
 use Rattle.laws.proofs.Lists.{length-upTo, getD-upTo, upTo-ext, upTo-cons}
-
--- the widths of two rows, one after the other
-pub total-append : (ws vs : List ℕ) → total (ws ++ vs) ≡ total ws + total vs
-unfolding total
-total-append [] vs = omega arith
-total-append (w ∷ ws) vs = omega (arith, total-append ws vs)
 
 -- the widths of n fields of one width
 pub total-replicate : (n w : ℕ) → total (replicate n w) ≡ w * n

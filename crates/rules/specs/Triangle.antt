@@ -1,7 +1,8 @@
 -- Averages and sums (document 01): the cumulatives and averages of a triangle of increments, the averages in a square of sixteen rows of sixteen,
 -- and the totals over it. Question 6.
 -- Assumes nothing.
-use Prim.Native.Nat.{ℕ, zero, suc, _+_, _-_, _*_, _/_}
+use Prim.Native.Nat.{ℕ, zero, suc, _+_, _-_, _*_, _/_, _<_}
+use mathlib.Core.Path.{_≡_}
 use mathlib.Core.Bool.{Bool, true, _&&_, cond}
 use mathlib.Core.List.{List, []}
 use lib.Dec.{eqb, leb}
@@ -56,6 +57,10 @@ averagesOf k n p = padded 16 (replicate 16 (pos 0)) (upTo (averageRow k n p) (k 
 -- the cell in row i and column j of a square; zero outside of it
 unfoldable pub cellOf : List (List ℤ) → ℕ → ℕ → ℤ
 cellOf s i j = getD (getD s i []) j (pos 0)
+
+-- a square that is zero outside the triangle of the years 0 to k
+abbrev pub ZeroOutside : List (List ℤ) → ℕ → Type 0
+ZeroOutside s k = (i j : ℕ) → k < i + j → cellOf s i j ≡ pos 0
 
 -- the total of the cells whose row and column pass a test
 unfoldable pub cellsTotal : (ℕ → ℕ → Bool) → List (List ℤ) → ℤ

@@ -5,7 +5,7 @@ use Prim.Native.Nat.{_-_, _*_, _≤_}
 use native.Mathlib.Omega.{arith}
 use lib.ListN.{take}
 use Rattle.rules.specs.Lists.{total}
-use Rattle.laws.proofs.Lists.{total-more}
+use Rattle.laws.proofs.Lists.{total-take}
 use Rattle.entries.proofs.sum_of.Statement.{statement}
 use Rattle.entries.proofs.sum_of.Tie as tie
 
@@ -40,7 +40,7 @@ loop-again : tie.Need-loop-again Inv-loop μ-loop
 loop-again c =
     let i = c .before .before .loop .i in
     let vs = c .before .before .before .args .vs .now in
-    omega (arith, total-more vs i, c .before .before .before .pre .1 .1 i (omega arith))
+    omega (arith, total-take vs i, c .before .before .before .pre .1 .1 i (omega arith))
 
 returns : tie.Need-returns Inv-loop μ-loop
 returns c =

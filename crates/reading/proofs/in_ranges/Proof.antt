@@ -7,75 +7,60 @@ use Rattle.reading.specs.Reading.{rangesOf}
 use Rattle.reading.proofs.in_ranges.Statement.{statement}
 use Rattle.reading.proofs.in_ranges.Tie as tie
 
--- src/lib.rt:190:13
 add-n : tie.Need-add-n
 add-n c = search needs
 
--- src/lib.rt:195:24
 slice-aggregate-within : tie.Need-slice-aggregate-within
 slice-aggregate-within c = search needs
 
--- src/lib.rt:195:9
 within-requires : tie.Need-within-requires
 within-requires c κs =
     let s = c .before .before .before .before .before .before .before in
     let long : length (s .args .r .figures .exposures) ≡ 16 = search needs in
     omega arith
 
--- src/lib.rt:196:24
 slice-aggregate-within-2 : tie.Need-slice-aggregate-within-2
 slice-aggregate-within-2 c = search needs
 
--- src/lib.rt:196:9
 within-requires-2 : tie.Need-within-requires-2
 within-requires-2 c κs =
     let s = c .before .before .before .before .before .before .before .before .before in
     let long : length (s .args .r .figures .indices) ≡ 16 = search needs in
     omega arith
 
--- src/lib.rt:197:25
 slice-aggregate-within-3 : tie.Need-slice-aggregate-within-3
 slice-aggregate-within-3 c = search needs
 
--- src/lib.rt:197:9
 within-requires-3 : tie.Need-within-requires-3
 within-requires-3 c κs =
     let s = c .before .before .before .before .before .before .before .before .before .before .before in
     let long : length (s .args .r .figures .reporting) ≡ 16 = search needs in
     omega arith
 
--- src/lib.rt:198:23
 slice-aggregate-within-4 : tie.Need-slice-aggregate-within-4
 slice-aggregate-within-4 c = search needs
 
--- src/lib.rt:198:9
 within-requires-4 : tie.Need-within-requires-4
 within-requires-4 c κs =
     let s = c .before .before .before .before .before .before .before .before .before .before .before .before .before in
     let long : length (s .args .r .figures .ulae) ≡ 16 = search needs in
     omega arith
 
--- src/lib.rt:199:56
 both-requires : tie.Need-both-requires
 both-requires c κs = search needs
 
--- src/lib.rt:199:43
 both-requires-2 : tie.Need-both-requires-2
 both-requires-2 c κs = search needs
 
--- src/lib.rt:199:31
 both-requires-3 : tie.Need-both-requires-3
 both-requires-3 c κs = search needs
 
--- src/lib.rt:199:17
 both-requires-4 : tie.Need-both-requires-4
 both-requires-4 c κs = search needs
 
--- src/lib.rt:199:5
 both-requires-5 : tie.Need-both-requires-5
 both-requires-5 c κs = search needs
 
--- src/lib.rt:185:1
 returns : tie.Need-returns
 unfolding rangesOf
 returns c =

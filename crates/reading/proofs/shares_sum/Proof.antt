@@ -9,22 +9,18 @@ use Rattle.reading.proofs.Limits.{most}
 use Rattle.reading.proofs.shares_sum.Statement.{statement}
 use Rattle.reading.proofs.shares_sum.Tie as tie
 
--- src/lib.rt:219:12
 slice-aggregate-sum-of : tie.Need-slice-aggregate-sum-of
 slice-aggregate-sum-of c = search needs
 
--- src/lib.rt:219:24
 add-sum-of : tie.Need-add-sum-of
 add-sum-of c = search needs
 
--- src/lib.rt:219:5
 sum-of-requires : tie.Need-sum-of-requires
 sum-of-requires c κs =
     let f = c .before .before .before .args .f in
     let long : length (f .reporting) ≡ 16 = search needs in
     (omega arith, (omega arith, λ i h. most 0 1000000 (f .k + 1) (f .reporting) i h (c .before .before .before .pre .1)))
 
--- src/lib.rt:214:1
 returns : tie.Need-returns
 unfolding sumOf
 returns c = ap (λ (n : ℕ). eqb n 1000000) (c .sum-of .ensures)

@@ -1,0 +1,5 @@
+pub mod Cells
+pub mod Corners
+pub mod Walk
+pub mod Whole
+pub mod Most
