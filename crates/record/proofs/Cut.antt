@@ -1,18 +1,19 @@
--- The fields of a record cut into what a writer is given, and what a writer is given as rows of a record. Assumes nothing.
-use Prim.Native.Nat.{ℕ, _+_, _≤_}
+-- What a writer is given, found among the fields of a record, and as rows of a record: each comes back from the other. Assumes nothing.
+use Prim.Native.Nat.{ℕ, zero, suc, _+_, _≤_}
 use native.Mathlib.Nat.{suc-ne-zero}
 use native.Mathlib.Omega.{arith}
 use mathlib.Core.Path.{_≡_, refl, sym, ap, ap₂, _∙_}
 use mathlib.Core.Bool.{Bool, true, false, cond}
-use mathlib.Core.List.{List, [], _∷_, map, append-nil}
+use mathlib.Core.List.{List, [], _∷_, _++_, map, append-nil}
 use lib.IntN.{ℤ, pos, natAbs}
-use lib.ListN.{length, getD, take, drop, length-append, length-drop, length-map, length-replicate, take-append-drop}
-use lib.Seq.{length-take-le, getD-take}
+use lib.ListN.{length, getD, take, drop, length-append, length-drop, length-map, length-replicate, take-append-drop, List·getD-append}
+use lib.Seq.{sets, length-take-le, getD-take, take-append-le, drop-append-le, sets-eq}
 use Rattle.rules.specs.Lists.{total, every}
 use Rattle.rules.specs.Record.{Kind, million, layout, kindsOf, section, fieldCount, byteCount, inRange, exposuresIn, incrementsIn, indicesIn, reportingIn, weightIn, ulaeIn}
-use Rattle.rules.specs.Writing.{Given, given, givenFields}
+use Rattle.rules.specs.Writing.{Given, given, givenIn, givenFields}
 use Rattle.laws.proofs.Lists.{both-left, both-right}
 use Rattle.layout.proofs.Sections.{join, Shaped, everyRow, length-join, section-join, every-join}
+use Rattle.layout.proofs.Sizes.{fields-count}
 use Rattle.record.proofs.Answers.{Taken}
 use Rattle.record.proofs.Field.{not-below}
 use Rattle.record.proofs.Fields.{RecordFields}
@@ -21,22 +22,22 @@ use Rattle.record.proofs.Fields.{RecordFields}
 abbrev pub cutBy : ℕ → List ℤ → Given
 cutBy k vs = given k (exposuresIn k vs) (incrementsIn k vs) (indicesIn k vs) (reportingIn k vs) (weightIn k vs) (ulaeIn k vs)
 
--- the same, with k the first of the fields
-abbrev pub cut : List ℤ → Given
-cut vs = cutBy (natAbs (getD vs 0 (pos 0))) vs
-
 -- the rows of a list with an entry for each field of a layout
 abbrev pub sectionsOf : {A : Type 0} → List (ℕ × Kind) → List A → List (List A)
 sectionsOf [] xs = []
 sectionsOf (r ∷ rs) xs = take (r .0) xs ∷ sectionsOf rs (drop (r .0) xs)
 
+-- the fields of a layout are those of its first row and those of the others
+fields-row : (r : ℕ × Kind) (rs : List (ℕ × Kind)) → length (kindsOf (r ∷ rs)) ≡ r .0 + length (kindsOf rs)
+unfolding kindsOf
+fields-row r rs = rw (length-append, length-replicate)
+
 module _ {A : Type 0} where
   -- the first row has its length, and so have the others together
   sections-fit : (r : ℕ × Kind) (rs : List (ℕ × Kind)) (xs : List A) → length xs ≡ length (kindsOf (r ∷ rs))
       → (length (take (r .0) xs) ≡ r .0) × (length (drop (r .0) xs) ≡ length (kindsOf rs))
-  unfolding kindsOf
   sections-fit r rs xs e =
-      let l : length xs ≡ r .0 + length (kindsOf rs) = e ∙ rw (length-append, length-replicate) in
+      let l = fields-row r rs in
       (length-take-le (r .0) xs (omega arith), length-drop (r .0) xs ∙ omega arith)
 
   -- each row has its length
@@ -52,6 +53,14 @@ module _ {A : Type 0} where
   join-sections [] [] e = refl
   join-sections [] (x ∷ xs) e = absurd (suc-ne-zero (length xs) e)
   join-sections (r ∷ rs) xs e = rw (join-sections rs (drop (r .0) xs) (sections-fit r rs xs e .1)) (take-append-drop (r .0) xs)
+
+  -- entries past the fields are in no row
+  section-append : (rs : List (ℕ × Kind)) (i : ℕ) (xs ys : List A) → length xs ≡ length (kindsOf rs) → section rs i (xs ++ ys) ≡ section rs i xs
+  unfolding section
+  section-append [] i xs ys e = refl
+  section-append (r ∷ rs) zero xs ys e = take-append-le (r .0) xs ys (omega (arith, fields-row r rs))
+  section-append (r ∷ rs) (suc i) xs ys e =
+      rw (drop-append-le (r .0) xs ys (omega (arith, fields-row r rs))) (section-append rs i (drop (r .0) xs) ys (sections-fit r rs xs e .1))
 
 -- the entries of a row cut out and given back: those of a kind with no sign bit are cut as sizes
 abbrev asGiven : Kind → List ℤ → List ℤ
@@ -127,6 +136,18 @@ module _ (k : ℕ) (vs : List ℤ) (f : RecordFields k vs) where
       let years : take 1 vs ≡ pos k ∷ [] = sym (single (take 1 vs) (pos 0) (cut-shaped .0)) ∙ rw (getD-take 1 vs 0 (pos 0) (omega arith), f .first) in
       rw (years, ← single (map natAbs row5) 0 (length-map row5 natAbs ∙ cut-shaped .1 .1 .1 .1 .1 .0))
 
+  -- the fields first in a list with more entries: what is found there is found among the fields
+  given-first : (ys : List ℤ) → givenIn (vs ++ ys) ≡ cutBy k vs
+  unfolding givenIn fieldCount exposuresIn incrementsIn indicesIn reportingIn weightIn ulaeIn
+  given-first ys =
+      let first : getD (vs ++ ys) 0 (pos 0) ≡ pos k = List·getD-append vs ys (pos 0) 0 (omega (arith, f .size, fields-count k)) ∙ f .first in
+      let row : (i : ℕ) → section (layout k) i (vs ++ ys) ≡ section (layout k) i vs = λ i. section-append (layout k) i vs ys (f .size) in
+      rw (first, row 1, row 2, row 3, row 4, row 5, row 6)
+
+  -- and so of a list that they are stored into
+  pub given-stored : (out : List ℤ) → fieldCount k ≤ length out → givenIn (sets out 0 vs) ≡ cutBy k vs
+  given-stored out room = rw (sets-eq vs out 0 (omega (arith, f .size))) (given-first (drop (0 + length vs) out))
+
   -- what is cut out of the fields of a record has those fields
   pub given-cut : givenFields (cutBy k vs) ≡ vs
   unfolding fieldCount
@@ -175,7 +196,21 @@ module _ (g : Given) (m : ℕ) (t : Taken g m) where
     ranges = t .ranges;
   }
 
-  -- and among them are the reporting shares given
-  pub given-reporting : reportingIn (g .k) (givenFields g) ≡ g .reporting
-  unfolding reportingIn
-  given-reporting = rw (← join-given g, section-join (layout (g .k)) (givenRows g) given-shaped 4) (sizes-again (g .reporting))
+  -- and they come back from them
+  pub given-again : cutBy (g .k) (givenFields g) ≡ g
+  unfolding exposuresIn incrementsIn indicesIn reportingIn weightIn ulaeIn
+  given-again =
+      let row = section-join (layout (g .k)) (givenRows g) given-shaped in
+      rw (
+        ← join-given g,
+        row 1,
+        row 2,
+        row 3,
+        row 4,
+        row 5,
+        row 6,
+        sizes-again (g .exposures),
+        sizes-again (g .indices),
+        sizes-again (g .reporting),
+        sizes-again (g .ulae),
+      )

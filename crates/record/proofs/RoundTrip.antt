@@ -1,20 +1,24 @@
 -- One record for one set of figures: what the reader accepts the writer makes again, what the writer accepts the reader gives back,
--- and two accepted records with the same fields are the same. Assumes nothing.
-use Prim.Native.Nat.{ℕ, _≤_}
+-- and two accepted records with the same fields, the same list or the same figures are the same. Assumes nothing.
+use Prim.Native.Nat.{ℕ, zero, suc, _≤_}
 use native.Mathlib.Omega.{arith}
-use mathlib.Core.Path.{_≡_, sym, ap, ap₂, subst⁻¹, _∙_}
+use mathlib.Core.Path.{_≡_, refl, sym, ap, ap₂, _∙_}
 use mathlib.Core.List.{List}
-use lib.IntN.{ℤ, natAbs}
-use lib.ListN.{length, take}
-use lib.Seq.{sets, sets-eq, take-at}
+use lib.IntN.{ℤ}
+use lib.ListN.{length}
+use lib.Seq.{sets}
 use Rattle.rules.specs.Questions.{afterCall}
-use Rattle.rules.specs.Record.{fieldCount, lastYearOf, fieldsOf, recordOf}
+use Rattle.rules.specs.Record.{fieldCount, byteCount, lastYearOf, fieldsOf, figuresOf, recordOf}
 use Rattle.rules.specs.Reading.{readAnswer, readInto}
-use Rattle.rules.specs.Writing.{Given, givenFields, writeAnswer, writeInto}
+use Rattle.rules.specs.Writing.{Given, givenIn, givenFields, writeAnswer, writeInto}
 use Rattle.rules.specs.Packing.{Fit}
+use Rattle.packing.proofs.Pack.{bytes-small}
 use Rattle.layout.proofs.Sizes.{years-lt}
+use Rattle.reading.specs.Reading.{listOf}
+use Rattle.reading.proofs.Rows.{Whole}
+use Rattle.reading.proofs.Answers.{list-same}
 use Rattle.record.proofs.Answers.{Accepted, Taken, reader-yes, yes-reader, writer-yes, yes-writer}
-use Rattle.record.proofs.Cut.{cut, cutBy, given-cut, cut-taken, given-fields, given-reporting}
+use Rattle.record.proofs.Cut.{cutBy, given-stored, given-cut, cut-taken, given-fields, given-again}
 use Rattle.record.proofs.Fields.{RecordFields}
 use Rattle.record.proofs.Number.{record-made, record-read}
 
@@ -22,13 +26,11 @@ use Rattle.record.proofs.Number.{record-made, record-read}
 accepted-read : (s : List ℕ) (m : ℕ) → Fit 8 s → Accepted s m → RecordFields (lastYearOf s) (fieldsOf s) × (recordOf (lastYearOf s) (fieldsOf s) ≡ s)
 accepted-read s m h a = record-read s h (a .size) (a .filled) (a .ranges)
 
--- what is cut out of the lent list after a reading is cut out of the fields
-cut-read : (s : List ℕ) (out : List ℤ) → RecordFields (lastYearOf s) (fieldsOf s) → readAnswer s (length out) ≡ 0 → fieldCount (lastYearOf s) ≤ length out
-    → cut (take (fieldCount (lastYearOf s)) (readInto s out)) ≡ cutBy (lastYearOf s) (fieldsOf s)
+-- what is found in the lent list after a reading is found among the fields
+given-read : (s : List ℕ) (out : List ℤ) → RecordFields (lastYearOf s) (fieldsOf s) → readAnswer s (length out) ≡ 0 → fieldCount (lastYearOf s) ≤ length out
+    → givenIn (readInto s out) ≡ cutBy (lastYearOf s) (fieldsOf s)
 unfolding readInto afterCall
-cut-read s out f r room =
-    let e : take (fieldCount (lastYearOf s)) (readInto s out) ≡ fieldsOf s = rw (r, sets-eq (fieldsOf s) out 0 (omega arith)) (take-at (fieldsOf s) _ _ (f .size)) in
-    ap cut e ∙ ap (λ (z : ℤ). cutBy (natAbs z) (fieldsOf s)) (f .first)
+given-read s out f r room = rw r (given-stored (lastYearOf s) (fieldsOf s) f out room)
 
 -- the writer makes an accepted record again from what is cut out of its fields
 cut-written : (s : List ℕ) (m : ℕ) (buffer : List ℕ) → Fit 8 s → Accepted s m → length buffer ≡ length s
@@ -44,12 +46,10 @@ cut-written s m buffer h a e =
 
 -- whatever the reader accepts, the writer makes again byte for byte
 pub written-again : (s : List ℕ) (out : List ℤ) (buffer : List ℕ) → Fit 8 s → readAnswer s (length out) ≡ 0 → length buffer ≡ length s
-    → let vs = take (fieldCount (lastYearOf s)) (readInto s out) in
-    (writeAnswer (cut vs) (length buffer) ≡ 0) × (writeInto (cut vs) buffer ≡ s)
+    → (writeAnswer (givenIn (readInto s out)) (length buffer) ≡ 0) × (writeInto (givenIn (readInto s out)) buffer ≡ s)
 written-again s out buffer h r e =
     let a = reader-yes s (length out) r in
-    let c = cut-read s out (accepted-read s (length out) h a .0) r (a .room) in
-    subst⁻¹ (λ (g : Given). (writeAnswer g (length buffer) ≡ 0) × (writeInto g buffer ≡ s)) c (cut-written s (length out) buffer h a e)
+    rw (given-read s out (accepted-read s (length out) h a .0) r (a .room)) (cut-written s (length out) buffer h a e)
 
 -- the reader accepts the record of what a writer takes
 made-accepted : (g : Given) (m n : ℕ) → Taken g m → fieldCount (g .k) ≤ n → Accepted (recordOf (g .k) (givenFields g)) n
@@ -61,17 +61,20 @@ made-accepted g m n t room =
       filled = h .filled;
       room = rw (h .years) room;
       ranges = rw (h .years) (h .ranges);
-      sum = rw (h .years, h .values, given-reporting g m t) (t .sum);
+      sum = rw (h .years, h .values, ap (λ (z : Given). z .reporting) (given-again g m t)) (t .sum);
     }
 
--- whatever the writer accepts, the reader gives back
+-- whatever the writer accepts, the reader gives back, and the lists are found there
 pub read-back : (g : Given) (buffer : List ℕ) (out : List ℤ) → writeAnswer g (length buffer) ≡ 0 → fieldCount (g .k) ≤ length out
-    → (readAnswer (writeInto g buffer) (length out) ≡ 0) × (readInto (writeInto g buffer) out ≡ sets out 0 (givenFields g))
+    → (readAnswer (writeInto g buffer) (length out) ≡ 0)
+    × ((readInto (writeInto g buffer) out ≡ sets out 0 (givenFields g)) × (givenIn (readInto (writeInto g buffer) out) ≡ g))
 unfolding readInto writeInto afterCall
 read-back g buffer out w room =
     let t = writer-yes g (length buffer) w in
+    let f = given-fields g (length buffer) t in
     let r = yes-reader (recordOf (g .k) (givenFields g)) (length out) (made-accepted g (length buffer) (length out) t room) in
-    rw w (r, rw (r, record-made (g .k) (givenFields g) (given-fields g (length buffer) t) .values))
+    let stored = given-stored (g .k) (givenFields g) f out room ∙ given-again g (length buffer) t in
+    rw (w, r, record-made (g .k) (givenFields g) f .values) (refl, (refl, stored))
 
 -- two accepted records with the same fields are the same record
 pub same-record : (s t : List ℕ) (m n : ℕ) → Fit 8 s → Fit 8 t → readAnswer s m ≡ 0 → readAnswer t n ≡ 0 → fieldsOf s ≡ fieldsOf t → s ≡ t
@@ -80,3 +83,40 @@ same-record s t m n hs ht rs rt e =
     let b = accepted-read t n ht (reader-yes t n rt) in
     let k : lastYearOf s ≡ lastYearOf t = cc in
     sym (a .1) ∙ ap₂ recordOf k e ∙ b .1
+
+-- the fields of an accepted record are known from the lent list after the reading
+fields-known : (s : List ℕ) (out : List ℤ) → Fit 8 s → readAnswer s (length out) ≡ 0 → givenFields (givenIn (readInto s out)) ≡ fieldsOf s
+fields-known s out h r =
+    let a = reader-yes s (length out) r in
+    let f = accepted-read s (length out) h a .0 in
+    rw (given-read s out f r (a .room)) (given-cut (lastYearOf s) (fieldsOf s) f)
+
+-- two accepted records that leave the same list are the same record
+pub same-list : (s t : List ℕ) (out out′ : List ℤ) → Fit 8 s → Fit 8 t → readAnswer s (length out) ≡ 0 → readAnswer t (length out′) ≡ 0
+    → readInto s out ≡ readInto t out′ → s ≡ t
+same-list s t out out′ hs ht rs rt e =
+    let fields = sym (fields-known s out hs rs) ∙ ap (λ (l : List ℤ). givenFields (givenIn l)) e ∙ fields-known t out′ ht rt in
+    same-record s t (length out) (length out′) hs ht rs rt fields
+
+-- an accepted record has passed questions 1 and 2
+accepted-whole : (s : List ℕ) (m : ℕ) → Fit 8 s → Accepted s m → Whole s
+accepted-whole s m h a = record { small = h; some = a .years; few = years-lt s h; long = a .size }
+
+-- two accepted records with the same figures are the same record
+pub same-figures : (s t : List ℕ) (m n : ℕ) → Fit 8 s → Fit 8 t → readAnswer s m ≡ 0 → readAnswer t n ≡ 0 → figuresOf s ≡ figuresOf t → s ≡ t
+same-figures s t m n hs ht rs rt e =
+    let listed = list-same s (accepted-whole s m hs (reader-yes s m rs)) in
+    let listed′ = list-same t (accepted-whole t n ht (reader-yes t n rt)) in
+    same-record s t m n hs ht rs rt (sym listed ∙ ap listOf e ∙ listed′)
+
+-- what holds of what is written and of what was held holds after a call
+after-either : {A : Type 0} (P : A → Type 0) (n : ℕ) (written held : A) → P written → P held → P (afterCall n written held)
+unfolding afterCall
+after-either P zero written held w h = w
+after-either P (suc n) written held w h = h
+
+-- a buffer of bytes is one of bytes after the writing
+pub written-bytes : (g : Given) (buffer : List ℕ) → Fit 8 buffer → Fit 8 (writeInto g buffer)
+unfolding writeInto recordOf
+written-bytes g buffer h =
+    after-either (Fit 8) (writeAnswer g (length buffer)) (recordOf (g .k) (givenFields g)) buffer (bytes-small (byteCount (g .k)) _) h

@@ -1,0 +1,60 @@
+-- The two-year record of document 01, computed: the record of its fields, the fields of the record, and the answers of a reader and of a writer.
+-- Assumes nothing.
+use Prim.Native.Nat.{ℕ}
+use mathlib.Core.Path.{_≡_, refl}
+use mathlib.Core.List.{List, [], _∷_, zipWith}
+use lib.IntN.{ℤ, pos}
+use Rattle.rules.specs.Lists.{total}
+use Rattle.rules.specs.Packing.{pack, unpack, numberOf, bytesOf}
+use Rattle.rules.specs.Questions.{firstNo}
+use Rattle.rules.specs.Record.{cells, layout, kindsOf, section, fieldCount, widths, bitCount, byteCount, fillingCount, valueOf, codeOf, inRange, negativeZero, bitsInRange, everyField, lastYearOf, codesOf, fillingOf, fieldsOf, recordOf, reportingIn}
+use Rattle.rules.specs.Reading.{hasLastYear, hasLength, hasRoom, inRanges, sharesSum, readAnswer}
+use Rattle.rules.specs.Writing.{Given, given, givenFields, givenLastYear, givenLengths, givenRanges, givenSum, writeAnswer}
+
+-- k = 1; exposures 1, 1; increments 60, 40, 66; index 1,100,000; reporting shares 800,000, 200,000; weight 500,000; ULAE totals 6, 10
+abbrev pub lists : Given
+lists = given 1 (1 ∷ 1 ∷ []) (pos 60 ∷ pos 40 ∷ pos 66 ∷ []) (1100000 ∷ []) (800000 ∷ 200000 ∷ []) 500000 (6 ∷ 10 ∷ [])
+
+-- its fields in the record's order
+abbrev pub fields : List ℤ
+fields =
+    pos 1
+    ∷ pos 1
+    ∷ pos 1
+    ∷ pos 60
+    ∷ pos 40
+    ∷ pos 66
+    ∷ pos 1100000
+    ∷ pos 800000
+    ∷ pos 200000
+    ∷ pos 500000
+    ∷ pos 6
+    ∷ pos 10
+    ∷ []
+
+-- its 38 bytes: hexadecimal 100001000010000000780000000a00000002110c8e0c350030d407a1200000000180000000a0
+abbrev pub bytes : List ℕ
+bytes =
+    16 ∷ 0 ∷ 1 ∷ 0 ∷ 0 ∷ 16 ∷ 0 ∷ 0 ∷ 0 ∷ 120 ∷ 0 ∷ 0 ∷ 0
+    ∷ 10 ∷ 0 ∷ 0 ∷ 0 ∷ 2 ∷ 17 ∷ 12 ∷ 142 ∷ 12 ∷ 53 ∷ 0 ∷ 48 ∷ 212
+    ∷ 7 ∷ 161 ∷ 32 ∷ 0 ∷ 0 ∷ 0 ∷ 1 ∷ 128 ∷ 0 ∷ 0 ∷ 0 ∷ 160 ∷ []
+
+-- the record of the fields
+pub fields-record : recordOf 1 fields ≡ bytes
+unfolding recordOf bytesOf byteCount bitCount fillingCount widths layout kindsOf cells total pack unpack codeOf zipWith
+fields-record = refl
+
+-- the fields of the record
+pub record-fields : fieldsOf bytes ≡ fields
+unfolding fieldsOf codesOf lastYearOf numberOf byteCount bitCount fillingCount widths layout kindsOf cells total pack unpack valueOf zipWith
+record-fields = refl
+
+-- the reader accepts it with room for its 12 fields, and asks for room where there is less
+pub record-read : (readAnswer bytes 12 ≡ 0) × (readAnswer bytes 11 ≡ 3)
+unfolding readAnswer firstNo hasLastYear hasLength hasRoom inRanges sharesSum fieldsOf codesOf lastYearOf fillingOf numberOf fieldCount byteCount bitCount fillingCount widths layout kindsOf section reportingIn cells total pack unpack valueOf inRange negativeZero bitsInRange everyField zipWith
+record-read = (refl, refl)
+
+-- the lists have the fields, and the writer accepts them with a buffer of 38 bytes
+pub lists-written : (givenFields lists ≡ fields) × (writeAnswer lists 38 ≡ 0)
+unfolding writeAnswer firstNo givenFields givenLastYear givenLengths givenRanges givenSum byteCount bitCount widths layout kindsOf cells total inRange everyField
+lists-written = (refl, refl)
