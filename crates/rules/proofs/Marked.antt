@@ -2,15 +2,33 @@
 -- Assumes nothing.
 use Prim.Native.Nat.{ℕ}
 use mathlib.Core.Path.{_≡_, refl}
-use mathlib.Core.List.{List, [], _∷_, map}
+use mathlib.Core.List.{List, [], _∷_, map, zipWith}
 use lib.IntN.{ℤ, pos, negsuc}
-use Rattle.rules.specs.Lists.{upTo}
-use Rattle.rules.specs.Triangle.{averageOf, nearest, cellsTotal, cellOf, columnTotal, diagonalTotal, cornerTotal, sumTo}
-use Rattle.rules.specs.Separation.{columnOf, diagonalOf, cornerOf, runningDown, runningOf, shareOf, levelOf}
+use lib.ListN.{getD, replicate}
+use Rattle.rules.specs.Lists.{total, upTo, padded, every}
+use Rattle.rules.specs.Packing.{pack, unpack, numberOf, bytesOf}
+use Rattle.rules.specs.Questions.{firstNo, afterCall}
+use Rattle.rules.specs.Record.{cells, layout, kindsOf, section, widths, bitCount, byteCount, fillingCount, valueOf, codeOf, inRange, negativeZero, bitsInRange, everyField, lastYearOf, codesOf, fillingOf, fieldsOf, recordOf, exposuresIn, incrementsIn, indicesIn, reportingIn, weightIn, ulaeIn, figuresOf}
+use Rattle.rules.specs.Reading.{hasLastYear, hasLength, inRanges, sharesSum}
+use Rattle.rules.specs.Writing.{given, givenFields}
+use Rattle.rules.specs.Triangle.{rowStart, paidOf, sumTo, cumulativeOf, everyCell, cumulativesPass, nearest, averageOf, averageRow, averagesOf, cellOf, cellsTotal, columnTotal, diagonalTotal, cornerTotal, allTotal}
+use Rattle.rules.specs.Separation.{columnOf, diagonalOf, cornerOf, runningDown, runningOf, shareOf, levelOf, totalsPass, restsPass, runningPass, levelsPass, factorsOf}
+use Rattle.rules.specs.Completion.{futureLevel, payment, paymentRow, provision, paidTo, ultimate, ultimatesPass}
+use Rattle.rules.specs.Expense.{paidTotal, ulaeTotal, ratioPass, ratioOf, reportedAfter, notReported, weighted, reserve}
+use Rattle.rules.specs.Ladder.{givenCumulative, developed, base, developmentFactor, completed, completedRow, factorsPass, completedPass}
+use Rattle.rules.specs.Results.{squareOf, latestOf, factorsIn, joined, sections, resultsOf, sectionCounts, resultCount, placeOf}
+use Rattle.rules.specs.Engine.{figureQuestions, holdsList, questions, runAnswer, runInto}
 
--- numbers as signed entries
-abbrev entries : List ℕ → List ℤ
-entries xs = map pos xs
+-- the record of two years, n 1, 1; e 1,100,000; b 800,000, 200,000; w 500,000, with these cells and ULAE totals
+abbrev twoYears : List ℤ → List ℕ → List ℕ
+twoYears p u = recordOf 1 (givenFields (given 1 (1 ∷ 1 ∷ []) p (1100000 ∷ []) (800000 ∷ 200000 ∷ []) 500000 u))
+
+-- the answer to that record with a buffer of twenty entries, and what the buffer, zeros before, holds then
+abbrev answer : List ℤ → List ℕ → ℤ
+answer p u = pos (runAnswer (twoYears p u) 20)
+
+abbrev list : List ℤ → List ℕ → List ℤ
+list p u = runInto (twoYears p u) (replicate 20 (pos 0))
 
 -- the averages of the motor account of document 004, in tenths, every exposure 1
 abbrev motor : List (List ℤ)
@@ -23,14 +41,30 @@ motor =
 
 abbrev pub marked : List (List ℤ × List ℤ)
 marked = (
-  averageOf (pos 1) 8 ∷ averageOf (negsuc 0) 8 ∷ averageOf (pos 1) 3 ∷ averageOf (pos 1) 200 ∷ averageOf (pos 1) 201 ∷ [],
-  pos 13 ∷ negsuc 12 ∷ pos 33 ∷ pos 1 ∷ pos 0 ∷ [],
+  list (pos 60 ∷ pos 40 ∷ pos 66 ∷ []) (6 ∷ 10 ∷ []),
+  pos 6000 ∷ pos 4000 ∷ pos 6600 ∷ pos 622641509 ∷ pos 377358491 ∷ pos 9636 ∷ pos 10600 ∷ pos 11660 ∷ pos 44 ∷ pos 0 ∷ pos 44 ∷ pos 44 ∷ pos 0 ∷ pos 22 ∷ pos 0 ∷ pos 3 ∷ pos 3 ∷ pos 96385 ∷ pos 1666666 ∷ pos 109 ∷ [],
 )
-    ∷ (entries (upTo (shareOf motor 3) 4), pos 583475514 ∷ pos 287767456 ∷ pos 86614799 ∷ pos 42142231 ∷ [])
-    ∷ (entries (upTo (levelOf motor 3) 4), pos 86378 ∷ pos 98939 ∷ pos 101998 ∷ pos 113900 ∷ [])
+    ∷ (map pos (upTo (shareOf motor 3) 4), pos 583475514 ∷ pos 287767456 ∷ pos 86614799 ∷ pos 42142231 ∷ [])
+    ∷ (map pos (upTo (levelOf motor 3) 4), pos 86378 ∷ pos 98939 ∷ pos 101998 ∷ pos 113900 ∷ [])
+    ∷ (
+      averageOf (pos 1) 8 ∷ averageOf (negsuc 0) 8 ∷ averageOf (pos 1) 3 ∷ averageOf (pos 1) 200 ∷ averageOf (pos 1) 201 ∷ [],
+      pos 13 ∷ negsuc 12 ∷ pos 33 ∷ pos 1 ∷ pos 0 ∷ [],
+    )
+    ∷ (answer (pos 60 ∷ pos 40 ∷ pos 0 ∷ []) (6 ∷ 10 ∷ []) ∷ [], pos 8 ∷ [])
+    ∷ (answer (pos 0 ∷ pos 40 ∷ pos 66 ∷ []) (6 ∷ 10 ∷ []) ∷ [], pos 13 ∷ [])
+    ∷ (answer (pos 60 ∷ pos 40 ∷ pos 66 ∷ []) (6 ∷ 161 ∷ []) ∷ [], pos 12 ∷ [])
+    ∷ (
+      answer (pos 60 ∷ pos 40 ∷ pos 66 ∷ []) (6 ∷ 160 ∷ []) ∷ getD (list (pos 60 ∷ pos 40 ∷ pos 66 ∷ []) (6 ∷ 160 ∷ [])) (placeOf 1 10) (pos 0) ∷ [],
+      pos 0 ∷ pos 1000000 ∷ [],
+    )
     ∷ []
 
 -- the rules give what is printed, in every row
 pub marked-hold : map (λ row. row .0) marked ≡ map (λ row. row .1) marked
-unfolding averageOf nearest upTo shareOf levelOf runningOf runningDown columnOf diagonalOf cornerOf columnTotal diagonalTotal cornerTotal cellsTotal cellOf sumTo
+unfolding total upTo padded every pack unpack numberOf bytesOf firstNo afterCall cells layout kindsOf section widths bitCount byteCount fillingCount valueOf codeOf inRange negativeZero bitsInRange everyField lastYearOf codesOf fillingOf fieldsOf recordOf exposuresIn incrementsIn indicesIn reportingIn weightIn ulaeIn figuresOf hasLastYear hasLength inRanges sharesSum givenFields rowStart paidOf sumTo cumulativeOf everyCell cumulativesPass nearest averageOf averageRow averagesOf cellOf cellsTotal columnTotal diagonalTotal cornerTotal allTotal columnOf diagonalOf cornerOf runningDown runningOf shareOf levelOf totalsPass restsPass runningPass levelsPass factorsOf futureLevel payment paymentRow provision paidTo ultimate ultimatesPass paidTotal ulaeTotal ratioPass ratioOf reportedAfter notReported weighted reserve givenCumulative developed base developmentFactor completed completedRow factorsPass completedPass squareOf latestOf factorsIn joined sections resultsOf sectionCounts resultCount placeOf figureQuestions holdsList questions runAnswer runInto zipWith
 marked-hold = refl
+
+-- the lengths of the result list that document 01 names
+pub result-counts : (resultCount 1 ≡ 20) × (resultCount 15 ≡ 489)
+unfolding resultCount sectionCounts total cells
+result-counts = (refl, refl)

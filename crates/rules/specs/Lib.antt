@@ -8,3 +8,9 @@ pub mod Triangle
 pub mod Separation
 pub mod Exact
 pub mod Accuracy
+pub mod Completion
+pub mod Expense
+pub mod Ladder
+pub mod Results
+pub mod Engine
+pub mod Demand
