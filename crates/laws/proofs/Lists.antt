@@ -11,7 +11,7 @@ use borrow.Author.Tests.{leb-true}
 use lib.Dec.{leb}
 use lib.ListN.{length, getD, set, take, replicate, length-append, List·getD-append}
 use lib.Seq.{getD-at, set-at, append-snoc, take-nil, take-suc}
-use Rattle.rules.specs.Lists.{total, upTo, padded, every, between}
+use Rattle.rules.specs.Lists.{total, upTo, below, padded, every, between}
 
 -- n values
 pub length-upTo : {A : Type 0} (f : ℕ → A) (n : ℕ) → length (upTo f n) ≡ n
@@ -107,3 +107,14 @@ at-most least most (x ∷ xs) h (suc i) = at-most least most xs (both-right (bet
 -- what a test says of entry i of f 0, .., f (n − 1)
 pub every-upTo : {A : Type 0} (p : A → Bool) (f : ℕ → A) (n i : ℕ) → every p (upTo f n) ≡ true → i < n → p (f i) ≡ true
 every-upTo p f n i e h = rw (getD-upTo f n i (f i) h) at (every-at p (upTo f n) i (f i) (rw (length-upTo f n) h) e)
+
+-- the numbers below n, one by one
+module _ (p : ℕ → Bool) where
+  -- one number more
+  pub below-more : (n : ℕ) → every p (below n) ≡ true → p n ≡ true → every p (below (n + 1)) ≡ true
+  unfolding upTo every
+  below-more n h e = rw (add-one n, every-append p (upTo (λ i. i) n) (n ∷ []), h, e)
+
+  -- one number that fails
+  pub below-fails : (n i : ℕ) → i < n → p i ≡ false → every p (below n) ≡ false
+  below-fails n i l e = every-fails p (below n) i 0 (rw (length-upTo (λ (j : ℕ). j) n) l) (rw (getD-upTo (λ (j : ℕ). j) n i 0 l) e)

@@ -1,0 +1,49 @@
+-- Signed numbers by their sizes: what fits 64 bits, and the sizes of sums, multiples and quotients. Assumes nothing.
+use mathlib.Core.Path.{_≡_, refl}
+use mathlib.Core.Bool.{Bool, true, false, cond}
+use Prim.Native.Nat.{ℕ, zero, suc, _+_, _-_, _*_, _/_, _^_, _≤_, _<_}
+use native.Mathlib.Nat.{zero-div}
+use native.Mathlib.Omega.{arith}
+use lib.Dec.{ltb}
+use lib.IntN.{ℤ, pos, negsuc, natAbs, _+ℤ_, _*ℤ_}
+use lib.Signed.{quotZ}
+use mir.Syntax.{w64}
+use mir.Val.{SFits, toZ, ofZ}
+use Rattle.rules.specs.Record.{signedOf}
+
+-- what a local that was set to z is read as
+abbrev pub held : ℤ → ℤ
+held z = toZ w64 (ofZ w64 z)
+
+-- a number whose size is below 2 ^ 63 fits
+pub size-fits : (z : ℤ) → natAbs z < 2 ^ 63 → SFits w64 z
+size-fits (pos n) h = record { sfits = h }
+size-fits (negsuc n) h = record { sfits = omega arith }
+
+-- the size of a sum is at most the sum of the sizes
+cond-size : (t : Bool) (a b : ℕ) → natAbs (cond t (negsuc (suc b - suc a)) (pos (a - suc b))) ≤ a + suc b
+cond-size true a b = omega arith
+cond-size false a b = omega arith
+
+pub sum-size : (x y : ℤ) → natAbs (x +ℤ y) ≤ natAbs x + natAbs y
+sum-size (pos a) (pos b) = omega arith
+sum-size (pos a) (negsuc b) = cond-size (ltb a (suc b)) a b
+sum-size (negsuc a) (pos b) = omega (arith, cond-size (ltb b (suc a)) b a)
+sum-size (negsuc a) (negsuc b) = omega arith
+
+-- the size of a size with a sign
+pub signed-size : (b n : ℕ) → natAbs (signedOf b n) ≡ n
+signed-size zero n = refl
+signed-size (suc b) zero = refl
+signed-size (suc b) (suc n) = refl
+
+-- the size of a multiple
+pub times-size : (k : ℕ) (z : ℤ) → natAbs (pos k *ℤ z) ≡ k * natAbs z
+times-size k (pos n) = refl
+times-size k (negsuc n) = signed-size 1 (k * suc n)
+
+-- division toward zero keeps the sign and divides the size
+pub signed-quotient : (b m n : ℕ) → quotZ (signedOf b m) (pos n) ≡ signedOf b (m / n)
+signed-quotient zero m n = refl
+signed-quotient (suc b) zero n = rw (zero-div n)
+signed-quotient (suc b) (suc m) n = refl
