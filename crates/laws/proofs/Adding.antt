@@ -13,7 +13,7 @@ use Rattle.laws.proofs.Signed.{held, size-fits, sum-size}
 
 module _ (f : ℕ → ℤ) (b : ℕ) (small : (i : ℕ) → natAbs (f i) ≤ b) where
   -- the size of the sum of n terms of at most b
-  sumTo-size : (n : ℕ) → natAbs (sumTo f n) ≤ n * b
+  pub sumTo-size : (n : ℕ) → natAbs (sumTo f n) ≤ n * b
   unfolding sumTo
   sumTo-size zero = zero-le
   sumTo-size (suc n) = omega (arith, sum-size (sumTo f n) (f n), sumTo-size n, small n, suc-mul n b)

@@ -1,0 +1,105 @@
+-- Payments, provisions and reserves, with their totals, are within their allowances of an exact solution carried on unrounded. Assumes nothing.
+use mathlib.Core.Path.{_≡_, ap}
+use mathlib.Core.List.{List}
+use Prim.Native.Nat.{ℕ, suc, _+_, _*_, _-_, _/_, _≤_, _<_}
+use native.Mathlib.Nat.{le-of-lt, mul-comm, mul-le-mul, mul-le-mul-left, mul-le-mul-right, div-mul-le-self, lt-div-mul-add}
+use native.Mathlib.Omega.{arith}
+use lib.IntN.{ℤ, pos, natAbs, _-ℤ_, _*ℤ_}
+use lib.ListN.{getD}
+use Rattle.rules.specs.Lists.{total, upTo}
+use Rattle.rules.specs.Record.{million}
+use Rattle.rules.specs.Triangle.{sumTo}
+use Rattle.rules.specs.Separation.{billion}
+use Rattle.rules.specs.Completion.{futureLevel, payment, paymentRow, provision, paidTo, ultimate}
+use Rattle.rules.specs.Expense.{ratioOf, reportedAfter, notReported, weighted, reserve}
+use Rattle.rules.specs.Demand.{Within, exactPayment, paymentOver, exactProvision, exactNotReported, exactWeighted, exactReserve, reserveOver, paymentAllowance, provisionAllowance, reserveAllowance}
+use Rattle.rules.specs.declared.Figures.{Figures}
+use Rattle.laws.proofs.Diff.{up, dn, is-pos, is-self, is-add, is-minus, is-mul}
+use Rattle.allowance.proofs.Rates.{Rates}
+use Rattle.allowance.proofs.Within.{is-size, Near, near-of, within-of, near-same, near-add, near-times, near-floor, near-finer, near-coarser, within-sum}
+
+-- figures f, a latest diagonal d and printed shares r within the rules' limits, and near the exact shares x / D
+pub record Basis (f : Figures) (d : ℕ) (r : List ℕ) (D : ℕ) (x : ℕ → ℤ) : Type 0 where
+  pub latest : d ≤ billion
+  pub indices : (t : ℕ) → t < f .k → getD (f .indices) t 0 ≤ 5000000
+  pub share-most : (j : ℕ) → j ≤ f .k → getD r j 0 ≤ billion
+  pub share-near : (j : ℕ) → j ≤ f .k → natAbs ((pos billion *ℤ x j) -ℤ pos (getD r j 0 * D)) < (suc (f .k) - j) * D
+
+-- a share r near x = a − b over D, times the floor of a level q / M, before it is divided by S
+unit-step : (S M D K q L r a b : ℕ) → L * M ≤ q → q ≤ L * M + M → q ≤ 5 * (S * M) → r ≤ S →
+    S * a ≤ S * b + r * D + K * D → S * b + r * D ≤ S * a + K * D → Near (r * L) (S * (q * a)) (S * (q * b)) (D * M) (100 * (5 * K + 1) * S)
+unit-step S M D K q L r a b l h most rs below above = record {
+  above = omega (arith, mul-le-mul-left (r * D) l, mul-le-mul-left q above, mul-le-mul-right (K * D) most);
+  below = omega (arith, mul-le-mul-left (r * D) h, mul-le-mul-left q below, mul-le-mul-right (K * D) most, mul-le-mul-right (D * M) rs);
+}
+
+-- a payment, n claims of a unit each
+payment-step : (S M D K q r n a b : ℕ) → 0 < S → 0 < M → q ≤ 5 * (S * M) → r ≤ S →
+    S * a ≤ S * b + r * D + K * D → S * b + r * D ≤ S * a + K * D →
+    Near (n * (r * (q / M) / S) / 100) (n * (q * a)) (n * (q * b)) (D * M * 100) (n * (5 * K + 2) + 100)
+payment-step S M D K q r n a b sp mp most rs below above =
+    near-floor 100 (n * (5 * K + 2) + 100) (omega arith) (omega arith)
+    (near-times n
+    (near-coarser S sp
+    (near-floor S (100 * (5 * K + 2)) sp (omega arith)
+    (unit-step S M D K q (q / M) r a b (div-mul-le-self q M) (le-of-lt (lt-div-mul-add mp)) most rs below above))))
+
+-- a reserve: a cumulative P and a provision R, the part B not yet reported of their sum, the weighted mean with the provision, and the ratio p of it
+reserve-step : (M P B w v p : ℕ) {R a b o c : ℕ} → 0 < M → B ≤ M → w + v ≡ M → p ≤ M → Near R a b o c →
+    Near (p * ((w * ((P + R) * B / M) + v * R) / M) / M) (p * (w * (B * (P * o + a)) + v * (M * a))) (p * (w * (B * b) + v * (M * b)))
+    (o * M * M * M) (c + 300)
+reserve-step M P B w v p {R} {a} {b} {o} {c} mp bm wv pm n =
+    let whole : Near (P + R) (P * o + a) b o c = record { above = omega arith; below = omega arith } in
+    let rest : Near ((P + R) * B / M) (B * (P * o + a)) (B * b) (o * M) (c + 100)
+    = rw (mul-comm (P + R) B) (near-floor M (c + 100) mp (omega (arith, mul-le-mul-left c bm)) (near-times B whole)) in
+    let mean : Near ((w * ((P + R) * B / M) + v * R) / M) (w * (B * (P * o + a)) + v * (M * a)) (w * (B * b) + v * (M * b)) (o * M * M) (c + 200)
+    = near-floor M (c + 200) mp (omega (arith, ap (λ (z : ℕ). (c + 100) * z) wv)) (near-add (near-times w rest) (near-times v (near-finer M n))) in
+    near-floor M (c + 300) mp (omega (arith, mul-le-mul-left (c + 200) pm)) (near-times p mean)
+
+module _ (f : Figures) (d : ℕ) (r : List ℕ) (D : ℕ) (x : ℕ → ℤ) (basis : Basis f d r D x) where
+  -- a payment
+  pub payment-near : (i j : ℕ) → i ≤ f .k → j ≤ f .k → f .k < i + j → Within (payment f d r i j) (exactPayment f d x i j) (paymentOver D) (paymentAllowance f i j)
+  unfolding payment futureLevel exactPayment paymentAllowance
+  payment-near i j il jl lt =
+      let t : ℕ = i + j - f .k - 1 in
+      let e : ℕ = getD (f .indices) t 0 in
+      let K : suc (f .k) - j ≡ f .k + 1 - j = omega arith in
+      let near = rw K at (basis .share-near j jl) in
+      let s = is-size (is-minus (is-mul (is-pos billion) (is-self (x j))) (is-pos (getD r j 0 * D))) in
+      let q : d * e ≤ 5 * (billion * million) = omega (arith, mul-le-mul (basis .latest) (basis .indices t (omega arith))) in
+      let n
+      = payment-step billion million D (f .k + 1 - j) (d * e) (getD r j 0) (getD (f .exposures) i 0) (up (x j)) (dn (x j)) (omega arith) (omega arith) q
+      (basis .share-most j jl) (omega arith) (omega arith) in
+      within-of _ (paymentOver D) _ (is-mul (is-pos _) (is-self (x j))) (near-same (omega arith) (omega arith) n)
+
+  -- a provision
+  pub provision-near : (i : ℕ) → i ≤ f .k → Within (provision f d r i) (exactProvision f d x i) (paymentOver D) (provisionAllowance f i)
+  unfolding provision paymentRow exactProvision provisionAllowance
+  provision-near i il =
+      within-sum (λ m. payment f d r i (f .k + 1 - i + m)) (λ m. exactPayment f d x i (f .k + 1 - i + m)) (λ m. paymentAllowance f i (f .k + 1 - i + m)) (paymentOver D) i
+      (λ m l. payment-near i (f .k + 1 - i + m) il (omega arith) (omega arith))
+
+  -- the total of the provisions
+  pub provisions-near : Within (total (upTo (provision f d r) (f .k + 1))) (sumTo (exactProvision f d x) (f .k + 1)) (paymentOver D)
+      (total (upTo (provisionAllowance f) (f .k + 1)))
+  provisions-near =
+      within-sum (provision f d r) (exactProvision f d x) (provisionAllowance f) (paymentOver D) (f .k + 1) (λ i l. provision-near i (omega arith))
+
+  module _ (rates : Rates f) where
+    -- a reserve
+    pub reserve-near : (i : ℕ) → i ≤ f .k → Within (reserve f d r i) (exactReserve f d D x (ratioOf f) i) (reserveOver D) (reserveAllowance f i)
+    unfolding reserve weighted notReported ultimate exactReserve exactWeighted exactNotReported reserveAllowance
+    reserve-near i il =
+        let z = is-self (exactProvision f d x i) in
+        let n
+        = reserve-step million (paidTo f i) (reportedAfter f i) (f .weight) (million - f .weight) (ratioOf f) (omega arith) (rates .reporting i il)
+        (omega (arith, rates .weight)) (rates .ratio) (near-of _ (paymentOver D) _ z (provision-near i il)) in
+        within-of _ (reserveOver D) _
+        (is-mul (is-pos _) (is-add (is-mul (is-pos _) (is-mul (is-add (is-pos _) z) (is-pos _))) (is-mul (is-pos _) z)))
+        (near-same (omega arith) (omega arith) n)
+
+    -- the total of the reserves
+    pub reserves-near : Within (total (upTo (reserve f d r) (f .k + 1))) (sumTo (exactReserve f d D x (ratioOf f)) (f .k + 1)) (reserveOver D)
+        (total (upTo (reserveAllowance f) (f .k + 1)))
+    reserves-near =
+        within-sum (reserve f d r) (exactReserve f d D x (ratioOf f)) (reserveAllowance f) (reserveOver D) (f .k + 1) (λ i l. reserve-near i (omega arith))
