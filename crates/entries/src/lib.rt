@@ -56,9 +56,9 @@ pub fn within(vs: &[u64], n: usize, least: u64, most: u64) -> bool
     true
 }
 
-// The sum of the first n of vs, at most sixteen numbers up to a million.
+// The sum of the first n of vs, at most sixteen numbers up to 10^12.
 pub fn sum_of(vs: &[u64], n: usize) -> u64
-    requires { ⌜ (n ≤ length (now vs)) × ((n ≤ 16) × ((i : ℕ) → i < n → getD (now vs) i 0 ≤ 1000000)) ⌝ }
+    requires { ⌜ (n ≤ length (now vs)) × ((n ≤ 16) × ((i : ℕ) → i < n → getD (now vs) i 0 ≤ 1000000000000)) ⌝ }
     ensures { λ r. ⌜ r ≡ total (take n (now (vs .entry))) ⌝ }
 {
     let mut sum: u64 = 0;

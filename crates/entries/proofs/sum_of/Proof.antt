@@ -10,7 +10,7 @@ use Rattle.entries.proofs.sum_of.Statement.{statement}
 use Rattle.entries.proofs.sum_of.Tie as tie
 
 abbrev Inv-loop : tie.InvT-loop
-Inv-loop vs n sum₀ i₀ sum i = (i ≤ n) × (sum ≡ total (take i vs)) × (sum ≤ 1000000 * i)
+Inv-loop vs n sum₀ i₀ sum i = (i ≤ n) × (sum ≡ total (take i vs)) × (sum ≤ 1000000000000 * i)
 
 abbrev μ-loop : tie.MeasureT-loop
 μ-loop vs n sum₀ i₀ sum i = n - i

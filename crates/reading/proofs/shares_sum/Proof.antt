@@ -19,7 +19,7 @@ sum-of-requires : tie.Need-sum-of-requires
 sum-of-requires c κs =
     let f = c .before .before .before .args .f in
     let long : length (f .reporting) ≡ 16 = search needs in
-    (omega arith, (omega arith, λ i h. most 0 1000000 (f .k + 1) (f .reporting) i h (c .before .before .before .pre .1)))
+    (omega arith, (omega arith, λ i h. omega (arith, most 0 1000000 (f .k + 1) (f .reporting) i h (c .before .before .before .pre .1))))
 
 returns : tie.Need-returns
 unfolding sumOf

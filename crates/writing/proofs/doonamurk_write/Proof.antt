@@ -3,9 +3,10 @@
 use mathlib.Core.Path.{_≡_, sym, _∙_}
 use mathlib.Core.Bool.{true}
 use native.Mathlib.Omega.{arith}
-use native.Mathlib.Nat.{le-refl}
+use native.Mathlib.Nat.{le-refl, le-trans}
 use borrow.Author.Needs.{needs}
 use borrow.Author.Tests.{eq-eqb, ne-eqb, not-true, not-false}
+use lib.Dec.{lit≤}
 use lib.ListN.{length}
 use lib.Seq.{take-length}
 use Rattle.rules.specs.Lists.{total}
@@ -109,7 +110,7 @@ sum-of-requires c κs =
     let w = writable c in
     let long = lengths-are g (length (s .args .buffer .now)) (w .lengths) .reporting in
     let few = few-years g (w .years) in
-    (le-refl _, (rw long (omega arith), λ i l. at-most 0 1000000 (g .reporting) (ranges-hold g (w .ranges) .reporting) i))
+    (le-refl _, (rw long (omega arith), λ i l. le-trans (at-most 0 1000000 (g .reporting) (ranges-hold g (w .ranges) .reporting) i) (lit≤ tt)))
 
 returns-4 : tie.Need-returns-4
 unfolding givenSum
