@@ -1,5 +1,5 @@
 -- Laws of the rules' words for lists: `upTo`, `padded`, `total` and `every`. Assumes nothing.
-use mathlib.Core.Path.{_≡_, refl, sym, ap, _∙_}
+use mathlib.Core.Path.{_≡_, refl, sym, ap, ap₂, _∙_}
 use mathlib.Core.Bool.{Bool, true, false, _&&_, and-assoc, and-false}
 use mathlib.Core.List.{List, [], _∷_, _++_}
 use Prim.Native.Nat.{ℕ, zero, suc, _+_, _-_, _≤_, _<_, zero-le}
@@ -118,3 +118,26 @@ module _ (p : ℕ → Bool) where
   -- one number that fails
   pub below-fails : (n i : ℕ) → i < n → p i ≡ false → every p (below n) ≡ false
   below-fails n i l e = every-fails p (below n) i 0 (rw (length-upTo (λ (j : ℕ). j) n) l) (rw (getD-upTo (λ (j : ℕ). j) n i 0 l) e)
+
+-- two answers that are yes together
+pub same-answer : (a b : Bool) → (a ≡ true → b ≡ true) → (b ≡ true → a ≡ true) → a ≡ b
+same-answer true b f g = sym (f refl)
+same-answer false true f g = g refl
+same-answer false false f g = refl
+
+-- two tests that agree value by value
+pub every-same : {A B : Type 0} (p : A → Bool) (q : B → Bool) (f : ℕ → A) (g : ℕ → B) (n : ℕ)
+    → ((i : ℕ) → i < n → p (f i) ≡ q (g i)) → every p (upTo f n) ≡ every q (upTo g n)
+unfolding every upTo
+every-same p q f g zero e = refl
+every-same p q f g (suc n) e =
+    let last : every p (f n ∷ []) ≡ every q (g n ∷ []) = rw (e n (omega arith)) in
+    every-append p (upTo f n) (f n ∷ [])
+    ∙ ap₂ (λ (a b : Bool). a && b) (every-same p q f g n (λ i l. e i (omega arith))) last
+    ∙ sym (every-append q (upTo g n) (g n ∷ []))
+
+-- every value passes
+pub every-yes : {A : Type 0} (p : A → Bool) (f : ℕ → A) (n : ℕ) → ((i : ℕ) → i < n → p (f i) ≡ true) → every p (upTo f n) ≡ true
+unfolding every upTo
+every-yes p f zero e = refl
+every-yes p f (suc n) e = rw (every-append p (upTo f n) (f n ∷ []), every-yes p f n (λ i l. e i (omega arith)), e n (omega arith))

@@ -1,0 +1,9 @@
+pub mod Zero
+pub mod Filled
+pub mod Sizes
+pub mod Every
+pub mod Steps
+pub mod Answers
+pub mod Totals
+pub mod Years
+pub mod Questions
