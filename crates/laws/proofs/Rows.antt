@@ -1,22 +1,25 @@
 -- Where the rows of a triangle start among its cells: the rows before and the rows after, and that every row ends within 136. Assumes nothing.
-use mathlib.Core.Path.{_≡_, ap}
-use Prim.Native.Nat.{ℕ, zero, suc, _+_, _-_, _≤_, _<_}
-use native.Mathlib.Nat.{sub-zero}
+use mathlib.Core.Path.{_≡_, refl, ap}
+use Prim.Native.Nat.{ℕ, zero, suc, _+_, _-_, _*_, _≤_, _<_}
+use native.Mathlib.Nat.{sub-zero, mul-le-mul}
+use native.Mathlib.Numerals.{add-one}
 use native.Mathlib.Omega.{arith}
-use lib.Dec.{lit≤}
 use Rattle.rules.specs.Record.{cells}
 use Rattle.rules.specs.Triangle.{rowStart}
 
--- the triangle of the years 0 to k, d short of sixteen years, has at most 136 cells
-cells-most : (d k : ℕ) → d + k ≡ 15 → cells k ≤ 136
+-- the cells are half of (k + 1) (k + 2), and at most 136
+pub cells-twice : (k : ℕ) → 2 * cells k ≡ (k + 1) * (k + 2)
 unfolding cells
-cells-most zero k e =
-    let is : k ≡ 15 = omega arith in
-    rw is (lit≤ tt)
-cells-most (suc d) k e = omega (arith, cells-most d (suc k) (omega arith))
+cells-twice zero = refl
+cells-twice (suc k) = omega (arith, cells-twice k)
+
+pub cells-most : (k : ℕ) → k < 16 → cells k ≤ 136
+cells-most k h =
+    let m : (k + 1) * (k + 2) ≤ 16 * 17 = mul-le-mul {n₂ = 16} {m₂ = 17} (omega arith) (omega arith) in
+    omega (arith, cells-twice k)
 
 -- and at least those of its first row
-cells-least : (k : ℕ) → k < cells k
+pub cells-least : (k : ℕ) → k < cells k
 unfolding cells
 cells-least zero = omega arith
 cells-least (suc k) = omega (arith, cells-least k)
@@ -31,4 +34,20 @@ rows-from k (suc i) h =
 
 -- row i ends within 136 cells
 pub row-room : (k i : ℕ) → k < 16 → i ≤ k → rowStart k i + (k + 1 - i) ≤ 136
-row-room k i h l = omega (arith, rows-from k i l, cells-least (k - i), cells-most (15 - k) k (omega arith))
+row-room k i h l = omega (arith, rows-from k i l, cells-least (k - i), cells-most k h)
+
+-- row i ends within the triangle
+pub row-within : (k i : ℕ) → i ≤ k → rowStart k i + (k + 1 - i) ≤ cells k
+row-within k i h = omega (arith, rows-from k i h, cells-least (k - i))
+
+-- where the row after row i starts
+pub start-more : (k i : ℕ) → rowStart k (i + 1) ≡ rowStart k i + (k + 1 - i)
+unfolding rowStart
+start-more k i = rw (add-one i)
+
+-- the rows 0 to k are the triangle
+pub rows-all : (k : ℕ) → rowStart k (k + 1) ≡ cells k
+unfolding cells
+rows-all k =
+    let e : k - k ≡ 0 = omega arith in
+    omega (arith, start-more k k, rows-from k k (omega arith), ap cells e)

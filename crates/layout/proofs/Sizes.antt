@@ -11,6 +11,7 @@ use Rattle.rules.specs.Record.{Kind, bitsOf, cells, layout, kindsOf, widths, bi
 use Rattle.rules.specs.Packing.{Fit}
 use Rattle.layout.specs.Places.{startOf}
 use Rattle.laws.proofs.Lists.{at-most}
+use Rattle.laws.proofs.Rows.{cells-twice, cells-most}
 
 -- the bits of a row of n fields of one kind and the fields after it
 pub bits-of-row : (n : ℕ) (κ : Kind) (κs : List Kind) → total (map bitsOf (replicate n κ ++ κs)) ≡ bitsOf κ * n + total (map bitsOf κs)
@@ -29,17 +30,6 @@ pub length-of-rows : (rs : List (ℕ × Kind)) → length (kindsOf rs) ≡ total
 unfolding total kindsOf
 length-of-rows [] = refl
 length-of-rows (r ∷ rs) = omega (arith, length-append (replicate (r .0) (r .1)) (kindsOf rs), length-replicate (r .0) (r .1), length-of-rows rs)
-
--- the cells are half of (k + 1) (k + 2), and at most 136
-pub cells-twice : (k : ℕ) → 2 * cells k ≡ (k + 1) * (k + 2)
-unfolding cells
-cells-twice zero = refl
-cells-twice (suc k) = omega (arith, cells-twice k)
-
-pub cells-most : (k : ℕ) → k < 16 → cells k ≤ 136
-cells-most k h =
-    let m : (k + 1) * (k + 2) ≤ 16 * 17 = mul-le-mul {n₂ = 16} {m₂ = 17} (omega arith) (omega arith) in
-    omega (arith, cells-twice k)
 
 -- the bit place at which each row starts, and where the last one ends
 pub record Starts (k : ℕ) : Type 0 where

@@ -1,11 +1,10 @@
 -- What the ranges say: of each number of a list, and of figures that passed question 4. Assumes nothing.
 use Prim.Native.Nat.{ℕ, _+_, _≤_, _<_}
-use mathlib.Core.Path.{_≡_, _∙_}
+use mathlib.Core.Path.{_≡_}
 use mathlib.Core.Bool.{true, _&&_}
-use mathlib.Core.List.{List, map}
-use lib.IntN.{pos}
-use lib.ListN.{length, getD, take, length-map}
-use lib.Seq.{getD-take, length-take-le}
+use mathlib.Core.List.{List}
+use lib.ListN.{getD, take}
+use lib.Seq.{getD-take}
 use Rattle.rules.specs.Lists.{every, between}
 use Rattle.laws.proofs.Lists.{at-most, both-left, both-right}
 use Rattle.reading.specs.Reading.{rangesOf, Listable}
@@ -14,9 +13,6 @@ use Rattle.reading.specs.declared.Reading.{Reading}
 -- one of the first n numbers of a list, each from l to m, is at most m
 pub most : (l m n : ℕ) (xs : List ℕ) (i : ℕ) → i < n → every (between l m) (take n xs) ≡ true → getD xs i 0 ≤ m
 most l m n xs i h e = rw (getD-take n xs i 0 h) at (at-most l m (take n xs) e i)
-
-pub length-naturals : (n : ℕ) (xs : List ℕ) → n ≤ length xs → length (map pos (take n xs)) ≡ n
-length-naturals n xs h = length-map (take n xs) pos ∙ length-take-le n xs h
 
 -- figures that passed question 4 stand in a signed list
 pub listable : (r : Reading) → r .figures .k < 16 → rangesOf r ≡ true → Listable (r .figures)

@@ -8,7 +8,8 @@ use Rattle.rules.specs.Lists.{padded}
 use Rattle.packing.specs.Field.{fieldAt, rowAt}
 use Rattle.layout.specs.Places.{placesOf}
 use Rattle.layout.specs.declared.Places.{Places}
-use Rattle.layout.proofs.Sizes.{bytes-room, bytes-least, bits-most, starts, cells-most}
+use Rattle.layout.proofs.Sizes.{bytes-room, bytes-least, bits-most, starts}
+use Rattle.laws.proofs.Rows.{cells-most}
 use Rattle.reading.specs.Reading.{RowWithin, incrementsAt, readingOf}
 use Rattle.reading.specs.declared.Increments.{Increments}
 use Rattle.reading.specs.declared.Reading.{Reading}

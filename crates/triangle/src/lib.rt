@@ -1,12 +1,14 @@
 // The averages of a triangle in a square, the totals of its columns and diagonals, and question 6.
 ghost use mathlib.Core.Path.{_≡_};
-ghost use mathlib.Core.Bool.{_&&_};
+ghost use mathlib.Core.Bool.{true, _&&_};
 ghost use Prim.Native.Nat.{ℕ, _+_, _-_, _*_, _≤_, _<_};
 ghost use lib.IntN.{pos, natAbs};
 ghost use lib.ListN.{getD};
+ghost use lib.Seq.{sets};
 ghost use lib.Signed.{leZ};
 ghost use Rattle.rules.specs.Lists.{upTo, below, padded, every};
-ghost use Rattle.rules.specs.Triangle.{averageOf, averagesOf, cumulativesPass, sumTo, columnTotal, diagonalTotal};
+ghost use Rattle.rules.specs.Triangle.{averageOf, averagesOf, cumulativeOf, cumulativesPass, sumTo, columnTotal, diagonalTotal};
+ghost use Rattle.rules.specs.Results.{joined};
 ghost use Rattle.triangle.specs.Bounds.{Increments, Exposures, Cells};
 
 // The most of a cumulative.
@@ -89,6 +91,39 @@ pub fn cumulatives_pass(k: usize, increments: &[i64; 136]) -> bool
     true
 }
 
+// The cumulatives of a row of `count` increments from place `at` on, none below zero, go into the list from that place on.
+fn put_cumulatives(all: &mut [u64; 136], increments: &[i64; 136], at: usize, count: usize)
+    requires { ⌜ Increments (now increments)
+        × ((count ≤ 16)
+        × ((at + count ≤ 136)
+        × ((j : ℕ) → j < count → leZ (pos 0) (sumTo (λ c. getD (now increments) (at + c) (pos 0)) (j + 1)) ≡ true))) ⌝ }
+    ensures { λ _. ⌜ now (all .exit)
+        ≡ sets (now (all .entry)) at (upTo (λ j. natAbs (sumTo (λ c. getD (now (increments .entry)) (at + c) (pos 0)) (j + 1))) count) ⌝ }
+{
+    let mut sum: i64 = 0;
+    for j in 0..count {
+        sum += increments[at + j];
+        all[at + j] = sum as u64;
+    }
+}
+
+// The cumulatives of all rows, where question 6 has said yes.
+pub fn cumulatives(k: usize, increments: &[i64; 136]) -> [u64; 136]
+    requires { ⌜ (k < 16) × (Increments (now increments) × (cumulativesPass k (now increments) ≡ true)) ⌝ }
+    ensures { λ r. ⌜ r
+        ≡ padded 136 0 (joined (upTo (λ i. upTo (λ j. natAbs (cumulativeOf k (now (increments .entry)) i j)) (k + 1 - i)) (k + 1))) ⌝ }
+{
+    let mut all = [0u64; 136];
+    let mut at: usize = 0;
+    let n = k + 1;
+    for i in 0..n {
+        let count = n - i;
+        put_cumulatives(&mut all, increments, at, count);
+        at += count;
+    }
+    all
+}
+
 // The total of column j.
 fn column_total(square: &[[i64; 16]; 16], j: usize) -> i64
     requires { ⌜ Cells (now square) × (j < 16) ⌝ }
@@ -102,7 +137,7 @@ fn column_total(square: &[[i64; 16]; 16], j: usize) -> i64
 }
 
 // The total of the cells with i + j = h.
-fn diagonal_total(square: &[[i64; 16]; 16], h: usize) -> i64
+pub fn diagonal_total(square: &[[i64; 16]; 16], h: usize) -> i64
     requires { ⌜ Cells (now square) × (h < 16) ⌝ }
     ensures { λ r. ⌜ r ≡ diagonalTotal (now (square .entry)) h ⌝ }
 {

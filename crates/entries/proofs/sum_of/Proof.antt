@@ -1,4 +1,4 @@
--- The loop's invariant: the sum is that of the first i, and at most a million for each. Assumes nothing.
+-- The loop's invariant: the sum is that of the first i, and at most 10^12 for each. Assumes nothing.
 use borrow.Author.Needs.{needs}
 use mathlib.Core.Path.{_≡_, refl}
 use Prim.Native.Nat.{_-_, _*_, _≤_}

@@ -10,10 +10,11 @@ use lib.IntN.{ℤ, pos}
 use lib.ListN.{length, set, take}
 use lib.Seq.{sets}
 use denote.Ref.{now}
-use Rattle.entries.proofs.Runs.{sets-append}
+use Rattle.laws.proofs.Joined.{sets-append}
 use Rattle.laws.proofs.Lists.{both-right}
 use Rattle.reading.specs.Reading.{assumptionsOf}
-use Rattle.reading.proofs.Limits.{most, length-naturals}
+use Rattle.reading.proofs.Limits.{most}
+use Rattle.entries.proofs.Runs.{length-naturals}
 use Rattle.reading.proofs.put_assumptions.Statement.{statement}
 use Rattle.reading.proofs.put_assumptions.Tie as tie
 

@@ -10,10 +10,11 @@ use lib.Seq.{length-take-le}
 use denote.Ref.{now}
 use Rattle.rules.specs.Record.{cells}
 use Rattle.rules.specs.declared.Figures.{Figures}
-use Rattle.entries.proofs.Runs.{sets-append}
-use Rattle.layout.proofs.Sizes.{fields-count, cells-most}
+use Rattle.laws.proofs.Joined.{sets-append}
+use Rattle.layout.proofs.Sizes.{fields-count}
+use Rattle.laws.proofs.Rows.{cells-most}
 use Rattle.reading.specs.Reading.{triangleOf, assumptionsOf, listOf}
-use Rattle.reading.proofs.Limits.{length-naturals}
+use Rattle.entries.proofs.Runs.{length-naturals}
 use Rattle.reading.proofs.put_fields.Statement.{statement}
 use Rattle.reading.proofs.put_fields.Tie as tie
 

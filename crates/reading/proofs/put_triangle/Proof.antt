@@ -7,11 +7,12 @@ use Prim.Native.Nat.{_+_}
 use lib.IntN.{pos}
 use lib.ListN.{length, set, take}
 use denote.Ref.{now}
-use Rattle.entries.proofs.Runs.{sets-append}
+use Rattle.laws.proofs.Joined.{sets-append}
 use Rattle.layout.proofs.Sizes.{fields-count}
 use Rattle.rules.specs.Record.{cells}
 use Rattle.reading.specs.Reading.{triangleOf}
-use Rattle.reading.proofs.Limits.{most, length-naturals}
+use Rattle.reading.proofs.Limits.{most}
+use Rattle.entries.proofs.Runs.{length-naturals}
 use Rattle.reading.proofs.put_triangle.Statement.{statement}
 use Rattle.reading.proofs.put_triangle.Tie as tie
 

@@ -1,0 +1,148 @@
+-- Rows one after another in a list: the runs of stores that put them into an array, where each row starts, and its entries. Assumes nothing.
+use mathlib.Core.Path.{_≡_, refl, sym, _∙_}
+use mathlib.Core.List.{List, [], _∷_, _++_, append-nil, append-assoc}
+use Prim.Native.Nat.{ℕ, zero, suc, _+_, _-_, _≤_, _<_}
+use native.Mathlib.Decide.{decLt, ℕ-discrete}
+use native.Mathlib.Nat.{not-suc-le-zero, sub-zero}
+use native.Mathlib.Numerals.{add-one}
+use native.Mathlib.Omega.{arith}
+use lib.Dec.{lit≤}
+use lib.ListN.{length, getD, set, replicate, length-append, List·getD-append, List·getD-eq-default}
+use lib.Seq.{sets, getD-append-add}
+use Rattle.rules.specs.Lists.{total, upTo, padded}
+use Rattle.rules.specs.Triangle.{rowStart}
+use Rattle.rules.specs.Results.{joined}
+use Rattle.rules.specs.Demand.{futureStart}
+use Rattle.laws.proofs.Lists.{length-upTo, getD-upTo, padded-more}
+use Rattle.laws.proofs.Padded.{same-all}
+use Rattle.laws.proofs.Totals.{total-more, total-part}
+
+-- two runs of stores, the second where the first ends, are one run
+pub sets-append : {A : Type 0} (xs ys l : List A) (i n : ℕ) → n ≡ i + length xs → sets (sets l i xs) n ys ≡ sets l i (xs ++ ys)
+sets-append [] ys l i n e =
+    let q : n ≡ i = omega arith in
+    rw q
+sets-append (a ∷ xs) ys l i n e = sets-append xs ys (set l i a) (suc i) n (omega arith)
+
+-- one store more
+pub sets-more : {A : Type 0} (f : ℕ → A) (l : List A) (at n : ℕ) → set (sets l at (upTo f n)) (at + n) (f n) ≡ sets l at (upTo f (n + 1))
+unfolding upTo
+sets-more f l at n = rw (add-one n) (sets-append (upTo f n) (f n ∷ []) l at (at + n) (omega (arith, length-upTo f n)))
+
+-- a run of stores where a list in an array ends
+pub sets-padded : {A : Type 0} (m : ℕ) (z : A) (xs ys : List A) (n : ℕ) → length xs ≡ n → n + length ys ≤ m
+    → sets (padded m z xs) n ys ≡ padded m z (xs ++ ys)
+sets-padded m z xs [] n e h = rw (append-nil xs)
+sets-padded m z xs (y ∷ ys) n e h =
+    rw (padded-more m z xs y n e (omega arith), ← append-assoc xs (y ∷ []) ys)
+    (sets-padded m z (xs ++ (y ∷ [])) ys (suc n) (omega (arith, length-append xs (y ∷ []))) (omega arith))
+
+-- one row more at the end
+pub joined-append : {A : Type 0} (xss : List (List A)) (xs : List A) → joined (xss ++ (xs ∷ [])) ≡ joined xss ++ xs
+unfolding joined
+joined-append [] xs = append-nil xs
+joined-append (ys ∷ xss) xs = rw (joined-append xss xs) (sym (append-assoc ys (joined xss) xs))
+
+module _ {A : Type 0} (f : ℕ → List A) where
+  -- the rows 0 to n
+  pub joined-more : (n : ℕ) → joined (upTo f (suc n)) ≡ joined (upTo f n) ++ f n
+  unfolding upTo
+  joined-more n = joined-append (upTo f n) (f n)
+
+  -- an array before the first row
+  pub rows-none : (m : ℕ) (z : A) → replicate m z ≡ padded m z (joined (upTo f 0))
+  unfolding padded upTo joined
+  rows-none m z = rw sub-zero
+
+  -- the stores of row n
+  pub rows-more : (m : ℕ) (z : A) (n at : ℕ) → length (joined (upTo f n)) ≡ at → at + length (f n) ≤ m
+      → sets (padded m z (joined (upTo f n))) at (f n) ≡ padded m z (joined (upTo f (n + 1)))
+  rows-more m z n at e h = rw (add-one n, joined-more n) (sets-padded m z (joined (upTo f n)) (f n) at e h)
+
+  -- as many entries as the rows have together
+  length-more : (n : ℕ) → length (joined (upTo f (suc n))) ≡ length (joined (upTo f n)) + length (f n)
+  length-more n = rw (joined-more n) (length-append (joined (upTo f n)) (f n))
+
+  joined-length : (n : ℕ) → length (joined (upTo f n)) ≡ total (upTo (λ i. length (f i)) n)
+  unfolding upTo joined total
+  joined-length zero = refl
+  joined-length (suc n) = omega (arith, length-more n, joined-length n, total-more (λ i. length (f i)) n)
+
+  -- rows of k + 1, k, k − 1, .. entries
+  pub past-length : (k : ℕ) → ((i : ℕ) → length (f i) ≡ k + 1 - i) → (n : ℕ) → length (joined (upTo f n)) ≡ rowStart k n
+  unfolding upTo joined rowStart
+  past-length k size zero = refl
+  past-length k size (suc n) = omega (arith, length-more n, size n, past-length k size n)
+
+  -- rows of 0, 1, 2, .. entries
+  pub future-length : ((i : ℕ) → length (f i) ≡ i) → (n : ℕ) → length (joined (upTo f n)) ≡ futureStart n
+  unfolding upTo joined futureStart
+  future-length size zero = refl
+  future-length size (suc n) = omega (arith, length-more n, size n, future-length size n)
+
+  -- row i stands within the rows 0 to n − 1
+  pub row-inside : (n i : ℕ) → i < n → length (joined (upTo f i)) + length (f i) ≤ length (joined (upTo f n))
+  row-inside n i h = omega (arith, total-part (λ r. length (f r)) (suc i) n h, joined-length n, joined-length (suc i), length-more i)
+
+  -- entry j of row i stands j places past the rows before it
+  pub joined-at : (n i j : ℕ) (d : A) → i < n → j < length (f i) → getD (joined (upTo f n)) (length (joined (upTo f i)) + j) d ≡ getD (f i) j d
+  joined-at zero i j d h l = absurd (not-suc-le-zero h)
+  joined-at (suc n) i j d h l = go (joined-at n i j d) (ℕ-discrete i n)
+    where
+      place : ℕ
+      place = length (joined (upTo f i)) + j
+
+      go : (i < n → j < length (f i) → getD (joined (upTo f n)) place d ≡ getD (f i) j d) → Dec (i ≡ n) → getD (joined (upTo f (suc n))) place d ≡ getD (f i) j d
+      go before (yes e) = rw (joined-more n, e) (getD-append-add (joined (upTo f n)) (f n) j d)
+      go before (no e) =
+          let inside : place < length (joined (upTo f n)) = omega (arith, row-inside n i (omega arith)) in
+          rw (joined-more n) (List·getD-append (joined (upTo f n)) (f n) d place inside ∙ before (omega arith) l)
+
+  -- entry j of row i, in rows of k + 1, k, k − 1, .. entries
+  pub past-at : (k : ℕ) → ((i : ℕ) → length (f i) ≡ k + 1 - i) → (n i j : ℕ) (d : A) → i < n → i + j ≤ k
+      → getD (joined (upTo f n)) (rowStart k i + j) d ≡ getD (f i) j d
+  past-at k size n i j d h l = rw (← past-length k size i) (joined-at n i j d h (omega (arith, size i)))
+
+-- at most sixteen of those, d short of sixteen, have at most 120 entries
+few-most : (d n : ℕ) → d + n ≡ 16 → futureStart n ≤ 120
+unfolding futureStart
+few-most zero n e =
+    let is : n ≡ 16 = omega arith in
+    rw is (lit≤ tt)
+few-most (suc d) n e = omega (arith, few-most d (suc n) (omega arith))
+
+pub future-most : (n : ℕ) → n ≤ 16 → futureStart n ≤ 120
+future-most n h = few-most (16 - n) n (omega arith)
+
+-- row i ends within 120 entries
+pub future-room : (i : ℕ) → i < 16 → futureStart i + i ≤ 120
+unfolding futureStart
+future-room i h = future-most (suc i) h
+
+-- what holds of the default, of z and of every entry that is put in holds of every entry
+module _ {A : Type 0} (P : A → Type 0) (d : A) (at-d : P d) where
+  -- of two lists, one after the other
+  pub append-all : (xs ys : List A) → ((i : ℕ) → P (getD xs i d)) → ((i : ℕ) → P (getD ys i d)) → (i : ℕ) → P (getD (xs ++ ys) i d)
+  append-all [] ys p q i = q i
+  append-all (x ∷ xs) ys p q zero = p zero
+  append-all (x ∷ xs) ys p q (suc i) = append-all xs ys (λ j. p (suc j)) q i
+
+  -- of the first n of a sequence
+  pub upTo-all : (f : ℕ → A) (n : ℕ) → ((i : ℕ) → i < n → P (f i)) → (i : ℕ) → P (getD (upTo f n) i d)
+  upTo-all f n p i = go (decLt i n)
+    where
+      go : Dec (i < n) → P (getD (upTo f n) i d)
+      go (yes l) = rw (getD-upTo f n i d l) (p i l)
+      go (no l) = rw (List·getD-eq-default (upTo f n) d {n = i} (omega (arith, length-upTo f n))) at-d
+
+  -- of rows, one after another
+  pub joined-all : (f : ℕ → List A) (n : ℕ) → ((i j : ℕ) → i < n → P (getD (f i) j d)) → (j : ℕ) → P (getD (joined (upTo f n)) j d)
+  unfolding upTo joined
+  joined-all f zero p j = at-d
+  joined-all f (suc n) p j =
+      rw (joined-append (upTo f n) (f n)) (append-all (joined (upTo f n)) (f n) (joined-all f n (λ i c l. p i c (omega arith))) (λ c. p n c (omega arith)) j)
+
+  -- of a list in an array
+  pub padded-all : (m : ℕ) (z : A) → P z → (xs : List A) → ((i : ℕ) → P (getD xs i d)) → (i : ℕ) → P (getD (padded m z xs) i d)
+  unfolding padded
+  padded-all m z at-z xs p = append-all xs (replicate (m - length xs) z) p (same-all P z d at-z at-d (m - length xs))

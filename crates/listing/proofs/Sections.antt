@@ -1,0 +1,71 @@
+-- The sections of the result list: how many entries each has, how large a sum of theirs is, and the rows of averages one after another.
+-- Assumes nothing.
+use mathlib.Core.Path.{_≡_, refl, _∙_}
+use mathlib.Core.List.{List, [], _++_}
+use Prim.Native.Nat.{ℕ, zero, suc, _+_, _-_, _*_, _^_, _≤_, _<_}
+use native.Mathlib.Nat.{mul-le-mul}
+use native.Mathlib.Numerals.{add-one}
+use native.Mathlib.Omega.{arith}
+use lib.IntN.{ℤ, pos}
+use lib.ListN.{length, getD, take}
+use lib.Seq.{sets, take-suc}
+use Rattle.rules.specs.Lists.{total, upTo}
+use Rattle.rules.specs.Record.{cells}
+use Rattle.rules.specs.Triangle.{rowStart, cellOf}
+use Rattle.rules.specs.Results.{joined}
+use Rattle.laws.proofs.Lists.{length-upTo, total-take}
+use Rattle.laws.proofs.Rows.{cells-twice, rows-all}
+use Rattle.laws.proofs.Joined.{sets-append, joined-more, past-length}
+use Rattle.listing.specs.Entries.{averageEntries, Small}
+
+-- the sum of the first n numbers of a list, each up to b
+total-most : (b : ℕ) (xs : List ℕ) → ((i : ℕ) → getD xs i 0 ≤ b) → (n : ℕ) → total (take n xs) ≤ n * b
+unfolding total
+total-most b xs h zero = omega arith
+total-most b xs h (suc n) = rw (← add-one n) (omega (arith, total-take xs n, h n, total-most b xs h n))
+
+-- the sum of at most sixteen small numbers stands in a signed list
+pub small-total : (xs : List ℕ) → Small xs → (n : ℕ) → n ≤ 16 → total (take n xs) < 2 ^ 63
+small-total xs h n l = omega (arith, total-most 1000000000000 xs h n)
+
+-- the first n entries of a list, one by one
+take-upTo : {A : Type 0} (xs : List A) (d : A) (n : ℕ) → n ≤ length xs → take n xs ≡ upTo (λ j. getD xs j d) n
+unfolding upTo
+take-upTo xs d zero h = refl
+take-upTo xs d (suc n) h = rw (take-suc xs n d (omega arith), take-upTo xs d n (omega arith))
+
+-- with k up to 15 a triangle has at most 120 cells after its first row
+pub future-most : (k : ℕ) → k < 16 → cells k - (k + 1) ≤ 120
+future-most k h =
+    let m : k * (k + 1) ≤ 15 * 16 = mul-le-mul {n₂ = 15} {m₂ = 16} (omega arith) (omega arith) in
+    omega (arith, cells-twice k)
+
+-- three runs of stores, one after another
+pub three-runs : (a b d l : List ℤ) (at : ℕ) {p q : ℕ} → p ≡ at + length a → q ≡ p + length b → sets (sets (sets l at a) p b) q d ≡ sets l at (a ++ (b ++ d))
+three-runs a b d l at {p} {q} i j = sets-append b d (sets l at a) p q j ∙ sets-append a (b ++ d) l at p i
+
+-- row i of the averages, the first entries of row i of a square s
+abbrev pub rowEntries : ℕ → List (List ℤ) → ℕ → List ℤ
+rowEntries k s i = upTo (cellOf s i) (k + 1 - i)
+
+module _ (k : ℕ) (s : List (List ℤ)) where
+  -- as the code reads them
+  row-is : (i : ℕ) → k + 1 - i ≤ length (getD s i []) → take (k + 1 - i) (getD s i []) ≡ rowEntries k s i
+  unfolding cellOf
+  row-is i h = take-upTo (getD s i []) (pos 0) (k + 1 - i) h
+
+  -- the rows before row i
+  rows-length : (i : ℕ) → length (joined (upTo (rowEntries k s) i)) ≡ rowStart k i
+  rows-length = past-length (rowEntries k s) k (λ i. length-upTo (cellOf s i) (k + 1 - i))
+
+  -- the stores of row i
+  pub rows-more : (l : List ℤ) (i at : ℕ) → at ≡ rowStart k i → k + 1 - i ≤ length (getD s i [])
+      → sets (sets l 0 (joined (upTo (rowEntries k s) i))) at (take (k + 1 - i) (getD s i [])) ≡ sets l 0 (joined (upTo (rowEntries k s) (i + 1)))
+  rows-more l i at e h =
+      rw (row-is i h, add-one i, joined-more (rowEntries k s) i)
+      (sets-append (joined (upTo (rowEntries k s) i)) (rowEntries k s i) l 0 at (omega (arith, rows-length i)))
+
+  -- the averages are as many as the triangle has cells
+  pub averages-length : length (averageEntries k s) ≡ cells k
+  unfolding averageEntries
+  averages-length = rows-length (k + 1) ∙ rows-all k
