@@ -7,7 +7,7 @@ use native.Mathlib.Nat.{mul-le-mul}
 use native.Mathlib.Numerals.{add-one}
 use native.Mathlib.Omega.{arith}
 use lib.IntN.{ℤ, pos}
-use lib.ListN.{length, getD, take}
+use lib.ListN.{length, getD, take, length-append}
 use lib.Seq.{sets, take-suc}
 use Rattle.rules.specs.Lists.{total, upTo}
 use Rattle.rules.specs.Record.{cells}
@@ -43,6 +43,10 @@ future-most k h =
 -- three runs of stores, one after another
 pub three-runs : (a b d l : List ℤ) (at : ℕ) {p q : ℕ} → p ≡ at + length a → q ≡ p + length b → sets (sets (sets l at a) p b) q d ≡ sets l at (a ++ (b ++ d))
 three-runs a b d l at {p} {q} i j = sets-append b d (sets l at a) p q j ∙ sets-append a (b ++ d) l at p i
+
+-- and how many they are, by where the last one ends
+pub three-length : (a b d : List ℤ) (at : ℕ) {p q r : ℕ} → p ≡ at + length a → q ≡ p + length b → r ≡ q + length d → r ≡ at + length (a ++ (b ++ d))
+three-length a b d at i j h = omega (arith, length-append a (b ++ d), length-append b d)
 
 -- row i of the averages, the first entries of row i of a square s
 abbrev pub rowEntries : ℕ → List (List ℤ) → ℕ → List ℤ

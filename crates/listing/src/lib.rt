@@ -34,7 +34,8 @@ pub fn put_separation(
 ) -> usize
     requires { ⌜ (k < 16) × ((cells k + 2 * (k + 1) ≤ length (now out)) × (Small (now shares) × Small (now levels))) ⌝ }
     ensures { λ r. ⌜ (r ≡ cells k + 2 * (k + 1))
-        × (now (out .exit) ≡ sets (now (out .entry)) 0 (separationEntries k (now (square .entry)) (now (shares .entry)) (now (levels .entry)))) ⌝ }
+        × ((r ≡ length (separationEntries k (now (square .entry)) (now (shares .entry)) (now (levels .entry))))
+        × (now (out .exit) ≡ sets (now (out .entry)) 0 (separationEntries k (now (square .entry)) (now (shares .entry)) (now (levels .entry))))) ⌝ }
 {
     let n = k + 1;
     let a = put_averages(out, square, k);
@@ -54,8 +55,9 @@ pub fn put_projection(
     requires { ⌜ (k < 16)
         × ((at + cells k + k + 1 ≤ length (now out)) × (Small (now levels) × (Small (now payments) × Small (now provisions)))) ⌝ }
     ensures { λ r. ⌜ (r ≡ at + cells k + k + 1)
+        × ((r ≡ at + length (projectionEntries k (now (levels .entry)) (now (payments .entry)) (now (provisions .entry))))
         × (now (out .exit)
-        ≡ sets (now (out .entry)) at (projectionEntries k (now (levels .entry)) (now (payments .entry)) (now (provisions .entry)))) ⌝ }
+        ≡ sets (now (out .entry)) at (projectionEntries k (now (levels .entry)) (now (payments .entry)) (now (provisions .entry))))) ⌝ }
 {
     let n = k + 1;
     let a = put_naturals(out, at, levels, k);
@@ -76,8 +78,9 @@ pub fn put_reserve(
     requires { ⌜ (k < 16)
         × ((at + 2 * (k + 1) + 2 ≤ length (now out)) × ((ratio ≤ 1000000) × (Small (now «not_reported») × Small (now reserves)))) ⌝ }
     ensures { λ r. ⌜ (r ≡ at + 2 * (k + 1) + 2)
+        × ((r ≡ at + length (reserveEntries k (now («not_reported» .entry)) (now (reserves .entry)) ratio))
         × (now (out .exit)
-        ≡ sets (now (out .entry)) at (reserveEntries k (now («not_reported» .entry)) (now (reserves .entry)) ratio)) ⌝ }
+        ≡ sets (now (out .entry)) at (reserveEntries k (now («not_reported» .entry)) (now (reserves .entry)) ratio))) ⌝ }
 {
     let n = k + 1;
     let a = put_naturals(out, at, not_reported, n);

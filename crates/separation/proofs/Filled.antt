@@ -12,7 +12,7 @@ use Rattle.laws.proofs.Padded.{filled-at, filled-past}
 
 module _ {A : Type 0} (m : ℕ) (z : A) (f : ℕ → A) (n : ℕ) (few : n ≤ m) where
   -- it has the array's length
-  filled-long : length (padded m z (upTo f n)) ≡ m
+  pub filled-long : length (padded m z (upTo f n)) ≡ m
   unfolding padded
   filled-long =
       omega (

@@ -5,7 +5,7 @@ use mathlib.Core.Path.{_≡_, _∙_}
 use mathlib.Core.List.{[], _∷_, _++_, map}
 use Prim.Native.Nat.{_+_, _-_}
 use lib.IntN.{pos}
-use lib.ListN.{length, take}
+use lib.ListN.{length, take, length-append}
 use lib.Seq.{sets}
 use denote.Ref.{now}
 use Rattle.rules.specs.Lists.{total}
@@ -15,7 +15,7 @@ use Rattle.laws.proofs.Joined.{sets-append}
 use Rattle.listing.specs.Entries.{projectionEntries}
 use Rattle.entries.proofs.Runs.{length-naturals}
 use Rattle.laws.proofs.Rows.{cells-least}
-use Rattle.listing.proofs.Sections.{small-total, future-most, three-runs}
+use Rattle.listing.proofs.Sections.{small-total, future-most, three-runs, three-length}
 use Rattle.listing.proofs.put_projection.Statement.{statement}
 use Rattle.listing.proofs.put_projection.Tie as tie
 
@@ -91,8 +91,11 @@ returns c =
     let q : second .result ≡ first .result + length b = omega (arith, second .ensures .0, size) in
     let r : third .result ≡ second .result + length d = omega (arith, third .ensures .0) in (
       omega (arith, c .before .put-natural .ensures .0, cells-least k),
-      rw (c .before .put-natural .ensures .1, third .ensures .1, second .ensures .1, first .ensures .1, c .before .before .sum-of .ensures, size)
-          (three-runs b d e (sets out at a) (first .result) q r ∙ sets-append a (b ++ (d ++ e)) out at (first .result) p),
+      (
+        three-length a b (d ++ e) at p q (omega (arith, c .before .put-natural .ensures .0, length-append d e)),
+        rw (c .before .put-natural .ensures .1, third .ensures .1, second .ensures .1, first .ensures .1, c .before .before .sum-of .ensures, size)
+            (three-runs b d e (sets out at a) (first .result) q r ∙ sets-append a (b ++ (d ++ e)) out at (first .result) p),
+      ),
     )
 
 pub put-projection-spec : {M : Type 1} → statement M

@@ -10,7 +10,7 @@ use denote.Ref.{now}
 use Rattle.rules.specs.Lists.{total}
 use Rattle.listing.specs.Entries.{reserveEntries}
 use Rattle.entries.proofs.Runs.{length-naturals}
-use Rattle.listing.proofs.Sections.{small-total, three-runs}
+use Rattle.listing.proofs.Sections.{small-total, three-runs, three-length}
 use Rattle.listing.proofs.put_reserve.Statement.{statement}
 use Rattle.listing.proofs.put_reserve.Tie as tie
 
@@ -68,8 +68,11 @@ returns c =
     let q : second .result ≡ first .result + length b = omega (arith, second .ensures .0) in
     let r : third .result ≡ suc (second .result) = omega (arith, third .ensures .0) in (
       omega (arith, c .before .put-natural2 .ensures .0),
-      rw (c .before .put-natural2 .ensures .1, third .ensures .1, second .ensures .1, first .ensures .1, after-total .before .sum-of .ensures, r)
-          (three-runs a b e (now (s .args .out)) at p q),
+      (
+        three-length a b e at p q (omega (arith, c .before .put-natural2 .ensures .0)),
+        rw (c .before .put-natural2 .ensures .1, third .ensures .1, second .ensures .1, first .ensures .1, after-total .before .sum-of .ensures, r)
+            (three-runs a b e (now (s .args .out)) at p q),
+      ),
     )
 
 pub put-reserve-spec : {M : Type 1} → statement M

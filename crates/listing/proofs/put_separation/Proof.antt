@@ -1,15 +1,15 @@
 -- The averages, the shares and the levels follow one another (three-runs). Assumes nothing.
 use borrow.Author.Needs.{needs}
 use native.Mathlib.Omega.{arith}
-use mathlib.Core.Path.{_≡_}
+use mathlib.Core.Path.{_≡_, sym, ap, _∙_}
 use mathlib.Core.List.{map}
-use Prim.Native.Nat.{_+_}
+use Prim.Native.Nat.{ℕ, _+_}
 use lib.IntN.{pos}
 use lib.ListN.{length, take}
 use denote.Ref.{now}
 use Rattle.listing.specs.Entries.{averageEntries, separationEntries}
 use Rattle.entries.proofs.Runs.{length-naturals}
-use Rattle.listing.proofs.Sections.{three-runs, averages-length}
+use Rattle.listing.proofs.Sections.{three-runs, three-length, averages-length}
 use Rattle.listing.proofs.put_separation.Statement.{statement}
 use Rattle.listing.proofs.put_separation.Tie as tie
 
@@ -43,14 +43,19 @@ returns c =
     let shares = now (s .args .shares) in
     let a = averageEntries (s .args .k) square in
     let b = map pos (take n shares) in
-    let d = map pos (take n (now (s .args .levels))) in
+    let levels = now (s .args .levels) in
+    let d = map pos (take n levels) in
     let first = after-averages .put-averages in
     let second = after-shares .put-naturals in
     let sb : length b ≡ n = length-naturals n shares (omega (arith, after-shares .before .put-naturals-arg2 .given .0, s .pre .0)) in
     let p : first .result ≡ 0 + length a = omega (arith, first .ensures .0, averages-length (s .args .k) square) in
-    let q : second .result ≡ first .result + length b = omega (arith, second .ensures .0) in (
+    let q : second .result ≡ first .result + length b = omega (arith, second .ensures .0) in
+    let sd : length d ≡ n = length-naturals n levels (omega (arith, c .before .before .put-naturals-arg4 .given .0, s .pre .0)) in (
       omega (arith, c .before .put-naturals2 .ensures .0),
-      rw (c .before .put-naturals2 .ensures .1, second .ensures .1, first .ensures .1) (three-runs a b d (now (s .args .out)) 0 p q),
+      (
+        omega (arith, three-length a b d 0 p q (c .before .put-naturals2 .ensures .0 ∙ ap (λ (m : ℕ). second .result + m) (sym sd))),
+        rw (c .before .put-naturals2 .ensures .1, second .ensures .1, first .ensures .1) (three-runs a b d (now (s .args .out)) 0 p q),
+      ),
     )
 
 pub put-separation-spec : {M : Type 1} → statement M

@@ -1,0 +1,4 @@
+pub mod Questions
+pub mod Counts
+pub mod Figured
+pub mod Run

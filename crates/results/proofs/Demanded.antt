@@ -1,0 +1,98 @@
+-- The third demand, of the list that an accepted run fills. Assumes nothing.
+use Prim.Native.Nat.{ℕ, suc, _+_, _-_, _≤_}
+use native.Mathlib.Omega.{arith}
+use mathlib.Core.Path.{_≡_, _∙_}
+use mathlib.Core.Bool.{true}
+use mathlib.Core.List.{List, _++_}
+use lib.IntN.{ℤ}
+use lib.ListN.{getD}
+use Rattle.rules.specs.Triangle.{ZeroOutside, columnTotal, diagonalTotal}
+use Rattle.rules.specs.Separation.{shareOf, levelOf, factorsOf, totalsPass, restsPass, runningPass}
+use Rattle.rules.specs.Exact.{Solves}
+use Rattle.rules.specs.Accuracy.{NearExact, fromTo}
+use Rattle.rules.specs.Expense.{ratioPass}
+use Rattle.rules.specs.Results.{squareOf, latestOf, factorsIn, resultsOf}
+use Rattle.rules.specs.Demand.{sizeOf, printedSquare, Carried, ThirdDemand}
+use Rattle.rules.specs.declared.Figures.{Figures}
+use Rattle.laws.proofs.Totals.{total-same}
+use Rattle.laws.proofs.Padded.{filled-at}
+use Rattle.totals.proofs.Most.{diagonal-most}
+use Rattle.accuracy.proofs.Near.{near-exact, share-most}
+use Rattle.triangle.proofs.Square.{zero-outside}
+use Rattle.allowance.proofs.Carried.{Basis, payment-near, provision-near, provisions-near, reserve-near, reserves-near}
+use Rattle.allowance.proofs.Rates.{Rates, ratio-most, reported-most}
+use Rattle.stages.specs.Stages.{Sound}
+use Rattle.results.proofs.Printed.{share-entry, level-entry, provision-entry, provisions-entry, reserve-entry, reserves-entry, ratio-entry, payment-entry, square-entry, nonnegative-entry}
+
+-- the same shares and levels up to year k are as near
+near-same : (k : ℕ) (v d : ℕ → ℤ) (r l r′ l′ : ℕ → ℕ) → ((j : ℕ) → j ≤ k → r′ j ≡ r j) → ((j : ℕ) → j ≤ k → l′ j ≡ l j) → NearExact k v d r l → NearExact k v d r′ l′
+near-same k v d r l r′ l′ er el n = record {
+  whole = sums r r′ er 0 k (omega arith) ∙ n .whole;
+  diagonal-above = λ h le. rw (el h le, sums r r′ er 0 h le) (n .diagonal-above h le);
+  diagonal-below = λ h le. rw (el h le, sums r r′ er 0 h le) (n .diagonal-below h le);
+  column-near = λ j le. rw (er j le, sums l l′ el j k (omega arith)) (n .column-near j le);
+  solvable = n .solvable;
+  share-near = λ D E x y s j le. rw (er j le) (n .share-near D E x y s j le);
+}
+  where
+    sums : (g g′ : ℕ → ℕ) → ((j : ℕ) → j ≤ k → g′ j ≡ g j) → (a b : ℕ) → b ≤ k → fromTo g′ a b ≡ fromTo g a b
+    sums g g′ e a b le = total-same (λ i. g′ (a + i)) (λ i. g (a + i)) (suc b - a) (λ i h. e (a + i) (omega arith))
+
+-- figures whose questions 7, 8, 9 and 12 say yes
+pub record Answered (f : Figures) : Type 0 where
+  pub totals : totalsPass (squareOf f) (f .k) ≡ true
+  pub rests : restsPass (squareOf f) (f .k) ≡ true
+  pub running : runningPass (squareOf f) (f .k) ≡ true
+  pub ratio : ratioPass f ≡ true
+
+module _ (f : Figures) (sound : Sound f) (yes : Answered f) where
+  outside : ZeroOutside (squareOf f) (f .k)
+  unfolding squareOf
+  outside = zero-outside (f .k) (f .exposures) (f .increments) (sound .few)
+
+  exact : NearExact (f .k) (columnTotal (squareOf f)) (diagonalTotal (squareOf f)) (shareOf (squareOf f) (f .k)) (levelOf (squareOf f) (f .k))
+  exact = near-exact (squareOf f) (f .k) outside (yes .totals) (yes .rests) (yes .running)
+
+  share-at : (j : ℕ) → j ≤ f .k → getD (factorsIn f .shares) j 0 ≡ shareOf (squareOf f) (f .k) j
+  unfolding factorsIn factorsOf
+  share-at j h = filled-at 16 0 (shareOf (squareOf f) (f .k)) (f .k + 1) j 0 (omega arith)
+
+  basis : (D E : ℕ) (x y : ℕ → ℤ) → Solves (f .k) D E (columnTotal (squareOf f)) (diagonalTotal (squareOf f)) x y → Basis f (latestOf f) (factorsIn f .shares) D x
+  unfolding latestOf
+  basis D E x y s = record {
+    latest = diagonal-most (squareOf f) (f .k) (sound .few) outside (yes .totals) (f .k) (omega arith);
+    indices = λ t h. sound .indices t;
+    share-most = λ j h. rw (share-at j h) (share-most (squareOf f) (f .k) j);
+    share-near = λ j h. rw (share-at j h) (exact .share-near D E x y s j h);
+  }
+
+  rates : Rates f
+  rates = record { reporting = reported-most f (sound .reporting-sum); weight = sound .weight; ratio = ratio-most f (yes .ratio) }
+
+  module _ (rest : List ℤ) where
+    square : printedSquare (f .k) (resultsOf f ++ rest) ≡ squareOf f
+    square = square-entry f rest (sound .few)
+
+    carried : (D E : ℕ) (x y : ℕ → ℤ) → Solves (f .k) D E (columnTotal (squareOf f)) (diagonalTotal (squareOf f)) x y → Carried f (resultsOf f ++ rest) D x
+    unfolding latestOf
+    carried D E x y s =
+        let b = basis D E x y s in
+        let r = factorsIn f .shares in
+        record {
+          payments = λ i j hi hj l. rw (payment-entry f rest i j hi hj l, square) (payment-near f (latestOf f) r D x b i j hi hj l);
+          provisions = λ i h. rw (provision-entry f rest i h, square) (provision-near f (latestOf f) r D x b i h);
+          provision-total = rw (provisions-entry f rest, square) (provisions-near f (latestOf f) r D x b);
+          reserves = λ i h. rw (reserve-entry f rest i h, square, ratio-entry f rest) (reserve-near f (latestOf f) r D x b rates i h);
+          reserve-total = rw (reserves-entry f rest, square, ratio-entry f rest) (reserves-near f (latestOf f) r D x b rates);
+        }
+
+    -- the whole third demand
+    pub third-demand : ThirdDemand f (resultsOf f ++ rest)
+    third-demand = record {
+      nonnegative = λ i a b. nonnegative-entry f rest i a b;
+      near =
+          rw square
+          (near-same (f .k) (columnTotal (squareOf f)) (diagonalTotal (squareOf f)) (shareOf (squareOf f) (f .k)) (levelOf (squareOf f) (f .k))
+          (sizeOf (f .k) (resultsOf f ++ rest) 1) (sizeOf (f .k) (resultsOf f ++ rest) 2) (share-entry f rest) (level-entry f rest) exact);
+      carried = λ D E x y s. carried D E x y (rw square at s);
+    }
