@@ -2,7 +2,7 @@
 use mathlib.Core.Path.{_≡_, refl, sym, ap, ap₂, _∙_}
 use mathlib.Core.Bool.{Bool, true, false, _&&_, and-assoc, and-false}
 use mathlib.Core.List.{List, [], _∷_, _++_}
-use Prim.Native.Nat.{ℕ, zero, suc, _+_, _-_, _≤_, _<_, zero-le}
+use Prim.Native.Nat.{ℕ, zero, suc, _+_, _-_, _*_, _≤_, _<_, zero-le}
 use native.Mathlib.Decide.{decLt}
 use native.Mathlib.Nat.{not-suc-le-zero}
 use native.Mathlib.Numerals.{add-one}
@@ -60,6 +60,12 @@ total-take (x ∷ xs) zero = omega arith
 total-take (x ∷ xs) (suc i) =
     let h : total (take (suc i) xs) ≡ total (take i xs) + getD xs i 0 = rw (add-one i) at (total-take xs i) in
     rw (add-one (suc i)) (omega arith)
+
+-- the sum of the first n numbers of a list, each up to b
+pub total-most : (b : ℕ) (xs : List ℕ) → ((i : ℕ) → getD xs i 0 ≤ b) → (n : ℕ) → total (take n xs) ≤ n * b
+unfolding total
+total-most b xs h zero = omega arith
+total-most b xs h (suc n) = rw (← add-one n) (omega (arith, total-take xs n, h n, total-most b xs h n))
 
 -- both parts of a test that holds
 pub both-left : (a b : Bool) → a && b ≡ true → a ≡ true

@@ -2,11 +2,12 @@
 use mathlib.Core.Path.{_≡_, refl}
 use mathlib.Core.Bool.{Bool, true, false, cond}
 use Prim.Native.Nat.{ℕ, zero, suc, _+_, _-_, _*_, _/_, _^_, _≤_, _<_}
-use native.Mathlib.Nat.{zero-div}
+use native.Mathlib.Nat.{zero-div, mul-le-mul-left, div-le-of-le-mul}
 use native.Mathlib.Omega.{arith}
+use borrow.Author.Tests.{leb-true}
 use lib.Dec.{ltb}
 use lib.IntN.{ℤ, pos, negsuc, natAbs, _+ℤ_, _*ℤ_}
-use lib.Signed.{quotZ}
+use lib.Signed.{quotZ, leZ}
 use mir.Syntax.{w64}
 use mir.Val.{SFits, toZ, ofZ}
 use Rattle.rules.specs.Record.{signedOf}
@@ -47,3 +48,8 @@ pub signed-quotient : (b m n : ℕ) → quotZ (signedOf b m) (pos n) ≡ signedO
 signed-quotient zero m n = refl
 signed-quotient (suc b) zero n = rw (zero-div n)
 signed-quotient (suc b) (suc m) n = refl
+
+-- a part u of z, in parts of m
+pub part-most : (m u : ℕ) (z : ℤ) → leZ (pos u) z ≡ true → m * u / natAbs z ≤ m
+part-most m u (pos n) e = div-le-of-le-mul n (omega (arith, mul-le-mul-left m (leb-true u n e)))
+part-most m u (negsuc n) e = let w : _≡_ {A = ℕ} 0 1 = cc in omega arith

@@ -6,9 +6,11 @@ use native.Mathlib.Nat.{not-suc-le-zero, le-refl}
 use native.Mathlib.Omega.{arith}
 use native.Mathlib.Decide.{decLe, ℕ-discrete}
 use lib.IntN.{ℤ, pos, _+ℤ_}
+use lib.ListN.{getD, take}
 use Rattle.rules.specs.Lists.{total, upTo}
 use Rattle.rules.specs.Triangle.{sumTo}
 use Rattle.rules.specs.Accuracy.{fromTo}
+use Rattle.laws.proofs.Lists.{total-take}
 
 -- two lists, one after the other
 pub total-append : (xs ys : List ℕ) → total (xs ++ ys) ≡ total xs + total ys
@@ -90,3 +92,17 @@ fromTo-all f h =
     let w : suc h - 0 ≡ suc h = omega arith in
     ap (λ (n : ℕ). total (upTo (λ i. f (0 + i)) n)) w
     ∙ total-same (λ i. f (0 + i)) f (suc h) (λ i l. let e : 0 + i ≡ i = omega arith in ap f e)
+
+-- the first a entries of a list and the n entries after them
+total-after : (xs : List ℕ) (a n : ℕ) → total (take (a + n) xs) ≡ total (take a xs) + total (upTo (λ m. getD xs (a + m) 0) n)
+total-after xs a zero = let e : a + 0 ≡ a = omega arith in rw e (omega (arith, total-none (λ m. getD xs (a + m) 0)))
+total-after xs a (suc n) =
+    let e : a + suc n ≡ a + n + 1 = omega arith in
+    rw e (omega (arith, total-take xs (a + n), total-after xs a n, total-more (λ m. getD xs (a + m) 0) n))
+
+-- the last i of n numbers that are m together
+pub rest-most : (xs : List ℕ) (n i m : ℕ) → i ≤ n → total (take n xs) ≡ m → total (upTo (λ j. getD xs (n - i + j) 0) i) ≤ m
+rest-most xs n i m le sum =
+    let e : n - i + i ≡ n = omega arith in
+    let s = rw e at (total-after xs (n - i) i) in
+    omega arith

@@ -13,16 +13,10 @@ use Rattle.rules.specs.Lists.{total, upTo}
 use Rattle.rules.specs.Record.{cells}
 use Rattle.rules.specs.Triangle.{rowStart, cellOf}
 use Rattle.rules.specs.Results.{joined}
-use Rattle.laws.proofs.Lists.{length-upTo, total-take}
+use Rattle.laws.proofs.Lists.{length-upTo, total-most}
 use Rattle.laws.proofs.Rows.{cells-twice, rows-all}
 use Rattle.laws.proofs.Joined.{sets-append, joined-more, past-length}
 use Rattle.listing.specs.Entries.{averageEntries, Small}
-
--- the sum of the first n numbers of a list, each up to b
-total-most : (b : ℕ) (xs : List ℕ) → ((i : ℕ) → getD xs i 0 ≤ b) → (n : ℕ) → total (take n xs) ≤ n * b
-unfolding total
-total-most b xs h zero = omega arith
-total-most b xs h (suc n) = rw (← add-one n) (omega (arith, total-take xs n, h n, total-most b xs h n))
 
 -- the sum of at most sixteen small numbers stands in a signed list
 pub small-total : (xs : List ℕ) → Small xs → (n : ℕ) → n ≤ 16 → total (take n xs) < 2 ^ 63

@@ -10,13 +10,14 @@ use Rattle.rules.specs.Lists.{total, every, between}
 use Rattle.rules.specs.Questions.{firstNo}
 use Rattle.rules.specs.Record.{million}
 use Rattle.rules.specs.Triangle.{cumulativesPass}
-use Rattle.rules.specs.Separation.{billion, diagonalOf, shareOf, totalsPass, levelsPass, separateAnswer, factorsOf}
+use Rattle.rules.specs.Separation.{billion, diagonalOf, shareOf, totalsPass, restsPass, runningPass, levelsPass, separateAnswer, factorsOf}
 use Rattle.rules.specs.Completion.{ultimate, ultimatesPass}
 use Rattle.rules.specs.Expense.{ratioPass}
 use Rattle.rules.specs.Ladder.{factorsPass, completedPass}
 use Rattle.rules.specs.Results.{squareOf, latestOf, factorsIn, resultsOf}
 use Rattle.rules.specs.declared.Figures.{Figures}
 use Rattle.rules.specs.declared.Factors.{Factors}
+use Rattle.laws.proofs.Questions.{yes-at}
 use Rattle.laws.proofs.Joined.{upTo-all, padded-all}
 use Rattle.totals.proofs.Most.{diagonal-most}
 use Rattle.triangle.proofs.ByRow.{by-row-most}
@@ -39,23 +40,23 @@ use Rattle.results.proofs.Finished.{cumulative-at, sums-are, open-is, a
 use Rattle.results.proofs.Listed.{k-is, ratio-in, factors-in, completed-in, levels-in, payments-in, provisions-in, entries-are}
 use Rattle.results.proofs.Small.{small-shares, small-levels, small-list, ultimate-most, small-payments, small-provisions, small-not-reported, small-reserves, small-factors, small-completed}
 
--- where no question of the separation says no, 7 and 10 say yes
-separation-yes : (a b c d : Bool) → firstNo ((7, a) ∷ (8, b) ∷ (9, c) ∷ (10, d) ∷ []) ≡ 0 → (a ≡ true) × (d ≡ true)
-unfolding firstNo
-separation-yes true true true true h = (refl, refl)
-separation-yes true true true false h = absurd (omega arith)
-separation-yes true true false d h = absurd (omega arith)
-separation-yes true false c d h = absurd (omega arith)
-separation-yes false b c d h = absurd (omega arith)
-
 module _ (f : Figures) (h : Sound f) (accepted : separateAnswer (squareOf f) (f .k) ≡ 0) where
+  -- questions 7 to 10 of the separation
+  abbrev asked : List (ℕ × Bool)
+  asked =
+      (7, totalsPass (squareOf f) (f .k))
+      ∷ (8, restsPass (squareOf f) (f .k))
+      ∷ (9, runningPass (squareOf f) (f .k))
+      ∷ (10, levelsPass (squareOf f) (f .k))
+      ∷ []
+
   totals-yes : totalsPass (squareOf f) (f .k) ≡ true
-  unfolding separateAnswer
-  totals-yes = separation-yes _ _ _ _ accepted .0
+  unfolding separateAnswer every
+  totals-yes = yes-at asked refl accepted 0
 
   levels-yes : levelsPass (squareOf f) (f .k) ≡ true
-  unfolding separateAnswer
-  levels-yes = separation-yes _ _ _ _ accepted .1
+  unfolding separateAnswer every
+  levels-yes = yes-at asked refl accepted 3
 
   -- the latest diagonal is at most S
   pub latest-most : latestOf f ≤ billion
@@ -85,16 +86,12 @@ module _ (f : Figures) where
   after-twelve e = rw (e, ladder-pass f (cumulativesOf (f .k) (f .increments)) (cumulative-at f), completed-pass f (cumulativesOf (f .k) (f .increments)) (cumulative-at f))
 
   -- where it is 0, questions 13 and 14 say yes
-  ladder-yes : (a b : Bool) → firstNo ((13, a) ∷ (14, b) ∷ []) ≡ 0 → (a ≡ true) × (b ≡ true)
-  unfolding firstNo
-  ladder-yes true true e = (refl, refl)
-  ladder-yes true false e = absurd (omega arith)
-  ladder-yes false b e = absurd (omega arith)
-
   pub development-yes : developmentAnswer (f .k) (cumulativesOf (f .k) (f .increments)) ≡ 0 → (factorsPass f ≡ true) × (completedPass f ≡ true)
-  unfolding developmentAnswer
+  unfolding developmentAnswer every
   development-yes e =
-      ladder-yes _ _ (rw (ladder-pass f (cumulativesOf (f .k) (f .increments)) (cumulative-at f), completed-pass f (cumulativesOf (f .k) (f .increments)) (cumulative-at f)) at e)
+      let asked : List (ℕ × Bool) = (13, factorsPass f) ∷ (14, completedPass f) ∷ [] in
+      let none : firstNo asked ≡ 0 = rw (ladder-pass f (cumulativesOf (f .k) (f .increments)) (cumulative-at f), completed-pass f (cumulativesOf (f .k) (f .increments)) (cumulative-at f)) at e in
+      (yes-at asked refl none 0, yes-at asked refl none 1)
 
   -- the answer of questions 11 to 14
   pub refuse-eleven : ultimatesPass f (latestOf f) (factorsIn f .shares) ≡ false → firstNo (laterQuestions f) ≡ 11

@@ -3,7 +3,7 @@ use Prim.Native.Nat.{ℕ, _<_, _^_}
 use mathlib.Core.Path.{_≡_}
 use native.Mathlib.Omega.{arith}
 use borrow.Author.Needs.{needs}
-use lib.IntN.{pos, negsuc}
+use lib.IntN.{negsuc}
 use Rattle.printing.proofs.Signs.{below, above, neg-fits, natural, plus-one, turned}
 use Rattle.printing.proofs.size_of.Statement.{statement}
 use Rattle.printing.proofs.size_of.Tie as tie

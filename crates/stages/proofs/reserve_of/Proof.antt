@@ -19,7 +19,9 @@ use Rattle.expense.specs.Rows.{reportedList, notReportedList, reserveList}
 use Rattle.laws.proofs.Lists.{both-left, both-right}
 use Rattle.stages.specs.declared.Reserve.{Reserve}
 use Rattle.stages.specs.Stages.{paidPass, ratioFrom, reserveOf}
-use Rattle.stages.proofs.Limits.{total-most, positive, part-most, reported-most, not-reported-most}
+use Rattle.laws.proofs.Lists.{total-most}
+use Rattle.laws.proofs.Signed.{part-most}
+use Rattle.stages.proofs.Limits.{positive, reported-most, not-reported-most}
 use Rattle.stages.proofs.reserve_of.Statement.{statement}
 use Rattle.stages.proofs.reserve_of.Tie as tie
 
