@@ -1,9 +1,10 @@
 #!/usr/bin/env python3
-"""make_cases.py: writes the stored input and expected output of the test programs read_cases and write_cases.
+"""make_cases.py: writes the stored input and expected output of the test programs read_cases, write_cases, run_cases and reserve.
 
 The expected output comes from model.py, which is written from document 01 and shares nothing with the Rattle code.
 """
 import os
+import random
 
 import model
 
@@ -51,8 +52,7 @@ def changed(fields, at, value):
 
 
 def read_cases():
-    two = [1, 1, 1, 60, 40, 66, 1100000, 800000, 200000, 500000, 6, 10]
-    good = [model.pack(two)]
+    good = [model.pack(model.TWO_YEARS)]
     for k in (1, 2, 4, 15):
         for pick in (smallest, largest, mixed):
             good.append(model.pack(figures(k, pick)))
@@ -103,8 +103,7 @@ def number(value):
 
 
 def write_inputs():
-    two = [1, 1, 1, 60, 40, 66, 1100000, 800000, 200000, 500000, 6, 10]
-    good = [two] + [figures(k, pick) for k in (1, 2, 15) for pick in (smallest, largest, mixed)]
+    good = [model.TWO_YEARS] + [figures(k, pick) for k in (1, 2, 15) for pick in (smallest, largest, mixed)]
     for fields in good:
         yield model.byte_count(fields[0]), fields[0], model.lists(fields)
     for k in (1, 15):
@@ -127,13 +126,158 @@ def write_inputs():
         yield size, k, model.lists(changed(changed(fields, at["b"], 0), at["n"], 0))
 
 
+def fields_of(n, rows, e=None, b=None, w=500000, U=None):
+    """The fields of a record whose increments are given by row; those left out are plain."""
+    k = len(rows) - 1
+    e = e or [model.M] * k
+    b = b or [model.M] + [0] * k
+    return [k] + n + sum(rows, []) + e + b + [w] + (U or [0] * (k + 1))
+
+
+def account(k, source, column=lambda j: 1):
+    """A plain account: payments that fall by the year, times column(j), with some negative ones and exposures and indices of its own."""
+    n = [source.randint(1, 3000) for _ in range(k + 1)]
+    rows = []
+    for i in range(k + 1):
+        rows.append([])
+        for j in range(k + 1 - i):
+            size = n[i] * source.randint(5000, 9000) // 2**j
+            sign = -0.25 if j % 3 == 2 and i % 2 else 1
+            rows[i].append(int(sign * size * column(j)))
+    e = [source.randint(1, 2 * model.M) for _ in range(k)]
+    cuts = sorted(source.randint(0, model.M) for _ in range(k))
+    b = [high - low for low, high in zip([0] + cuts, cuts + [model.M])]
+    U = [source.randint(0, 1000) for _ in range(k + 1)]
+    return fields_of(n, rows, e, b, source.randint(0, model.M), U)
+
+
+def plain(k, first, other, claims=1):
+    """Increments that are `first` in column 0 and `other` elsewhere, by row, all of the same exposure."""
+    return [claims] * (k + 1), [[first] + [other] * (k - i) for i in range(k + 1)]
+
+
+def accepted():
+    """Fields that the engine accepts, the limits of the questions among them."""
+    million, most = 10**6, 10**10
+    source = random.Random(1)
+    yield model.TWO_YEARS
+    yield model.MOTOR_ACCOUNT
+    for k in range(1, 16):
+        yield account(k, source)
+    # columns of zeros: the last, one in the middle, all but the first
+    yield account(3, source, lambda j: j < 3)
+    yield account(6, source, lambda j: j != 4)
+    yield account(5, source, lambda j: j == 0)
+    # a last share of a few billionths and of a few hundred-thousandths
+    yield fields_of([million, 100], [[10**10, 5000], [300000000]], w=0)
+    yield fields_of([million, 100, 100], [[10**10, 10**9, 5000], [10**8, 10**7], [200000000]], b=[0, 0, million])
+    yield fields_of([100, 100], [[100000, 3], [100000]], w=million)
+    n, rows = plain(15, 30000000, 100, 100)
+    yield fields_of(n, rows, [5 * million] * 15, [0] * 15 + [million])
+    # the largest figures
+    n, rows = plain(9, most, most, million)
+    yield fields_of(n, rows, w=million, U=[most] * 10)
+    n, rows = plain(15, most, 0, million)
+    yield fields_of(n, rows, [5 * million] * 15, U=[most] * 16)
+    # a smallest index, and every increment 1
+    n, rows = plain(15, 1, 1)
+    yield fields_of(n, rows, [1] * 15)
+    # a column and a diagonal of zero
+    yield fields_of([1, 1, 1], [[0, 5, 0], [5, 5], [7]])
+    for _, within, _ in edges():
+        yield within
+
+
+def edges():
+    """The number of a question, fields at its limit and fields just past it."""
+    million, most = 10**6, 10**10
+    n, rows = plain(15, 10**9, 0, million)
+    # a cumulative of 10^11
+    yield 6, *(fields_of(n, [[most] * 10 + [more] + [0] * 5] + rows[1:]) for more in (0, 1))
+    # averages that total S
+    yield 7, *(fields_of([100, 1], [[500000000, 200000000 + more], [3000000]]) for more in (0, 1))
+    # T_1 - v_1 of 1
+    yield 8, *(fields_of([100, 100], [[10, 3], [latest]]) for latest in (1, 0))
+    # A_0 of 1
+    yield 9, *(fields_of([1, million, million], [[0, 200, last], [4999, 0], [5000]]) for last in (400, 600))
+    # a level of S
+    yield 10, *(fields_of([100, 100], [[first, 200000], [1]]) for first in (4999, 5000))
+    # an ultimate of 10^12
+    yield 11, *(fields_of([100, million], [[10**7, 19800002], [9999900000 + more]], [5 * million]) for more in (0, 1))
+    # ULAE totals as large as what is paid
+    yield 12, *(changed(model.TWO_YEARS, 11, latest) for latest in (160, 161))
+    # a factor of 50
+    yield 13, *(fields_of([1000, 1000], [[million, 49 * million + more], [million]]) for more in (0, 1))
+    # a completed cumulative of 10^11; a factor that is a millionth larger
+    yield 14, *(fields_of([million, million], [[10**9, 9 * 10**9 + more], [most]]) for more in (0, 1000))
+
+
+def refused():
+    """Number and fields that the engine refuses with it, for the numbers from 4."""
+    source = random.Random(2)
+    million = 10**6
+    for k in (1, 7, 15):
+        fields, at = account(k, source), places(k)
+        yield 4, changed(fields, at["n"] + k, 0)
+        yield 4, changed(fields, at["U"] + k, 10**10 + 1)
+        yield 5, changed(fields, at["b"] + k, fields[at["b"] + k] + 1)
+        yield 6, changed(fields, at["P"], -1)
+        yield 12, changed(fields, at["U"], 10**10)
+    for number_, _, past in edges():
+        yield number_, past
+    yield 6, fields_of([1, 1], [[60, -61], [66]])
+    yield 7, fields_of([1, 1], [[60, -1], [66]])
+    yield 7, fields_of([1, 1000, 1000], [[60, -5, 5], [70, 0], [70]])
+    n, rows = plain(15, 10**10, 10**10, 10)
+    yield 7, fields_of(n, [row[:9] + [0] * len(row[9:]) for row in rows])
+    yield 8, changed(model.TWO_YEARS, 5, 0)
+    yield 8, fields_of([1, 1, 1], [[0, 5, 0], [0, 5], [0]])
+    yield 8, fields_of([1] * 4, [[5, 5, 5, 0], [5, 0, 5], [0, 0], [0]])
+    # in both a level would be too large too
+    yield 9, model.THREE_YEARS
+    yield 9, fields_of([100] * 3, [[5000, 5000, 999999], [0, 0], [1]])
+    yield 10, fields_of([100] * 3, [[5, 500, 999999], [0, 0], [1]])
+    # the chain ladder's base is zero too, and the ULAE totals are too large
+    yield 11, fields_of([100, million], [[0, 19800002], [9999900001]], [5 * million], U=[10**10, 10**10])
+    yield 13, changed(model.TWO_YEARS, 3, 0)
+    yield 13, fields_of([1, 1], [[1, 50], [66]])
+    yield 13, fields_of([1, 1, 1], [[0, 5, 5], [0, 5], [7]])
+    n, rows = plain(10, 10**9, 10**9, million)
+    yield 14, fields_of(n, rows[:10] + [[10**10]])
+
+
+def run_inputs():
+    """Lengths of the result buffer and records."""
+    for place, fields in enumerate(accepted()):
+        record, count = model.pack(fields), model.result_count(fields[0])
+        assert model.run(record, count)[0] == 0, (place, fields, model.run(record, count)[0])
+        # every third buffer is longer than the list
+        yield count + (place % 3 == 2), record
+    for number_, fields in refused():
+        record, count = model.pack(fields), model.result_count(fields[0])
+        assert model.run(record, count)[0] == number_, (number_, fields, model.run(record, count)[0])
+        yield count, record
+    two, longest = model.pack(model.TWO_YEARS), model.pack(account(15, random.Random(3)))
+    assert model.bit_count(15) % 8 == 1
+    for record in (b"", b"\x00", b"\x0f" + two[1:], two[:-1], two + b"\x00", longest[:-1] + b"\x01", longest + b"\x00", two[:1], bytes([16]) * 4096):
+        yield 20, record
+    zero = places(1)["P"]
+    yield 20, model.pack(changed(model.TWO_YEARS, zero, 0), negative_zeros=(zero,))
+    # question 3, also before questions 4 and 8
+    for room in (0, 19):
+        yield room, two
+        yield room, model.pack(changed(model.TWO_YEARS, 1, 0))
+        yield room, model.pack(changed(model.TWO_YEARS, 5, 0))
+    yield 488, longest
+    yield 512, longest
+
+
 def main():
     given, wanted = b"", ""
     for room, record in read_cases():
         given += bytes([room]) + len(record).to_bytes(2, "big") + record
         number_, fields = answer(lambda: model.read(record, room))
-        wanted += f"answer {number_}\n"
-        wanted += "unchanged\n" if fields is None else "".join(f"{v}\n" for v in fields + [-7] * (room - len(fields)))
+        wanted += shown(number_, fields, room)
     store("read_cases", given, wanted)
     given, wanted = b"", ""
     for room, k, lists in write_inputs():
@@ -144,6 +288,24 @@ def main():
         wanted += f"answer {number_}\n"
         wanted += "unchanged\n" if record is None else record.hex() + "\n"
     store("write_cases", given, wanted)
+    given, wanted, numbers = b"", "", []
+    for room, record in run_inputs():
+        given += room.to_bytes(2, "big") + len(record).to_bytes(2, "big") + record
+        number_, results = model.run(record, room)
+        numbers.append(number_)
+        wanted += shown(number_, results, room)
+    store("run_cases", given, wanted)
+    print("cases by number:", {number_: numbers.count(number_) for number_ in range(15)})
+    record = model.pack(model.MOTOR_ACCOUNT)
+    with open(os.path.join(HERE, "..", "examples", "motor_account.rec"), "wb") as out:
+        out.write(record)
+    store("reserve", record, "".join(f"{v}\n" for v in model.run(record, model.result_count(3))[1]))
+
+
+def shown(number_, values, room):
+    """What a test program writes of an answer and a lent list of `room` entries."""
+    text = f"answer {number_}\n"
+    return text + ("unchanged\n" if values is None else "".join(f"{v}\n" for v in values + [-7] * (room - len(values))))
 
 
 def store(name, given, wanted):
@@ -151,7 +313,7 @@ def store(name, given, wanted):
         out.write(given)
     with open(os.path.join(CRATES, name, "stdout"), "w") as out:
         out.write(wanted)
-    print(name, len(given), "bytes in,", wanted.count("answer"), "cases")
+    print(name, len(given), "bytes in,", wanted.count("\n"), "lines out")
 
 
 main()

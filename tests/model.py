@@ -1,8 +1,9 @@
-"""Document 01's record in plain Python, written from the paper and not from the Rattle code.
+"""Document 01's record and engine in plain Python, written from the paper and not from the Rattle code.
 
 Used only to make the stored inputs and expected outputs of the test programs (make_cases.py): the gate itself needs no Python.
 """
 
+S = 10**9
 M = 10**6
 
 
@@ -54,8 +55,8 @@ def pack(fields, negative_zeros=()):
     return bytes(int(text[i:i + 8], 2) for i in range(0, len(text), 8))
 
 
-def read(record, room):
-    """The fields of a record, for a list of `room` entries."""
+def read(record, room, count_of=field_count):
+    """The fields of a record, for a lent list of `room` entries of which count_of(k) are filled."""
     if not record or record[0] >> 4 < 1:
         raise Refused(1)
     k = record[0] >> 4
@@ -64,7 +65,7 @@ def read(record, room):
     text = "".join(format(byte, "08b") for byte in record)
     if "1" in text[bit_count(k):]:
         raise Refused(2)
-    if room < field_count(k):
+    if room < count_of(k):
         raise Refused(3)
     fields, at, fine = [], 0, True
     for _, count, sign, size, least, most in rows(k):
@@ -104,3 +105,122 @@ def write(k, n, P, e, b, w, U, room):
     if sum(b) != M:
         raise Refused(5)
     return pack([k] + n + P + e + b + [w] + U)
+
+
+def result_count(k):
+    """How many entries the result list has: three triangles' worth of cells, without the diagonal in two of them, and the rest."""
+    future = k * (k + 1) // 2
+    return cells(k) + (k + 1) * 2 + k + future + (k + 1) + 1 + (k + 1) * 2 + 1 + 1 + k + future
+
+
+def average(paid, claims):
+    """Hundredths a claim, to the nearest whole, halves away from zero."""
+    size = (2 * 100 * abs(paid) + claims) // (2 * claims)
+    return -size if paid < 0 else size
+
+
+def separate(s):
+    """Shares and levels of a triangle of averages, given by row, under questions 7 to 10."""
+    k = len(s) - 1
+    v = [sum(s[i][j] for i in range(k + 1 - j)) for j in range(k + 1)]
+    d = [sum(s[i][h - i] for i in range(h + 1)) for h in range(k + 1)]
+    if min(v + d) < 0 or sum(v) > S:
+        raise Refused(7)
+    T = [sum(s[i][j] for i in range(k + 1) for j in range(k + 1 - i) if j <= h <= i + j) for h in range(k + 1)]
+    if any(T[h] - v[h] < 1 for h in range(1, k + 1)):
+        raise Refused(8)
+    A = [0] * k + [S]
+    for h in range(k, 0, -1):
+        A[h - 1] = A[h] * (T[h] - v[h]) // T[h]
+    if min(A) < 1:
+        raise Refused(9)
+    r = [A[0]] + [A[h] - A[h - 1] for h in range(1, k + 1)]
+    level = [d[h] * S // A[h] for h in range(k + 1)]
+    if max(level) > S:
+        raise Refused(10)
+    return r, level, d[k]
+
+
+def results(k, n, P, e, b, w, U):
+    """The result list of fields that have passed questions 4 and 5; P by row."""
+    years = range(k + 1)
+    C = [[sum(row[:j + 1]) for j in range(len(row))] for row in P]
+    if any(not 0 <= c <= 10**11 for row in C for c in row):
+        raise Refused(6)
+    s = [[average(P[i][j], n[i]) for j in range(k + 1 - i)] for i in years]
+    r, level, latest = separate(s)
+    L = [None] + [latest * e[t - 1] // M for t in range(1, k + 1)]
+    y = [[n[i] * (r[j] * L[i + j - k] // S) // 100 for j in range(k + 1 - i, k + 1)] for i in years]
+    R = [sum(row) for row in y]
+    X = [C[i][k - i] + R[i] for i in years]
+    if max(X) > 10**12:
+        raise Refused(11)
+    paid = sum(map(sum, P))
+    if paid < 1 or sum(U) > paid:
+        raise Refused(12)
+    p = M * sum(U) // paid
+    N = [X[i] * sum(b[k - i + 1:]) // M for i in years]
+    H = [(w * N[i] + (M - w) * R[i]) // M for i in years]
+    Q = [p * H[i] // M for i in years]
+    m = []
+    for h in range(k):
+        above = sum(C[i][h + 1] for i in range(k - h))
+        below = sum(C[i][h] for i in range(k - h))
+        m.append(M * above // below if below >= 1 else None)
+    if any(f is None or f > 50 * M for f in m):
+        raise Refused(13)
+    completed = []
+    for i in years:
+        c = C[i][k - i]
+        for h in range(k - i, k):
+            c = c * m[h] // M
+            completed.append(c)
+    if any(c > 10**11 for c in completed):
+        raise Refused(14)
+    return sum(s, []) + r + level + L[1:] + sum(y, []) + R + [sum(R)] + N + Q + [sum(Q)] + [p] + m + completed
+
+
+def run(record, room):
+    """The answer to a record and the result list where it is 0, for a buffer of `room` entries."""
+    try:
+        given = lists(read(record, room, result_count))
+        k = given["k"][0]
+        rest = iter(given["P"])
+        by_row = [[next(rest) for _ in range(k + 1 - i)] for i in range(k + 1)]
+        out = results(k, given["n"], by_row, given["e"], given["b"], given["w"][0], given["U"])
+        assert len(out) == result_count(k)
+        return 0, out
+    except Refused as no:
+        return no.args[0], None
+
+
+TWO_YEARS = [1, 1, 1, 60, 40, 66, 1100000, 800000, 200000, 500000, 6, 10]
+MOTOR = [504, 282, 90, 48, 580, 292, 97, 595, 332, 662]
+MOTOR_ACCOUNT = ([3, 1, 1, 1, 1] + MOTOR + [1100000, 1210000, 1331000] + [700000, 200000, 80000, 20000] + [500000] + [20, 25, 30, 35])
+# its A_0 is 0: document 01's last marked item, whose other fields are free
+THREE_YEARS = [2, 100, 100, 100, 0, 5000, 999999, 0, 0, 1, M, M, M, 0, 0, 0, 0, 0, 0]
+
+
+def marked():
+    """The items of document 01's "Marked triangles and edges"."""
+    def put(at, value):
+        fields = list(TWO_YEARS)
+        fields[at] = value
+        return run(pack(fields), 20)
+
+    assert (bit_count(1), byte_count(1), bit_count(15), byte_count(15)) == (300, 38, 6313, 790)
+    assert (cells(15), result_count(1), result_count(15)) == (136, 20, 489)
+    printed = "6000 4000 6600 622641509 377358491 9636 10600 11660 44 0 44 44 0 22 0 3 3 96385 1666666 109"
+    assert run(pack(TWO_YEARS), 20) == (0, [int(x) for x in printed.split()])
+    number, out = run(pack(MOTOR_ACCOUNT), result_count(3))
+    assert number == 0 and out[10:14] == [583475514, 287767456, 86614799, 42142231]
+    assert out[14:18] == [86378, 98939, 101998, 113900]
+    assert [average(*a) for a in ((1, 8), (-1, 8), (1, 3), (1, 200), (1, 201))] == [13, -13, 33, 1, 0]
+    assert put(5, 0) == (8, None)
+    assert put(3, 0) == (13, None)
+    assert put(11, 161) == (12, None)
+    assert put(11, 160)[0] == 0 and put(11, 160)[1][17] == M
+    assert run(pack(THREE_YEARS), result_count(2)) == (9, None)
+
+
+marked()

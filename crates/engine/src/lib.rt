@@ -154,7 +154,7 @@ pub fn run_figures(f: Figures, out: &mut [i64]) -> u64
 }
 
 // How many entries the result list has.
-fn results_of(k: usize) -> usize
+pub fn results_of(k: usize) -> usize
     requires { ⌜ k < 16 ⌝ }
     ensures { λ r. ⌜ r ≡ resultCount k ⌝ }
 {

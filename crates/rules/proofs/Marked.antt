@@ -1,10 +1,10 @@
--- The marked triangles and edges of document 01: a row for each starred item, what the rules give and what the paper prints, and one theorem.
+-- The marked triangles and edges of document 01: one or more rows for each starred item, what the rules give and what the paper prints, and one theorem.
 -- Assumes nothing.
 use Prim.Native.Nat.{ℕ}
 use mathlib.Core.Path.{_≡_, refl}
 use mathlib.Core.List.{List, [], _∷_, map, zipWith}
 use lib.IntN.{ℤ, pos, negsuc}
-use lib.ListN.{getD, replicate}
+use lib.ListN.{getD, take, replicate}
 use Rattle.rules.specs.Lists.{total, upTo, padded, every}
 use Rattle.rules.specs.Packing.{pack, unpack, numberOf, bytesOf}
 use Rattle.rules.specs.Questions.{firstNo, afterCall}
@@ -12,7 +12,7 @@ use Rattle.rules.specs.Record.{cells, layout, kindsOf, section, widths, 
 use Rattle.rules.specs.Reading.{hasLastYear, hasLength, inRanges, sharesSum}
 use Rattle.rules.specs.Writing.{given, givenFields}
 use Rattle.rules.specs.Triangle.{rowStart, paidOf, sumTo, cumulativeOf, everyCell, cumulativesPass, nearest, averageOf, averageRow, averagesOf, cellOf, cellsTotal, columnTotal, diagonalTotal, cornerTotal, allTotal}
-use Rattle.rules.specs.Separation.{columnOf, diagonalOf, cornerOf, runningDown, runningOf, shareOf, levelOf, totalsPass, restsPass, runningPass, levelsPass, factorsOf}
+use Rattle.rules.specs.Separation.{columnOf, diagonalOf, cornerOf, runningDown, runningOf, shareOf, levelOf, totalsPass, restsPass, runningPass, levelsPass, factorsOf, separateAnswer, separated}
 use Rattle.rules.specs.Completion.{futureLevel, payment, paymentRow, provision, paidTo, ultimate, ultimatesPass}
 use Rattle.rules.specs.Expense.{paidTotal, ulaeTotal, ratioPass, ratioOf, reportedAfter, notReported, weighted, reserve}
 use Rattle.rules.specs.Ladder.{givenCumulative, developed, base, developmentFactor, completed, completedRow, factorsPass, completedPass}
@@ -23,34 +23,33 @@ use Rattle.rules.specs.Engine.{figureQuestions, holdsList, questions, ru
 abbrev twoYears : List ℤ → List ℕ → List ℕ
 twoYears p u = recordOf 1 (givenFields (given 1 (1 ∷ 1 ∷ []) p (1100000 ∷ []) (800000 ∷ 200000 ∷ []) 500000 u))
 
--- the answer to that record with a buffer of twenty entries, and what the buffer, zeros before, holds then
+-- the answer to that record with a buffer of twenty entries, and what the buffer, full of −7 before, holds then
 abbrev answer : List ℤ → List ℕ → ℤ
 answer p u = pos (runAnswer (twoYears p u) 20)
 
 abbrev list : List ℤ → List ℕ → List ℤ
-list p u = runInto (twoYears p u) (replicate 20 (pos 0))
+list p u = runInto (twoYears p u) (replicate 20 (negsuc 6))
 
 -- the averages of the motor account of document 004, in tenths, every exposure 1
 abbrev motor : List (List ℤ)
 motor =
-    (pos 50400 ∷ pos 28200 ∷ pos 9000 ∷ pos 4800 ∷ [])
-    ∷ (pos 58000 ∷ pos 29200 ∷ pos 9700 ∷ [])
-    ∷ (pos 59500 ∷ pos 33200 ∷ [])
-    ∷ (pos 66200 ∷ [])
-    ∷ []
+    averagesOf 3 (1 ∷ 1 ∷ 1 ∷ 1 ∷ []) (
+    pos 504 ∷ pos 282 ∷ pos 90 ∷ pos 48 ∷ pos 580 ∷ pos 292 ∷ pos 97 ∷ pos 595 ∷ pos 332 ∷ pos 662 ∷ []
+    )
 
 abbrev pub marked : List (List ℤ × List ℤ)
 marked = (
   list (pos 60 ∷ pos 40 ∷ pos 66 ∷ []) (6 ∷ 10 ∷ []),
   pos 6000 ∷ pos 4000 ∷ pos 6600 ∷ pos 622641509 ∷ pos 377358491 ∷ pos 9636 ∷ pos 10600 ∷ pos 11660 ∷ pos 44 ∷ pos 0 ∷ pos 44 ∷ pos 44 ∷ pos 0 ∷ pos 22 ∷ pos 0 ∷ pos 3 ∷ pos 3 ∷ pos 96385 ∷ pos 1666666 ∷ pos 109 ∷ [],
 )
-    ∷ (map pos (upTo (shareOf motor 3) 4), pos 583475514 ∷ pos 287767456 ∷ pos 86614799 ∷ pos 42142231 ∷ [])
-    ∷ (map pos (upTo (levelOf motor 3) 4), pos 86378 ∷ pos 98939 ∷ pos 101998 ∷ pos 113900 ∷ [])
+    ∷ (pos (separateAnswer motor 3) ∷ [], pos 0 ∷ [])
+    ∷ (map pos (take 4 (separated motor 3 .shares)), pos 583475514 ∷ pos 287767456 ∷ pos 86614799 ∷ pos 42142231 ∷ [])
+    ∷ (map pos (take 4 (separated motor 3 .levels)), pos 86378 ∷ pos 98939 ∷ pos 101998 ∷ pos 113900 ∷ [])
     ∷ (
       averageOf (pos 1) 8 ∷ averageOf (negsuc 0) 8 ∷ averageOf (pos 1) 3 ∷ averageOf (pos 1) 200 ∷ averageOf (pos 1) 201 ∷ [],
       pos 13 ∷ negsuc 12 ∷ pos 33 ∷ pos 1 ∷ pos 0 ∷ [],
     )
-    ∷ (answer (pos 60 ∷ pos 40 ∷ pos 0 ∷ []) (6 ∷ 10 ∷ []) ∷ [], pos 8 ∷ [])
+    ∷ (answer (pos 60 ∷ pos 40 ∷ pos 0 ∷ []) (6 ∷ 10 ∷ []) ∷ list (pos 60 ∷ pos 40 ∷ pos 0 ∷ []) (6 ∷ 10 ∷ []), pos 8 ∷ replicate 20 (negsuc 6))
     ∷ (answer (pos 0 ∷ pos 40 ∷ pos 66 ∷ []) (6 ∷ 10 ∷ []) ∷ [], pos 13 ∷ [])
     ∷ (answer (pos 60 ∷ pos 40 ∷ pos 66 ∷ []) (6 ∷ 161 ∷ []) ∷ [], pos 12 ∷ [])
     ∷ (
@@ -61,7 +60,7 @@ marked = (
 
 -- the rules give what is printed, in every row
 pub marked-hold : map (λ row. row .0) marked ≡ map (λ row. row .1) marked
-unfolding total upTo padded every pack unpack numberOf bytesOf firstNo afterCall cells layout kindsOf section widths bitCount byteCount fillingCount valueOf codeOf inRange negativeZero bitsInRange everyField lastYearOf codesOf fillingOf fieldsOf recordOf exposuresIn incrementsIn indicesIn reportingIn weightIn ulaeIn figuresOf hasLastYear hasLength inRanges sharesSum givenFields rowStart paidOf sumTo cumulativeOf everyCell cumulativesPass nearest averageOf averageRow averagesOf cellOf cellsTotal columnTotal diagonalTotal cornerTotal allTotal columnOf diagonalOf cornerOf runningDown runningOf shareOf levelOf totalsPass restsPass runningPass levelsPass factorsOf futureLevel payment paymentRow provision paidTo ultimate ultimatesPass paidTotal ulaeTotal ratioPass ratioOf reportedAfter notReported weighted reserve givenCumulative developed base developmentFactor completed completedRow factorsPass completedPass squareOf latestOf factorsIn joined sections resultsOf sectionCounts resultCount placeOf figureQuestions holdsList questions runAnswer runInto zipWith
+unfolding total upTo padded every pack unpack numberOf bytesOf firstNo afterCall cells layout kindsOf section widths bitCount byteCount fillingCount valueOf codeOf inRange negativeZero bitsInRange everyField lastYearOf codesOf fillingOf fieldsOf recordOf exposuresIn incrementsIn indicesIn reportingIn weightIn ulaeIn figuresOf hasLastYear hasLength inRanges sharesSum givenFields rowStart paidOf sumTo cumulativeOf everyCell cumulativesPass nearest averageOf averageRow averagesOf cellOf cellsTotal columnTotal diagonalTotal cornerTotal allTotal columnOf diagonalOf cornerOf runningDown runningOf shareOf levelOf totalsPass restsPass runningPass levelsPass factorsOf separateAnswer separated futureLevel payment paymentRow provision paidTo ultimate ultimatesPass paidTotal ulaeTotal ratioPass ratioOf reportedAfter notReported weighted reserve givenCumulative developed base developmentFactor completed completedRow factorsPass completedPass squareOf latestOf factorsIn joined sections resultsOf sectionCounts resultCount placeOf figureQuestions holdsList questions runAnswer runInto zipWith
 marked-hold = refl
 
 -- the lengths of the result list that document 01 names

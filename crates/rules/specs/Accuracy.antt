@@ -1,4 +1,4 @@
--- The third demand of shares and levels: how near the printed ones are to the observed totals and to every exact solution. Assumes nothing.
+-- The third demand of shares and levels: how near both are to the observed totals, and the shares to every exact solution. Assumes nothing.
 use Prim.Native.Nat.{ℕ, suc, _+_, _-_, _*_, _≤_, _<_}
 use mathlib.Core.Path.{_≡_}
 use lib.IntN.{ℤ, pos, natAbs, _-ℤ_, _*ℤ_}

@@ -28,7 +28,7 @@ paymentRow f d r i = upTo (λ m. payment f d r i (f .k + 1 - i + m)) i
 unfoldable pub provision : Figures → ℕ → List ℕ → ℕ → ℕ
 provision f d r i = total (paymentRow f d r i)
 
--- the paid cumulative of row i
+-- the paid cumulative of row i, a whole number once question 6 says yes
 unfoldable pub paidTo : Figures → ℕ → ℕ
 paidTo f i = natAbs (cumulativeOf (f .k) (f .increments) i (f .k - i))
 

@@ -90,7 +90,8 @@ pub record Carried (f : Figures) (list : List ℤ) (D : ℕ) (x : ℕ → ℤ) :
       (sumTo (exactReserve f (diagonalOf (printedSquare (f .k) list) (f .k)) D x (sizeOf (f .k) list 10 0)) (f .k + 1)) (reserveOver D)
       (total (upTo (reserveAllowance f) (f .k + 1)))
 
--- the whole third demand, of the figures f and the list that their run fills
+-- the whole third demand, of the figures f and the list that their run fills. That its averages and its ratio are those of the figures is what `runInto`
+-- says of the same list; d_k is not below zero, by `diagonal-above`
 pub record ThirdDemand (f : Figures) (list : List ℤ) : Type 0 where
   -- no entry after the averages is below zero
   pub nonnegative : (i : ℕ) → placeOf (f .k) 1 ≤ i → i < placeOf (f .k) 13 → getD list i (pos 0) ≡ pos (natAbs (getD list i (pos 0)))

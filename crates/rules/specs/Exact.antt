@@ -1,5 +1,5 @@
 -- The exact solution (document 01, "Shares and levels"): Taylor's equations, with whole signed numerators over one denominator for the shares and
--- one for the levels. The search for shares takes no part in it. Assumes nothing.
+-- one for the levels. The walk of T_h and A_h takes no part in it. Assumes nothing.
 use Prim.Native.Nat.{ℕ, zero, suc, _-_, _*_, _≤_, _<_}
 use mathlib.Core.Path.{_≡_}
 use lib.IntN.{ℤ, pos, _+ℤ_, _*ℤ_}
@@ -10,7 +10,7 @@ unfoldable pub sumFrom : (ℕ → ℤ) → ℕ → ℕ → ℤ
 sumFrom f a zero = pos 0
 sumFrom f a (suc n) = f a +ℤ sumFrom f (suc a) n
 
--- shares r_j / D that sum to 1 and levels l_h / E, of any signs, with l_h × (r_0 + .. + r_h) = d_h and r_j × (l_j + .. + l_k) = v_j
+-- denominators D and E of at least 1, shares r_j / D that sum to 1 and levels l_h / E, of any signs, with l_h × (r_0 + .. + r_h) = d_h and r_j × (l_j + .. + l_k) = v_j
 pub record Solves (k D E : ℕ) (v d r l : ℕ → ℤ) : Type 0 where
   pub shares : 0 < D
   pub levels : 0 < E

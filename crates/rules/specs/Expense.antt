@@ -22,7 +22,7 @@ ulaeTotal f = total (take (f .k + 1) (f .ulae))
 unfoldable pub ratioPass : Figures → Bool
 ratioPass f = leZ (pos 1) (paidTotal f) && leZ (pos (ulaeTotal f)) (paidTotal f)
 
--- the ratio p = ⌊M × total of U / total of all P⌋
+-- the ratio p = ⌊M × total of U / total of all P⌋, once question 12 says yes
 unfoldable pub ratioOf : Figures → ℕ
 ratioOf f = million * ulaeTotal f / natAbs (paidTotal f)
 

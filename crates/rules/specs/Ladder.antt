@@ -20,7 +20,7 @@ developed f h = total (upTo (λ i. givenCumulative f i (h + 1)) (f .k - h))
 unfoldable pub base : Figures → ℕ → ℕ
 base f h = total (upTo (λ i. givenCumulative f i h) (f .k - h))
 
--- the development factor m_h = ⌊M × A / B⌋
+-- the development factor m_h = ⌊M × A / B⌋, once B is at least 1
 unfoldable pub developmentFactor : Figures → ℕ → ℕ
 developmentFactor f h = million * developed f h / base f h
 

@@ -167,7 +167,7 @@ weightIn k vs = getD (map natAbs (section (layout k) 5 vs)) 0 0
 unfoldable pub ulaeIn : ℕ → List ℤ → List ℕ
 ulaeIn k vs = map natAbs (section (layout k) 6 vs)
 
--- the figures of the record s, each list in its array; 16 indices have room, for e_t is at place t − 1
+-- the figures of the record s, each list in its array, zero past its end; e_t is at place t − 1
 unfoldable pub figuresOf : List ℕ → Figures
 figuresOf s = record {
   k = lastYearOf s;

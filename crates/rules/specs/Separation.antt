@@ -39,7 +39,7 @@ unfoldable pub shareOf : List (List ℤ) → ℕ → ℕ → ℕ
 shareOf s k zero = runningOf s k 0
 shareOf s k (suc h) = runningOf s k (suc h) - runningOf s k h
 
--- the level l_h = ⌊d_h × S / A_h⌋
+-- the level l_h = ⌊d_h × S / A_h⌋, once question 9 says yes
 unfoldable pub levelOf : List (List ℤ) → ℕ → ℕ → ℕ
 levelOf s k h = diagonalOf s h * billion / runningOf s k h
 

@@ -17,7 +17,7 @@ unfoldable pub rowStart : ℕ → ℕ → ℕ
 rowStart k zero = 0
 rowStart k (suc i) = rowStart k i + (k + 1 - i)
 
--- the paid increment P_ij of the years 0 to k, p the increments by row
+-- the paid increment P_ij of the years 0 to k, i + j at most k, p the increments by row
 unfoldable pub paidOf : ℕ → List ℤ → ℕ → ℕ → ℤ
 paidOf k p i j = getD p (rowStart k i + j) (pos 0)
 
@@ -26,7 +26,7 @@ unfoldable pub sumTo : (ℕ → ℤ) → ℕ → ℤ
 sumTo f zero = pos 0
 sumTo f (suc n) = sumTo f n +ℤ f n
 
--- the cumulative C_ij
+-- the cumulative C_ij, i + j at most k
 unfoldable pub cumulativeOf : ℕ → List ℤ → ℕ → ℕ → ℤ
 cumulativeOf k p i j = sumTo (paidOf k p i) (suc j)
 

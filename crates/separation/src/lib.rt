@@ -219,7 +219,7 @@ fn refused(answer: u64, k: usize) -> Separation
     Separation { answer, factors }
 }
 
-// Questions 9 and 10 of the factors. The running shares fall with the year, so the first share tells question 9.
+// Questions 9 and 10 of the factors. The running shares are the less the earlier the year, so the first share tells question 9.
 fn factors_answer(f: Factors) -> u64
     requires { ⌜ f .k < 16 ⌝ }
     ensures { λ r. ⌜ r ≡ firstNo ((9, leb 1 (getD (f .shares) 0 0)) ∷ (10, every (between 0 billion) (take (f .k + 1) (f .levels))) ∷ []) ⌝ }
