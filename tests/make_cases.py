@@ -297,9 +297,25 @@ def main():
     store("run_cases", given, wanted)
     print("cases by number:", {number_: numbers.count(number_) for number_ in range(15)})
     record = model.pack(model.MOTOR_ACCOUNT)
-    with open(os.path.join(HERE, "..", "examples", "motor_account.rec"), "wb") as out:
-        out.write(record)
+    example("motor_account", record)
+    example("sixteen_years", model.pack(sixteen_years()))
     store("reserve", record, "".join(f"{v}\n" for v in model.run(record, model.result_count(3))[1]))
+
+
+def sixteen_years():
+    """A full record: claims counts and payments of the usual size, paid down by three tenths a year."""
+    k = 15
+    paid = [1 + (80000 + 2371 * (17 * i + j) % 40000) * 7**j // 10**j for i in range(k + 1) for j in range(k + 1 - i)]
+    fields = [k] + [100 + 613 * i % 1900 for i in range(k + 1)] + paid + [model.M + 20000 * t for t in range(1, k + 1)]
+    part = model.M // (k + 1)
+    fields += [model.M - part * k] + [part] * k + [model.M // 2] + [100 + 773 * t % 1900 for t in range(k + 1)]
+    assert model.run(model.pack(fields), model.result_count(k))[0] == 0
+    return fields
+
+
+def example(name, record):
+    with open(os.path.join(HERE, "..", "examples", name + ".rec"), "wb") as out:
+        out.write(record)
 
 
 def shown(number_, values, room):
