@@ -1,4 +1,5 @@
-// Numbers and lists on standard output.
+// Numbers and lists on standard output. What arrives there is outside the contracts: the kit says nothing of what a write leaves behind, so the
+// routines promise only that they are safe and end, and the gate compares what each program writes with its stored output.
 use libc::STDOUT_FILENO;
 ghost use mathlib.Core.Path.{_≡_};
 ghost use Prim.Native.Nat.{_≤_};
@@ -41,5 +42,31 @@ pub fn put_lines(list: &[i64], n: usize)
 {
     for i in 0..n {
         put_line(list[i]);
+    }
+}
+
+// Whether each entry is still the one that was lent.
+fn unchanged(list: &[i64], lent: i64) -> bool {
+    let n = list.len();
+    for i in 0..n {
+        if list[i] != lent {
+            return false;
+        }
+    }
+    true
+}
+
+// Writes the answer of a call that was lent this list full of one value, and then the whole list after an answer of 0, or whether a refusal
+// left it unchanged.
+pub fn put_outcome(answer: u64, list: &[i64], lent: i64) {
+    put_text(b"answer ");
+    put_number(answer);
+    put_text(b"\n");
+    if answer == 0 {
+        put_lines(list, list.len());
+    } else if unchanged(list, lent) {
+        put_text(b"unchanged\n");
+    } else {
+        put_text(b"changed\n");
     }
 }

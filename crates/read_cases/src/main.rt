@@ -1,21 +1,11 @@
 // Test of the reader. Each case on standard input is the length of a list (one byte), the length of a record (two bytes, high byte first) and
 // the record. The list is lent full of -7. Writes the answer, and then the list after an answer of 0, or whether a refusal left it unchanged.
-use printing::put_lines;
-use printing::put_number;
-use printing::put_text;
+use printing::put_outcome;
 use reading::doonamurk_read;
 ghost use Prim.Native.Nat.{_<_};
 
-// Whether each entry is still -7.
-fn unchanged(list: &[i64]) -> bool {
-    let n = list.len();
-    for i in 0..n {
-        if list[i] != -7 {
-            return false;
-        }
-    }
-    true
-}
+// What each entry of the lent list holds before the call.
+const LENT: i64 = -7;
 
 // Reads a record of this length and shows what the reader makes of it; false where the input ends before.
 fn show(packed: &mut [u8], list: &mut [i64]) -> bool {
@@ -23,16 +13,7 @@ fn show(packed: &mut [u8], list: &mut [i64]) -> bool {
         return false;
     }
     let answer = doonamurk_read(packed, list);
-    put_text(b"answer ");
-    put_number(answer);
-    put_text(b"\n");
-    if answer == 0 {
-        put_lines(list, list.len());
-    } else if unchanged(list) {
-        put_text(b"unchanged\n");
-    } else {
-        put_text(b"changed\n");
-    }
+    put_outcome(answer, list, LENT);
     true
 }
 
@@ -54,7 +35,7 @@ fn case() -> bool {
         return false;
     }
     let mut packed = io::buffer();
-    let mut list = [-7i64; 255];
+    let mut list = [LENT; 255];
     show(&mut packed[..size], &mut list[..room])
 }
 

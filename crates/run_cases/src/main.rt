@@ -2,21 +2,11 @@
 // first) and the record. The buffer is lent full of -7. Writes the answer, and then the whole buffer after an answer of 0, or whether a
 // refusal left it unchanged.
 use engine::doonamurk_run;
-use printing::put_lines;
-use printing::put_number;
-use printing::put_text;
+use printing::put_outcome;
 ghost use Prim.Native.Nat.{_<_};
 
-// Whether each entry is still -7.
-fn unchanged(results: &[i64]) -> bool {
-    let n = results.len();
-    for i in 0..n {
-        if results[i] != -7 {
-            return false;
-        }
-    }
-    true
-}
+// What each entry of the lent list holds before the call.
+const LENT: i64 = -7;
 
 // Reads a record of this length and shows what the engine makes of it; false where the input ends before.
 fn show(packed: &mut [u8], results: &mut [i64]) -> bool {
@@ -24,16 +14,7 @@ fn show(packed: &mut [u8], results: &mut [i64]) -> bool {
         return false;
     }
     let answer = doonamurk_run(packed, results);
-    put_text(b"answer ");
-    put_number(answer);
-    put_text(b"\n");
-    if answer == 0 {
-        put_lines(results, results.len());
-    } else if unchanged(results) {
-        put_text(b"unchanged\n");
-    } else {
-        put_text(b"changed\n");
-    }
+    put_outcome(answer, results, LENT);
     true
 }
 
@@ -65,7 +46,7 @@ fn case() -> bool {
         return false;
     }
     let mut packed = io::buffer();
-    let mut results = [-7i64; 512];
+    let mut results = [LENT; 512];
     show(&mut packed[..size], &mut results[..room])
 }
 

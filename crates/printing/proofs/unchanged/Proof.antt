@@ -1,16 +1,16 @@
--- `read_cases::unchanged` is safe and ends. The loop's invariant: i is at most the length. Assumes nothing.
+-- `printing::unchanged` is safe and ends. The loop's invariant: i is at most the length. Assumes nothing.
 use Prim.Native.Nat.{_≤_, _-_}
 use mathlib.Core.Path.{_≡_}
 use lib.ListN.{length}
 use native.Mathlib.Omega.{arith}
-use Rattle.read_cases.proofs.unchanged.Statement.{statement}
-use Rattle.read_cases.proofs.unchanged.Tie as tie
+use Rattle.printing.proofs.unchanged.Statement.{statement}
+use Rattle.printing.proofs.unchanged.Tie as tie
 
 abbrev Inv-loop : tie.InvT-loop
-Inv-loop list n i₀ i = (i ≤ n) × (n ≡ length list)
+Inv-loop list lent n i₀ i = (i ≤ n) × (n ≡ length list)
 
 abbrev μ-loop : tie.MeasureT-loop
-μ-loop list n i₀ i = n - i
+μ-loop list lent n i₀ i = n - i
 
 loop-holds : tie.Need-loop-holds Inv-loop μ-loop
 loop-holds c = omega arith
