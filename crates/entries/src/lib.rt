@@ -1,9 +1,9 @@
 // Lists of numbers: entries put into a lent list of signed 64-bit numbers, each function answering the place after those that it filled;
-// ranges; sums.
+// ranges; sums; sizes.
 ghost use mathlib.Core.Path.{_≡_};
 ghost use mathlib.Core.List.{map};
 ghost use Prim.Native.Nat.{ℕ, _+_, _<_, _≤_, _^_};
-ghost use lib.IntN.{pos};
+ghost use lib.IntN.{pos, natAbs};
 ghost use lib.ListN.{length, getD, set, take};
 ghost use lib.Seq.{sets};
 ghost use Rattle.rules.specs.Lists.{total, every, between};
@@ -66,4 +66,15 @@ pub fn sum_of(vs: &[u64], n: usize) -> u64
         sum += vs[i];
     }
     sum
+}
+
+// The size of x.
+pub fn size_of(x: i64) -> u64
+    ensures { λ r. ⌜ r ≡ natAbs x ⌝ }
+{
+    if x < 0 {
+        ((0 - (x + 1)) as u64) + 1
+    } else {
+        x as u64
+    }
 }

@@ -10,6 +10,7 @@ use lib.Dec.{lit≤}
 use lib.ListN.{length, getD, set, replicate, length-append, List·getD-append, List·getD-eq-default}
 use lib.Seq.{sets, getD-append-add}
 use Rattle.rules.specs.Lists.{total, upTo, padded}
+use Rattle.rules.specs.Record.{cells}
 use Rattle.rules.specs.Triangle.{rowStart}
 use Rattle.rules.specs.Results.{joined}
 use Rattle.rules.specs.Demand.{futureStart}
@@ -118,6 +119,15 @@ future-most n h = few-most (16 - n) n (omega arith)
 pub future-room : (i : ℕ) → i < 16 → futureStart i + i ≤ 120
 unfolding futureStart
 future-room i h = future-most (suc i) h
+
+-- the cells of a triangle are those past its diagonal and one a year
+future-suc : (k : ℕ) → cells k ≡ futureStart (suc k) + suc k
+unfolding cells futureStart
+future-suc zero = refl
+future-suc (suc k) = omega (arith, future-suc k)
+
+pub future-cells : (k : ℕ) → cells k ≡ futureStart (k + 1) + (k + 1)
+future-cells k = rw (add-one k) (future-suc k)
 
 -- what holds of the default, of z and of every entry that is put in holds of every entry
 module _ {A : Type 0} (P : A → Type 0) (d : A) (at-d : P d) where

@@ -1,21 +1,9 @@
 // Numbers and lists on standard output. What arrives there is outside the contracts: the kit says nothing of what a write leaves behind, so the
 // routines promise only that they are safe and end, and the gate compares what each program writes with its stored output.
+use entries::size_of;
 use libc::STDOUT_FILENO;
-ghost use mathlib.Core.Path.{_≡_};
 ghost use Prim.Native.Nat.{_≤_};
-ghost use lib.IntN.{natAbs};
 ghost use lib.ListN.{length};
-
-// The size of x.
-pub fn size_of(x: i64) -> u64
-    ensures { λ r. ⌜ r ≡ natAbs x ⌝ }
-{
-    if x < 0 {
-        ((0 - (x + 1)) as u64) + 1
-    } else {
-        x as u64
-    }
-}
 
 // Writes text as it is.
 pub fn put_text(text: &[u8]) {
@@ -68,5 +56,14 @@ pub fn put_outcome(answer: u64, list: &[i64], lent: i64) {
         put_text(b"unchanged\n");
     } else {
         put_text(b"changed\n");
+    }
+}
+
+// Writes the first n bytes of a text to a descriptor, and all of it where it is shorter; whether all of that was written.
+pub fn put_first(fd: i32, text: &[u8], n: usize) -> bool {
+    if n < text.len() {
+        io::write_all(fd, &text[..n])
+    } else {
+        io::write_all(fd, text)
     }
 }

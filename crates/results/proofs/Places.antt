@@ -18,9 +18,9 @@ use Rattle.rules.specs.Ladder.{developmentFactor, completedRow}
 use Rattle.rules.specs.Results.{squareOf, latestOf, factorsIn, joined, sections, resultsOf, sectionCounts, resultCount, placeOf}
 use Rattle.rules.specs.declared.Figures.{Figures}
 use Rattle.laws.proofs.Lists.{length-upTo}
-use Rattle.laws.proofs.Joined.{past-length, future-length}
+use Rattle.laws.proofs.Joined.{past-length, future-length, future-cells}
 use Rattle.laws.proofs.Rows.{rows-from}
-use Rattle.results.proofs.Sections.{future-cells, length-payments, length-completed}
+use Rattle.results.proofs.Sections.{length-payments, length-completed}
 use Rattle.results.proofs.Rows.{take-filled}
 
 -- how long the lists are, list by list

@@ -15,19 +15,10 @@ use Rattle.rules.specs.Results.{squareOf, latestOf, factorsIn, joined, sections
 use Rattle.rules.specs.Demand.{futureStart}
 use Rattle.rules.specs.declared.Figures.{Figures}
 use Rattle.laws.proofs.Lists.{length-upTo, upTo-ext}
-use Rattle.laws.proofs.Joined.{future-length}
+use Rattle.laws.proofs.Joined.{future-length, future-cells}
 use Rattle.completion.specs.Rows.{levelsAhead, allPayments, allProvisions}
 use Rattle.listing.specs.Entries.{averageEntries, separationEntries, projectionEntries, reserveEntries, developmentEntries}
 use Rattle.results.proofs.Rows.{take-filled, payments-are}
-
-future-suc : (k : ℕ) → cells k ≡ futureStart (suc k) + suc k
-unfolding cells futureStart
-future-suc zero = refl
-future-suc (suc k) = omega (arith, future-suc k)
-
--- the cells past the diagonal of the years 0 to k
-pub future-cells : (k : ℕ) → cells k ≡ futureStart (k + 1) + (k + 1)
-future-cells k = rw (add-one k) (future-suc k)
 
 -- rows of a list past the diagonal are found again in their array
 pub take-future : (k : ℕ) (g : ℕ → List ℕ) → ((i : ℕ) → length (g i) ≡ i) → take (cells k - (k + 1)) (padded 120 0 (joined (upTo g (k + 1)))) ≡ joined (upTo g (k + 1))

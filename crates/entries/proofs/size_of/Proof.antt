@@ -1,12 +1,12 @@
--- `printing::size_of` meets its contract, by the sign of the number. Assumes nothing.
+-- By the sign of the number. Assumes nothing.
 use Prim.Native.Nat.{ℕ, _<_, _^_}
 use mathlib.Core.Path.{_≡_}
 use native.Mathlib.Omega.{arith}
 use borrow.Author.Needs.{needs}
 use lib.IntN.{negsuc}
-use Rattle.printing.proofs.Signs.{below, above, neg-fits, natural, plus-one, turned}
-use Rattle.printing.proofs.size_of.Statement.{statement}
-use Rattle.printing.proofs.size_of.Tie as tie
+use Rattle.entries.proofs.Signs.{below, above, neg-fits, natural, plus-one, turned}
+use Rattle.entries.proofs.size_of.Statement.{statement}
+use Rattle.entries.proofs.size_of.Tie as tie
 
 negative : (c : tie.Then1) → (n : ℕ) × (c .before .args .x ≡ negsuc n) × (n < 2 ^ 63)
 negative c = below (c .before .args .x) (c .before .fits .x) (c .if1 .taken)

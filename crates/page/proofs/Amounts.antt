@@ -1,0 +1,30 @@
+-- Amounts of a table: sums and differences stay within 64 bits. Assumes nothing.
+use Prim.Native.Nat.{ℕ, zero, suc, _+_, _≤_, _<_, _^_}
+use native.Mathlib.Omega.{arith}
+use mathlib.Core.Path.{_≡_, refl}
+use mathlib.Core.List.{List}
+use lib.IntN.{ℤ, pos, negsuc, negℤ, natAbs, _-ℤ_}
+use lib.ListN.{take}
+use mir.Syntax.{w64}
+use mir.Val.{SFits}
+use Rattle.rules.specs.Lists.{total}
+use Rattle.laws.proofs.Lists.{total-most}
+use Rattle.laws.proofs.Signed.{size-fits, sum-size}
+use Rattle.page.specs.Places.{Paid}
+
+-- a signed number of 64 bits is at most 2^63 in size
+pub size-most : (z : ℤ) → SFits w64 z → natAbs z ≤ 2 ^ 63
+size-most (pos n) f = omega (arith, f .sfits)
+size-most (negsuc n) f = omega (arith, f .sfits)
+
+turned-size : (n : ℕ) → natAbs (negℤ (pos n)) ≡ n
+turned-size zero = refl
+turned-size (suc n) = refl
+
+-- the difference of two amounts fits
+pub less-fits : (x y : ℕ) → x ≤ 20000000000000 → y ≤ 20000000000000 → SFits w64 (pos x -ℤ pos y)
+less-fits x y h k = size-fits (pos x -ℤ pos y) (omega (arith, sum-size (pos x) (negℤ (pos y)), turned-size y))
+
+-- sixteen amounts add up to at most 16 × 10^12
+pub sum-most : (xs : List ℕ) → Paid xs → total (take 16 xs) ≤ 20000000000000
+sum-most xs h = omega (arith, total-most 1000000000000 xs h 16)

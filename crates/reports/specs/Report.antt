@@ -1,0 +1,28 @@
+-- The report of any record: the page of an accepted run, or the question that said no in words. Assumes nothing.
+use Prim.Native.Nat.{ℕ, _+_}
+use mathlib.Core.Bool.{cond}
+use mathlib.Core.List.{List}
+use lib.Dec.{eqb}
+use lib.IntN.{ℤ, pos}
+use lib.ListN.{replicate}
+use Rattle.rules.specs.Lists.{upTo, padded}
+use Rattle.rules.specs.Record.{lastYearOf, figuresOf}
+use Rattle.rules.specs.Completion.{paidTo}
+use Rattle.rules.specs.Engine.{runAnswer, runInto}
+use Rattle.wording.specs.Wording.{refusalText}
+use Rattle.page.specs.Page.{ladderUltimate, pageOf}
+
+-- the list that the engine fills, of 489 entries, enough for every k; and in arrays of sixteen, zero past year k, what is paid and the chain
+-- ladder's ultimates by origin year
+abbrev pub filledBy : List ℕ → List ℤ
+filledBy s = runInto s (replicate 489 (pos 0))
+
+abbrev pub paidBy : List ℕ → List ℕ
+paidBy s = padded 16 0 (upTo (paidTo (figuresOf s)) (lastYearOf s + 1))
+
+abbrev pub ladderBy : List ℕ → List ℕ
+ladderBy s = padded 16 0 (upTo (ladderUltimate (lastYearOf s) (filledBy s) (paidBy s)) (lastYearOf s + 1))
+
+-- the report of the record s
+unfoldable pub reportOf : List ℕ → List ℕ
+reportOf s = cond (eqb (runAnswer s 489) 0) (pageOf (lastYearOf s) (filledBy s) (paidBy s) (ladderBy s)) (refusalText (runAnswer s 489))

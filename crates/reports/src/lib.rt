@@ -1,0 +1,75 @@
+// The report of any record: the page of an accepted run, or the question that said no in words.
+use completion::ultimates;
+use engine::doonamurk_run;
+use entries::size_of;
+use page::put_page;
+use page::starts_of;
+use reading::read;
+use rules::Figures;
+use triangle::cumulatives;
+use wording::put_refusal;
+ghost use mathlib.Core.Path.{_≡_};
+ghost use mathlib.Core.Bool.{true};
+ghost use Prim.Native.Nat.{_+_, _<_};
+ghost use lib.ListN.{replicate};
+ghost use Rattle.rules.specs.Lists.{upTo, padded};
+ghost use Rattle.rules.specs.Triangle.{cumulativesPass};
+ghost use Rattle.rules.specs.Completion.{paidTo};
+ghost use Rattle.rules.specs.Results.{placeOf};
+ghost use Rattle.rules.specs.Engine.{runAnswer};
+ghost use Rattle.stages.specs.Stages.{Sound};
+ghost use Rattle.composing.specs.Text.{Put};
+ghost use Rattle.page.specs.Page.{ladderUltimate};
+ghost use Rattle.page.specs.Places.{Paid};
+ghost use Rattle.reports.specs.Report.{filledBy, reportOf};
+
+// What is paid by origin year: the ultimates of years without provisions.
+fn paid_of(f: Figures) -> [u64; 16]
+    requires { ⌜ Sound f × (cumulativesPass (f .k) (f .increments) ≡ true) ⌝ }
+    ensures { λ r. ⌜ (r ≡ padded 16 0 (upTo (paidTo f) (f .k + 1))) × Paid r ⌝ }
+{
+    let k = f.k;
+    let increments = f.increments;
+    let paid = cumulatives(k, &increments);
+    let none = [0u64; 16];
+    ultimates(k, &paid, &none)
+}
+
+// The chain ladder's ultimates by origin year, the last completed cumulative of each; p is where those cumulatives start in the list.
+fn ladder_of(list: &[i64; 489], paid: &[u64; 16], k: usize, p: usize) -> [u64; 16]
+    requires { ⌜ (k < 16) × (p ≡ placeOf k 12) ⌝ }
+    ensures { λ r. ⌜ r ≡ padded 16 0 (upTo (ladderUltimate k (now (list .entry)) (now (paid .entry))) (k + 1)) ⌝ }
+{
+    let mut all = [0u64; 16];
+    all[0] = paid[0];
+    let mut from = p;
+    for i in 0..k {
+        all[i + 1] = size_of(list[from + i]);
+        from += i + 1;
+    }
+    all
+}
+
+// The page of an accepted run, from the record and the list that the engine filled.
+fn put_accepted(out: &mut [u8], packed: &[u8], list: &[i64; 489]) -> usize
+    requires { ⌜ (runAnswer (now packed) 489 ≡ 0) × (now list ≡ filledBy (now packed)) ⌝ }
+    ensures { λ r. ⌜ Put (now (out .entry)) (now (out .exit)) 0 r (reportOf (now (packed .entry))) ⌝ }
+{
+    let f = read(packed).figures;
+    let k = f.k;
+    let paid = paid_of(f);
+    let ladder = ladder_of(list, &paid, k, starts_of(k).completed);
+    put_page(out, 0, list, &paid, &ladder, k)
+}
+
+// Puts the report of a record into the buffer, as far as it goes, and answers where it ends.
+pub fn report(packed: &[u8], out: &mut [u8]) -> usize
+    ensures { λ r. ⌜ Put (now (out .entry)) (now (out .exit)) 0 r (reportOf (now (packed .entry))) ⌝ }
+{
+    let mut list = [0i64; 489];
+    let answer = doonamurk_run(packed, &mut list);
+    if answer != 0 {
+        return put_refusal(out, 0, answer);
+    }
+    put_accepted(out, packed, &list)
+}

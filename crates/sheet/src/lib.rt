@@ -1,0 +1,1 @@
+// Figures as text. The layout stands in specs/.

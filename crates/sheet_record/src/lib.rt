@@ -1,0 +1,1 @@
+// The text of a record read again: the theorems stand in proofs/.
