@@ -1,8 +1,10 @@
 #!/usr/bin/env python3
-"""make_cases.py: writes the stored input and expected output of the test programs read_cases, write_cases, run_cases and reserve.
+"""make_cases.py: writes the stored input and expected output of the test programs read_cases, write_cases, run_cases and reserve, and the records
+of the examples from their texts.
 
 The expected output comes from model.py, which is written from document 01 and shares nothing with the Rattle code.
 """
+import glob
 import os
 import random
 
@@ -297,25 +299,18 @@ def main():
     store("run_cases", given, wanted)
     print("cases by number:", {number_: numbers.count(number_) for number_ in range(15)})
     record = model.pack(model.MOTOR_ACCOUNT)
-    example("motor_account", record)
-    example("sixteen_years", model.pack(sixteen_years()))
     store("reserve", record, "".join(f"{v}\n" for v in model.run(record, model.result_count(3))[1]))
+    for path in sorted(glob.glob(os.path.join(HERE, "..", "examples", "*.txt"))):
+        record = model.pack(typed(path))
+        assert model.run(record, model.result_count(record[0] >> 4))[0] == 0
+        with open(path.removesuffix(".txt") + ".rec", "wb") as out:
+            out.write(record)
 
 
-def sixteen_years():
-    """A full record: claims counts and payments of the usual size, paid down by three tenths a year."""
-    k = 15
-    paid = [1 + (80000 + 2371 * (17 * i + j) % 40000) * 7**j // 10**j for i in range(k + 1) for j in range(k + 1 - i)]
-    fields = [k] + [100 + 613 * i % 1900 for i in range(k + 1)] + paid + [model.M + 20000 * t for t in range(1, k + 1)]
-    part = model.M // (k + 1)
-    fields += [model.M - part * k] + [part] * k + [model.M // 2] + [100 + 773 * t % 1900 for t in range(k + 1)]
-    assert model.run(model.pack(fields), model.result_count(k))[0] == 0
-    return fields
-
-
-def example(name, record):
-    with open(os.path.join(HERE, "..", "examples", name + ".rec"), "wb") as out:
-        out.write(record)
+def typed(path):
+    """The fields of an example's text: every number of every line, comments left out."""
+    with open(path) as text:
+        return [int(word) for line in text for word in line.split("#")[0].split()[1:]]
 
 
 def shown(number_, values, room):

@@ -1,6 +1,6 @@
 """Document 01's record and engine in plain Python, written from the paper and not from the Rattle code.
 
-Used only to make the stored inputs and expected outputs of the test programs (make_cases.py): the gate itself needs no Python.
+Used to make the stored inputs and expected outputs of the test programs (make_cases.py), and timed beside the engine by tests/benchmark.
 """
 
 S = 10**9

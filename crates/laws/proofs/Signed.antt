@@ -21,6 +21,11 @@ pub size-fits : (z : ℤ) → natAbs z < 2 ^ 63 → SFits w64 z
 size-fits (pos n) h = record { sfits = h }
 size-fits (negsuc n) h = record { sfits = omega arith }
 
+-- a signed number of 64 bits is at most 2^63 in size
+pub size-most : (z : ℤ) → SFits w64 z → natAbs z ≤ 2 ^ 63
+size-most (pos n) f = omega (arith, f .sfits)
+size-most (negsuc n) f = omega (arith, f .sfits)
+
 -- the size of a sum is at most the sum of the sizes
 cond-size : (t : Bool) (a b : ℕ) → natAbs (cond t (negsuc (suc b - suc a)) (pos (a - suc b))) ≤ a + suc b
 cond-size true a b = omega arith

@@ -1,9 +1,9 @@
 -- Amounts of a table: sums and differences stay within 64 bits. Assumes nothing.
-use Prim.Native.Nat.{ℕ, zero, suc, _+_, _≤_, _<_, _^_}
+use Prim.Native.Nat.{ℕ, zero, suc, _+_, _≤_}
 use native.Mathlib.Omega.{arith}
 use mathlib.Core.Path.{_≡_, refl}
 use mathlib.Core.List.{List}
-use lib.IntN.{ℤ, pos, negsuc, negℤ, natAbs, _-ℤ_}
+use lib.IntN.{pos, negℤ, natAbs, _-ℤ_}
 use lib.ListN.{take}
 use mir.Syntax.{w64}
 use mir.Val.{SFits}
@@ -11,11 +11,6 @@ use Rattle.rules.specs.Lists.{total}
 use Rattle.laws.proofs.Lists.{total-most}
 use Rattle.laws.proofs.Signed.{size-fits, sum-size}
 use Rattle.page.specs.Places.{Paid}
-
--- a signed number of 64 bits is at most 2^63 in size
-pub size-most : (z : ℤ) → SFits w64 z → natAbs z ≤ 2 ^ 63
-size-most (pos n) f = omega (arith, f .sfits)
-size-most (negsuc n) f = omega (arith, f .sfits)
 
 turned-size : (n : ℕ) → natAbs (negℤ (pos n)) ≡ n
 turned-size zero = refl

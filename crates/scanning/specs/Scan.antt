@@ -27,9 +27,13 @@ filled ((b ∷ bs) ∷ xs) = (b ∷ bs) ∷ filled xs
 abbrev pub endsLine : ℕ → Bool
 endsLine b = eqb b 10
 
--- what stands between words: a space, a tab, a carriage return, a comma or a semicolon
+-- the three bytes of the mark that some programs put at the start of a file
+abbrev pub isMark : ℕ → Bool
+isMark b = eqb b 239 || (eqb b 187 || eqb b 191)
+
+-- what stands between words: a space, a tab, a carriage return, a comma, a semicolon, or a byte of that mark
 abbrev pub isBlank : ℕ → Bool
-isBlank b = eqb b 32 || (eqb b 9 || (eqb b 13 || (eqb b 44 || eqb b 59)))
+isBlank b = eqb b 32 || (eqb b 9 || (eqb b 13 || (eqb b 44 || (eqb b 59 || isMark b))))
 
 -- the lines of a text
 abbrev pub lines : List ℕ → List (List ℕ)

@@ -2,7 +2,7 @@
 use mir.Facts.{toZ-ofZ}
 use Rattle.composing.proofs.Puts.{put-three}
 use native.Mathlib.Omega.{arith}
-use Rattle.page.proofs.Amounts.{size-most}
+use Rattle.laws.proofs.Signed.{size-most}
 use borrow.Author.Needs.{needs}
 use Rattle.page.proofs.put_separation_amounts.Statement.{statement}
 use Rattle.page.proofs.put_separation_amounts.Tie as tie

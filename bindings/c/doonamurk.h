@@ -1,0 +1,83 @@
+/* Doonamurk, a reserving engine: from one record of paid claims, exposures and assumptions to its result list.
+ *
+ * Link target/lib/libdoonamurk.a or libdoonamurk.so (bindings/build makes both; x86-64 Linux). docs/FORMAT.md has the record, the lists and the
+ * questions.
+ *
+ * Of every function here:
+ * - It answers 0, or the number of the first question that says no; then every lent buffer is left as it was.
+ * - The caller owns every buffer. Nothing is allocated, kept or freed, and a buffer may be used anew as soon as the call has returned.
+ * - Lengths count elements (bytes, 64-bit numbers), not bytes of memory. A pointer must be valid for its length and aligned for its type. None may be
+ *   null, not even one of length 0: any non-null pointer will do for that.
+ * - A buffer that is filled must not overlap any other buffer of the call. Buffers that are only read may overlap each other.
+ * - There is no global state: any number of threads may call at once, each with buffers of its own to fill; what is only read may be shared.
+ */
+#ifndef DOONAMURK_H
+#define DOONAMURK_H
+
+#include <stddef.h>
+#include <stdint.h>
+
+#ifdef __cplusplus
+extern "C" {
+#endif
+
+#define DOONAMURK_ACCEPTED 0
+
+/* The longest of each, for buffers that are to hold any: years 0 to k, bytes of a record, fields of a record, entries of a result list. */
+#define DOONAMURK_K_MAX 15
+#define DOONAMURK_RECORD_MAX 790
+#define DOONAMURK_FIELDS_MAX 201
+#define DOONAMURK_RESULTS_MAX 489
+
+/* For k from 1 to 15: the cells of the triangle, the bytes of the record, its fields, and the entries of the result list. */
+static inline size_t doonamurk_cells(size_t k) { return (k + 1) * (k + 2) / 2; }
+static inline size_t doonamurk_record_bytes(size_t k) { return (98 + 97 * k + 35 * doonamurk_cells(k) + 7) / 8; }
+static inline size_t doonamurk_field_count(size_t k) { return doonamurk_cells(k) + 4 * k + 5; }
+static inline size_t doonamurk_result_count(size_t k) { return 3 * doonamurk_cells(k) + 5 * k + 6; }
+
+/* Runs from a record to its result list.
+ *
+ * Answers 0 and fills the first doonamurk_result_count(k) entries of results; entries past them keep what they held. Else answers 1 to 14, the first
+ * question that says no, and leaves all of results as it was; too short a buffer is question 3.
+ *
+ * record, record_len    any bytes, of any length; only read
+ * results, results_len  the buffer that is filled; DOONAMURK_RESULTS_MAX entries hold every list
+ *
+ * The caller owns both and nothing is kept or freed; neither may be null and they must not overlap; any number of threads may call at once. */
+uint64_t doonamurk_run(const uint8_t *record, size_t record_len, int64_t *results, size_t results_len);
+
+/* Reads a record into a list of its fields.
+ *
+ * Answers 0 and fills the first doonamurk_field_count(k) entries of list with the fields in the record's order, k first, increments signed; entries
+ * past them keep what they held. Else answers 1 to 5, the first question that says no, and leaves all of list as it was; too short a list is question 3.
+ *
+ * record, record_len  any bytes, of any length; only read
+ * list, list_len      the buffer that is filled; DOONAMURK_FIELDS_MAX entries hold the fields of every record
+ *
+ * The caller owns both and nothing is kept or freed; neither may be null and they must not overlap; any number of threads may call at once. */
+uint64_t doonamurk_read(const uint8_t *record, size_t record_len, int64_t *list, size_t list_len);
+
+/* Writes the record of the given fields.
+ *
+ * Answers 0 and fills all of record, filling bits zero. Else answers 1, 2, 4 or 5, the first question that says no, and leaves all of record as it was.
+ * A k outside 1 to 15 is question 1; a length other than the one below is question 2; a field out of its range is question 4.
+ *
+ * k                   the last year, 1 to 15
+ * exposures, n        n = k + 1 exposures, 1 to 1,000,000
+ * increments, c       c = doonamurk_cells(k) paid increments, row by row, -10^10 to 10^10
+ * indices, e          e = k future indices in millionths, 1 to 5,000,000
+ * reporting, b        b = k + 1 reporting shares in millionths, which sum to 1,000,000 (question 5)
+ * weight              the reporting weight in millionths, 0 to 1,000,000
+ * ulae, u             u = k + 1 ULAE totals, 0 to 10^10
+ * record, record_len  the buffer that is filled, record_len = doonamurk_record_bytes(k)
+ *
+ * The caller owns all of them and nothing is kept or freed; none may be null and record must not overlap a list; any number of threads may call at once. */
+uint64_t doonamurk_write(uint64_t k, const uint64_t *exposures, size_t n, const int64_t *increments, size_t c,
+                         const uint64_t *indices, size_t e, const uint64_t *reporting, size_t b, uint64_t weight,
+                         const uint64_t *ulae, size_t u, uint8_t *record, size_t record_len);
+
+#ifdef __cplusplus
+}
+#endif
+
+#endif

@@ -1,0 +1,171 @@
+/* Tests the C functions on Taylor's motor account, on document 01's two years, and on refusals. Says which check fails, and ends with status 1. */
+#include "doonamurk.h"
+
+#include <stdio.h>
+#include <string.h>
+
+static int failures = 0;
+
+static void check(int holds, const char *what)
+{
+    if (!holds) {
+        printf("failed: %s\n", what);
+        failures++;
+    }
+}
+
+#define MOTOR_K 3
+static const uint64_t motor_exposures[] = {1, 1, 1, 1};
+static const int64_t motor_increments[] = {504, 282, 90, 48, 580, 292, 97, 595, 332, 662};
+static const uint64_t motor_indices[] = {1100000, 1210000, 1331000};
+static const uint64_t motor_reporting[] = {700000, 200000, 80000, 20000};
+static const uint64_t motor_ulae[] = {20, 25, 30, 35};
+
+/* The record of the motor account, with the first exposure and the length of the increments to choose. */
+static uint64_t write_motor(uint64_t k, uint64_t exposure, size_t cells, uint8_t *record, size_t record_len)
+{
+    uint64_t exposures[4];
+    memcpy(exposures, motor_exposures, sizeof exposures);
+    exposures[0] = exposure;
+    return doonamurk_write(k, exposures, 4, motor_increments, cells, motor_indices, 3, motor_reporting, 4, 500000,
+                           motor_ulae, 4, record, record_len);
+}
+
+static void fill(int64_t *list, size_t n)
+{
+    for (size_t i = 0; i < n; i++)
+        list[i] = -1000 - (int64_t)i;
+}
+
+static int filled(const int64_t *list, size_t from, size_t n)
+{
+    for (size_t i = from; i < n; i++)
+        if (list[i] != -1000 - (int64_t)i)
+            return 0;
+    return 1;
+}
+
+static void sizes(void)
+{
+    check(doonamurk_record_bytes(1) == 38 && doonamurk_record_bytes(15) == DOONAMURK_RECORD_MAX, "bytes of a record");
+    check(doonamurk_field_count(1) == 12 && doonamurk_field_count(15) == DOONAMURK_FIELDS_MAX, "fields of a record");
+    check(doonamurk_result_count(1) == 20 && doonamurk_result_count(15) == DOONAMURK_RESULTS_MAX, "entries of a result list");
+}
+
+static void two_years(void)
+{
+    static const int64_t printed[] = {6000, 4000, 6600, 622641509, 377358491, 9636, 10600, 11660, 44, 0,
+                                      44, 44, 0, 22, 0, 3, 3, 96385, 1666666, 109};
+    const uint64_t exposures[] = {1, 1}, indices[] = {1100000}, reporting[] = {800000, 200000}, ulae[] = {6, 10};
+    const int64_t increments[] = {60, 40, 66};
+    uint8_t record[38];
+    int64_t results[20];
+    check(doonamurk_write(1, exposures, 2, increments, 3, indices, 1, reporting, 2, 500000, ulae, 2, record, 38) == 0,
+          "the two years are written");
+    check(doonamurk_run(record, 38, results, 20) == 0, "the two years are accepted");
+    check(memcmp(results, printed, sizeof printed) == 0, "the two years have the printed list");
+}
+
+static void motor_account(void)
+{
+    static const int64_t shares[] = {583475514, 287767456, 86614799, 42142231};
+    static const int64_t levels[] = {86378, 98939, 101998, 113900};
+    uint8_t record[DOONAMURK_RECORD_MAX];
+    int64_t results[DOONAMURK_RESULTS_MAX];
+    size_t bytes = doonamurk_record_bytes(MOTOR_K), count = doonamurk_result_count(MOTOR_K);
+    check(write_motor(MOTOR_K, 1, 10, record, bytes) == 0, "the motor account is written");
+    fill(results, DOONAMURK_RESULTS_MAX);
+    check(doonamurk_run(record, bytes, results, DOONAMURK_RESULTS_MAX) == 0, "the motor account is accepted");
+    check(memcmp(results + 10, shares, sizeof shares) == 0, "shares of the motor account");
+    check(memcmp(results + 14, levels, sizeof levels) == 0, "levels of the motor account");
+    check(filled(results, count, DOONAMURK_RESULTS_MAX), "entries past the list keep what they held");
+
+    int64_t list[DOONAMURK_FIELDS_MAX];
+    fill(list, DOONAMURK_FIELDS_MAX);
+    check(doonamurk_read(record, bytes, list, DOONAMURK_FIELDS_MAX) == 0, "the motor account is read");
+    check(list[0] == MOTOR_K && memcmp(list + 5, motor_increments, sizeof motor_increments) == 0, "fields of the motor account");
+    check(filled(list, doonamurk_field_count(MOTOR_K), DOONAMURK_FIELDS_MAX), "entries past the fields keep what they held");
+}
+
+/* A refused run or read leaves every entry. */
+static void refused(uint64_t number, const uint8_t *record, size_t len, size_t room, const char *what)
+{
+    int64_t results[DOONAMURK_RESULTS_MAX];
+    fill(results, DOONAMURK_RESULTS_MAX);
+    uint64_t answer = doonamurk_run(record, len, results, room);
+    check(answer == number && filled(results, 0, DOONAMURK_RESULTS_MAX), what);
+    if (number <= 5 && number != 3) {
+        answer = doonamurk_read(record, len, results, room);
+        check(answer == number && filled(results, 0, DOONAMURK_RESULTS_MAX), what);
+    }
+}
+
+static void refusals(void)
+{
+    uint8_t record[DOONAMURK_RECORD_MAX], changed[DOONAMURK_RECORD_MAX];
+    size_t bytes = doonamurk_record_bytes(MOTOR_K);
+    check(write_motor(MOTOR_K, 1, 10, record, bytes) == 0, "the motor account is written");
+
+    refused(1, record, 0, DOONAMURK_RESULTS_MAX, "refused 1: no first byte");
+    refused(2, record, bytes - 1, DOONAMURK_RESULTS_MAX, "refused 2: a byte too few");
+    refused(3, record, bytes, doonamurk_result_count(MOTOR_K) - 1, "refused 3: an entry too few");
+    memcpy(changed, record, bytes);
+    changed[bytes - 1] |= 1;
+    refused(2, changed, bytes, DOONAMURK_RESULTS_MAX, "refused 2: a filling bit");
+    memcpy(changed, record, bytes);
+    changed[0] &= 0xf0; /* the first exposure, bits 4 to 23, is 0 */
+    changed[1] = changed[2] = 0;
+    refused(4, changed, bytes, DOONAMURK_RESULTS_MAX, "refused 4: an exposure of 0");
+
+    int64_t list[DOONAMURK_FIELDS_MAX];
+    fill(list, DOONAMURK_FIELDS_MAX);
+    check(doonamurk_read(record, bytes, list, doonamurk_field_count(MOTOR_K) - 1) == 3 && filled(list, 0, DOONAMURK_FIELDS_MAX),
+          "refused 3 by read: an entry too few");
+
+    /* Document 01: the two-year cells with 66 made 0 are refused 8, with first cell 0 refused 13, with U 6, 161 refused 12. */
+    const struct { int64_t cells[3]; uint64_t ulae[2]; uint64_t number; const char *what; } marked[] = {
+        {{60, 40, 0}, {6, 10}, 8, "refused 8: the two years with 66 made 0"},
+        {{0, 40, 66}, {6, 10}, 13, "refused 13: the two years with first cell 0"},
+        {{60, 40, 66}, {6, 161}, 12, "refused 12: the two years with U 6, 161"},
+    };
+    const uint64_t exposures[] = {1, 1}, indices[] = {1100000}, reporting[] = {800000, 200000};
+    for (size_t i = 0; i < sizeof marked / sizeof *marked; i++) {
+        check(doonamurk_write(1, exposures, 2, marked[i].cells, 3, indices, 1, reporting, 2, 500000, marked[i].ulae, 2, changed, 38) == 0,
+              "a changed two years is written");
+        refused(marked[i].number, changed, 38, 20, marked[i].what);
+    }
+}
+
+static void refused_writes(void)
+{
+    static const struct { uint64_t k, exposure; size_t cells, over; uint64_t number; const char *what; } calls[] = {
+        {0, 1, 10, 0, 1, "write refused 1: k is 0"},
+        {16, 1, 10, 0, 1, "write refused 1: k is 16"},
+        {3, 1, 9, 0, 2, "write refused 2: an increment too few"},
+        {3, 1, 10, 1, 2, "write refused 2: a byte too many"},
+        {3, 0, 10, 0, 4, "write refused 4: an exposure of 0"},
+        {3, 1000001, 10, 0, 4, "write refused 4: an exposure above a million"},
+    };
+    uint8_t record[DOONAMURK_RECORD_MAX], before[DOONAMURK_RECORD_MAX];
+    memset(before, 0xa5, sizeof before);
+    for (size_t i = 0; i < sizeof calls / sizeof *calls; i++) {
+        memcpy(record, before, sizeof record);
+        uint64_t answer = write_motor(calls[i].k, calls[i].exposure, calls[i].cells, record, doonamurk_record_bytes(MOTOR_K) + calls[i].over);
+        check(answer == calls[i].number && memcmp(record, before, sizeof record) == 0, calls[i].what);
+    }
+    const uint64_t reporting[] = {700000, 200000, 80000, 20001};
+    memcpy(record, before, sizeof record);
+    uint64_t answer = doonamurk_write(MOTOR_K, motor_exposures, 4, motor_increments, 10, motor_indices, 3, reporting, 4, 500000,
+                                      motor_ulae, 4, record, doonamurk_record_bytes(MOTOR_K));
+    check(answer == 5 && memcmp(record, before, sizeof record) == 0, "write refused 5: reporting shares of 1,000,001");
+}
+
+int main(void)
+{
+    sizes();
+    two_years();
+    motor_account();
+    refusals();
+    refused_writes();
+    return failures != 0;
+}

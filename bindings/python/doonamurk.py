@@ -1,0 +1,148 @@
+"""Calls the proved reserving engine from Python: run, read and write, over the shared library that bindings/build makes.
+
+    import doonamurk
+    results = doonamurk.run(open("examples/motor_account.rec", "rb").read())
+
+A refusal is raised as Refused, with the number of the first question that says no. docs/FORMAT.md has the record, the lists and the questions.
+
+The library is target/lib/libdoonamurk.so of this repository, or the file that the environment variable DOONAMURK_LIBRARY names. It has no global
+state: any number of threads may call at once.
+"""
+
+import ctypes
+import os
+from pathlib import Path
+
+K_MAX = 15
+RECORD_MAX = 790
+FIELDS_MAX = 201
+RESULTS_MAX = 489
+
+QUESTIONS = {
+    1: "Is there a first byte, and is k at least 1?",
+    2: "Is the length just what k calls for, and every filling bit zero?",
+    3: "Does the list hold all entries?",
+    4: "Is every field in its range?",
+    5: "Do the reporting shares sum to 1,000,000?",
+    6: "Is every given cumulative from 0 to 10^11?",
+    7: "Is every column and every diagonal of the averages at least 0, and their total at most 10^9?",
+    8: "Is T_h - v_h at least 1 for every h from 1 to k?",
+    9: "Is every running share at least 1?",
+    10: "Is every level at most 10^9?",
+    11: "Is every ultimate at most 10^12?",
+    12: "Is the total of paid increments at least 1, and the total of the ULAE totals at most that?",
+    13: "Is every chain-ladder base at least 1, and every development factor at most 50,000,000?",
+    14: "Is every completed cumulative at most 10^11?",
+}
+
+# The writer asks these two otherwise.
+WRITE_QUESTIONS = QUESTIONS | {
+    1: "Is k from 1 to 15?",
+    2: "Has the buffer just the length that k calls for, and each list its own?",
+}
+
+
+class Refused(Exception):
+    """The first question that says no: its number, and the question in words."""
+
+    def __init__(self, number, question):
+        super().__init__(f"refused {number}: {question}")
+        self.number = number
+        self.question = question
+
+
+def cells(k):
+    """The cells of a triangle with years 0 to k."""
+    return (k + 1) * (k + 2) // 2
+
+
+def record_bytes(k):
+    """The bytes of a record with years 0 to k, for k from 1 to 15."""
+    return (98 + 97 * k + 35 * cells(k) + 7) // 8
+
+
+def field_count(k):
+    """The fields of a record with years 0 to k, for k from 1 to 15."""
+    return cells(k) + 4 * k + 5
+
+
+def result_count(k):
+    """The entries of a result list with years 0 to k, for k from 1 to 15."""
+    return 3 * cells(k) + 5 * k + 6
+
+
+def _load():
+    path = os.environ.get("DOONAMURK_LIBRARY")
+    path = Path(path) if path else Path(__file__).resolve().parents[2] / "target/lib/libdoonamurk.so"
+    if not path.is_file():
+        raise OSError(f"{path} is missing: run bindings/build first, it makes it")
+    library = ctypes.CDLL(str(path))
+    size = ctypes.c_size_t
+    byte_list, signed_list, list_ = (ctypes.POINTER(t) for t in (ctypes.c_uint8, ctypes.c_int64, ctypes.c_uint64))
+    for name in "doonamurk_run", "doonamurk_read":
+        call = getattr(library, name)
+        call.restype = ctypes.c_uint64
+        call.argtypes = [byte_list, size, signed_list, size]
+    library.doonamurk_write.restype = ctypes.c_uint64
+    library.doonamurk_write.argtypes = [
+        ctypes.c_uint64, list_, size, signed_list, size, list_, size, list_, size, ctypes.c_uint64, list_, size, byte_list, size
+    ]
+    return library
+
+
+_library = _load()
+
+
+def _filled(call, record, count):
+    """The first `count` entries that a call fills from a record, in a buffer of just that length."""
+    packed = (ctypes.c_uint8 * len(record)).from_buffer_copy(record)
+    entries = (ctypes.c_int64 * count)()
+    number = call(packed, len(record), entries, count)
+    if number:
+        raise Refused(number, QUESTIONS[number])
+    return list(entries)
+
+
+def _k_of(record):
+    return record[0] >> 4 if record else 0
+
+
+def run(record):
+    """The result list of a record (bytes), a list of whole numbers.
+
+    Raises Refused with the first of questions 1 to 14 that says no; question 3 never does, for the list is made as long as it must be."""
+    return _filled(_library.doonamurk_run, record, result_count(_k_of(record)))
+
+
+def read(record):
+    """The fields of a record (bytes) in its order, k first, increments signed.
+
+    Raises Refused with the first of questions 1, 2, 4 and 5 that says no."""
+    return _filled(_library.doonamurk_read, record, field_count(_k_of(record)))
+
+
+def _numbers(kind, values):
+    """The values as a C list. One that 64 bits cannot hold is out of every range: ctypes would cut it, so it is refused here."""
+    bits = 8 * ctypes.sizeof(kind)
+    least, most = (-(2 ** (bits - 1)), 2 ** (bits - 1) - 1) if kind is ctypes.c_int64 else (0, 2**bits - 1)
+    if not all(least <= value <= most for value in values):
+        raise OverflowError(f"a field is not from {least} to {most}")
+    return (kind * len(values))(*values)
+
+
+def write(k, exposures, increments, indices, reporting, weight, ulae):
+    """The record (bytes) of the given fields: k, k + 1 exposures, the paid increments row by row, k future indices, k + 1 reporting shares, the
+    reporting weight and k + 1 ULAE totals.
+
+    Raises Refused with the first of questions 1, 2, 4 and 5 that says no, and OverflowError for a number that 64 bits cannot hold."""
+    natural = ctypes.c_uint64
+    _numbers(natural, [k, weight])
+    # A k past 15 is refused under question 1 whatever the buffer, so it need not be large.
+    record = (ctypes.c_uint8 * record_bytes(min(k, K_MAX)))()
+    lists = [_numbers(kind, values) for kind, values in
+             ((natural, exposures), (ctypes.c_int64, increments), (natural, indices), (natural, reporting), (natural, ulae))]
+    n, c, e, b, u = ((values, len(values)) for values in lists)
+    number = _library.doonamurk_write(k, *n, *c, *e, *b, weight, *u, record, len(record))
+    if number:
+        raise Refused(number, WRITE_QUESTIONS[number])
+    return bytes(record)

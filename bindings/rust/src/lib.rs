@@ -1,0 +1,252 @@
+//! Safe calls of the proved reserving engine: [`run`] gives the result list of a record, [`read`] its fields, and [`write`] makes the record of
+//! given fields. Each has a form that fills a buffer of the caller's and one that returns a `Vec`.
+//!
+//! The engine has no global state, allocates nothing and keeps nothing: any number of threads may call at once.
+//! The record, the lists and the questions are described in `docs/FORMAT.md`.
+
+use std::fmt;
+
+/// The largest k: years run from 0 to at most 15.
+pub const K_MAX: usize = 15;
+/// The bytes of the longest record, that of k = 15.
+pub const RECORD_MAX: usize = 790;
+/// The fields of the longest record.
+pub const FIELDS_MAX: usize = 201;
+/// The entries of the longest result list.
+pub const RESULTS_MAX: usize = 489;
+
+/// The cells of a triangle with years 0 to k.
+pub const fn cells(k: usize) -> usize {
+    (k + 1) * (k + 2) / 2
+}
+
+/// The bytes of a record with years 0 to k, for k from 1 to 15.
+pub const fn record_bytes(k: usize) -> usize {
+    (98 + 97 * k + 35 * cells(k)).div_ceil(8)
+}
+
+/// The fields of a record with years 0 to k, for k from 1 to 15.
+pub const fn field_count(k: usize) -> usize {
+    cells(k) + 4 * k + 5
+}
+
+/// The entries of a result list with years 0 to k, for k from 1 to 15.
+pub const fn result_count(k: usize) -> usize {
+    3 * cells(k) + 5 * k + 6
+}
+
+mod engine {
+    extern "C" {
+        pub fn doonamurk_run(
+            record: *const u8,
+            record_len: usize,
+            results: *mut i64,
+            results_len: usize,
+        ) -> u64;
+        pub fn doonamurk_read(
+            record: *const u8,
+            record_len: usize,
+            list: *mut i64,
+            list_len: usize,
+        ) -> u64;
+        pub fn doonamurk_write(
+            k: u64,
+            exposures: *const u64,
+            n: usize,
+            increments: *const i64,
+            c: usize,
+            indices: *const u64,
+            e: usize,
+            reporting: *const u64,
+            b: usize,
+            weight: u64,
+            ulae: *const u64,
+            u: usize,
+            record: *mut u8,
+            record_len: usize,
+        ) -> u64;
+    }
+}
+
+/// The call that refused: the questions of a writer are worded otherwise than those of a reader.
+#[derive(Clone, Copy, Debug, PartialEq, Eq, Hash)]
+pub enum Call {
+    Run,
+    Read,
+    Write,
+}
+
+/// A refusal: the first question that said no.
+#[derive(Clone, Copy, Debug, PartialEq, Eq, Hash)]
+pub struct Refused {
+    call: Call,
+    number: u64,
+}
+
+impl Refused {
+    /// The call that refused.
+    pub fn call(&self) -> Call {
+        self.call
+    }
+
+    /// The number of the question, 1 to 14.
+    pub fn number(&self) -> u64 {
+        self.number
+    }
+
+    /// The question in words.
+    pub fn question(&self) -> &'static str {
+        match (self.call, self.number) {
+            (Call::Write, 1) => "Is k from 1 to 15?",
+            (Call::Write, 2) => {
+                "Has the buffer just the length that k calls for, and each list its own?"
+            }
+            (_, 1) => "Is there a first byte, and is k at least 1?",
+            (_, 2) => "Is the length just what k calls for, and every filling bit zero?",
+            (Call::Read, 3) => "Does the list hold all fields?",
+            (_, 3) => "Does the result buffer hold the whole list?",
+            (_, 4) => "Is every field in its range?",
+            (_, 5) => "Do the reporting shares sum to 1,000,000?",
+            (_, 6) => "Is every given cumulative from 0 to 10^11?",
+            (_, 7) => {
+                "Is every column and every diagonal of the averages at least 0, and their total at most 10^9?"
+            }
+            (_, 8) => "Is T_h - v_h at least 1 for every h from 1 to k?",
+            (_, 9) => "Is every running share at least 1?",
+            (_, 10) => "Is every level at most 10^9?",
+            (_, 11) => "Is every ultimate at most 10^12?",
+            (_, 12) => {
+                "Is the total of paid increments at least 1, and the total of the ULAE totals at most that?"
+            }
+            (_, 13) => {
+                "Is every chain-ladder base at least 1, and every development factor at most 50,000,000?"
+            }
+            (_, 14) => "Is every completed cumulative at most 10^11?",
+            _ => "a number that no question has",
+        }
+    }
+}
+
+impl fmt::Display for Refused {
+    fn fmt(&self, f: &mut fmt::Formatter<'_>) -> fmt::Result {
+        write!(f, "refused {}: {}", self.number, self.question())
+    }
+}
+
+impl std::error::Error for Refused {}
+
+fn outcome(call: Call, number: u64) -> Result<(), Refused> {
+    if number == 0 {
+        Ok(())
+    } else {
+        Err(Refused { call, number })
+    }
+}
+
+/// k as the record's first four bits have it; 0 where there is no first byte.
+fn k_of(record: &[u8]) -> usize {
+    record.first().map_or(0, |byte| usize::from(byte >> 4))
+}
+
+/// Runs from a record to its result list.
+///
+/// `Ok` fills the first [`result_count`] entries of `results`; entries past them keep what they held. `Err` names the first of the questions 1 to 14
+/// that says no, and leaves all of `results` as it was. `record` may be any bytes of any length; `results` may be longer than the list
+/// ([`RESULTS_MAX`] holds every list), and is refused under question 3 where it is shorter. Both stay the caller's, nothing is kept. Safe to call
+/// from any number of threads.
+pub fn run(record: &[u8], results: &mut [i64]) -> Result<(), Refused> {
+    // SAFETY: both are slices, so each pointer is non-null and valid for its length, and a borrowed and a lent slice do not overlap.
+    let number = unsafe {
+        engine::doonamurk_run(
+            record.as_ptr(),
+            record.len(),
+            results.as_mut_ptr(),
+            results.len(),
+        )
+    };
+    outcome(Call::Run, number)
+}
+
+/// Runs from a record to its result list, in a `Vec` of just its length. As [`run`], except that question 3 never says no.
+pub fn run_to_vec(record: &[u8]) -> Result<Vec<i64>, Refused> {
+    let mut results = vec![0; result_count(k_of(record))];
+    run(record, &mut results)?;
+    Ok(results)
+}
+
+/// Reads a record into a list of its fields.
+///
+/// `Ok` fills the first [`field_count`] entries of `list` with the fields in the record's order, k first, increments signed; entries past them keep
+/// what they held. `Err` names the first of the questions 1 to 5 that says no, and leaves all of `list` as it was. `record` may be any bytes of any
+/// length; `list` may be longer than the fields ([`FIELDS_MAX`] holds those of every record), and is refused under question 3 where it is shorter.
+/// Both stay the caller's, nothing is kept. Safe to call from any number of threads.
+pub fn read(record: &[u8], list: &mut [i64]) -> Result<(), Refused> {
+    // SAFETY: both are slices, so each pointer is non-null and valid for its length, and a borrowed and a lent slice do not overlap.
+    let number = unsafe {
+        engine::doonamurk_read(record.as_ptr(), record.len(), list.as_mut_ptr(), list.len())
+    };
+    outcome(Call::Read, number)
+}
+
+/// Reads a record into a `Vec` of just its fields. As [`read`], except that question 3 never says no.
+pub fn read_to_vec(record: &[u8]) -> Result<Vec<i64>, Refused> {
+    let mut list = vec![0; field_count(k_of(record))];
+    read(record, &mut list)?;
+    Ok(list)
+}
+
+/// The fields of a record to be written. The lists are the caller's; [`write`] asks whether their lengths and figures are what k calls for.
+#[derive(Clone, Copy, Debug, PartialEq, Eq)]
+pub struct Fields<'a> {
+    /// The last year, 1 to 15.
+    pub k: u64,
+    /// The exposures of years 0 to k, each 1 to 1,000,000.
+    pub exposures: &'a [u64],
+    /// The paid increments, row by row, [`cells`] of them, each -10^10 to 10^10.
+    pub increments: &'a [i64],
+    /// The k future indices in millionths, each 1 to 5,000,000.
+    pub indices: &'a [u64],
+    /// The k + 1 reporting shares in millionths; they sum to 1,000,000.
+    pub reporting: &'a [u64],
+    /// The reporting weight in millionths, 0 to 1,000,000.
+    pub weight: u64,
+    /// The ULAE totals of payment years 0 to k, each 0 to 10^10.
+    pub ulae: &'a [u64],
+}
+
+/// Writes the record of the given fields.
+///
+/// `Ok` fills all of `record`, filling bits zero. `Err` names the first of the questions 1, 2, 4 and 5 that says no, and leaves all of `record` as it
+/// was. `record` must have just the [`record_bytes`] that k calls for, else it is refused under question 2; so is a list of another length than k
+/// calls for. All buffers stay the caller's, nothing is kept. Safe to call from any number of threads.
+pub fn write(fields: &Fields, record: &mut [u8]) -> Result<(), Refused> {
+    // SAFETY: all are slices, so each pointer is non-null and valid for its length, and a lent slice overlaps no borrowed one.
+    let number = unsafe {
+        engine::doonamurk_write(
+            fields.k,
+            fields.exposures.as_ptr(),
+            fields.exposures.len(),
+            fields.increments.as_ptr(),
+            fields.increments.len(),
+            fields.indices.as_ptr(),
+            fields.indices.len(),
+            fields.reporting.as_ptr(),
+            fields.reporting.len(),
+            fields.weight,
+            fields.ulae.as_ptr(),
+            fields.ulae.len(),
+            record.as_mut_ptr(),
+            record.len(),
+        )
+    };
+    outcome(Call::Write, number)
+}
+
+/// Writes the record of the given fields into a `Vec`. As [`write`], except that the buffer always has its length.
+pub fn write_to_vec(fields: &Fields) -> Result<Vec<u8>, Refused> {
+    // A k past 15 is refused under question 1 whatever the buffer, so it need not be large.
+    let k = usize::try_from(fields.k).map_or(0, |k| k.min(K_MAX));
+    let mut record = vec![0; record_bytes(k)];
+    write(fields, &mut record)?;
+    Ok(record)
+}

@@ -1,0 +1,215 @@
+//! Taylor's motor account, document 01's two years, refusals, and the way from fields to a record and back.
+
+use doonamurk::{
+    cells, field_count, read, read_to_vec, record_bytes, result_count, run, run_to_vec, write,
+    write_to_vec, Call, Fields, FIELDS_MAX, K_MAX, RECORD_MAX, RESULTS_MAX,
+};
+
+const MOTOR: Fields = Fields {
+    k: 3,
+    exposures: &[1, 1, 1, 1],
+    increments: &[504, 282, 90, 48, 580, 292, 97, 595, 332, 662],
+    indices: &[1_100_000, 1_210_000, 1_331_000],
+    reporting: &[700_000, 200_000, 80_000, 20_000],
+    weight: 500_000,
+    ulae: &[20, 25, 30, 35],
+};
+
+const TWO_YEARS: Fields = Fields {
+    k: 1,
+    exposures: &[1, 1],
+    increments: &[60, 40, 66],
+    indices: &[1_100_000],
+    reporting: &[800_000, 200_000],
+    weight: 500_000,
+    ulae: &[6, 10],
+};
+
+fn motor() -> Vec<u8> {
+    write_to_vec(&MOTOR).expect("the motor account is written")
+}
+
+#[test]
+fn sizes_are_those_of_the_paper() {
+    assert_eq!((record_bytes(1), record_bytes(K_MAX)), (38, RECORD_MAX));
+    assert_eq!((field_count(1), field_count(K_MAX)), (12, FIELDS_MAX));
+    assert_eq!((result_count(1), result_count(K_MAX)), (20, RESULTS_MAX));
+    assert_eq!(cells(K_MAX), 136);
+}
+
+#[test]
+fn motor_account() {
+    let results = run_to_vec(&motor()).expect("accepted");
+    assert_eq!(results.len(), result_count(3));
+    assert_eq!(
+        results[10..14],
+        [583_475_514, 287_767_456, 86_614_799, 42_142_231]
+    );
+    assert_eq!(results[14..18], [86_378, 98_939, 101_998, 113_900]);
+}
+
+#[test]
+fn two_years_have_the_printed_list() {
+    let record = write_to_vec(&TWO_YEARS).expect("written");
+    let printed = [
+        6000, 4000, 6600, 622641509, 377358491, 9636, 10600, 11660, 44, 0, 44, 44, 0, 22, 0, 3, 3,
+        96385, 1666666, 109,
+    ];
+    assert_eq!(run_to_vec(&record).expect("accepted"), printed);
+}
+
+#[test]
+fn entries_past_the_list_keep_what_they_held() {
+    let mut results = [-7; RESULTS_MAX];
+    run(&motor(), &mut results).expect("accepted");
+    assert!(results[..result_count(3)].iter().all(|&entry| entry >= 0));
+    assert!(results[result_count(3)..].iter().all(|&entry| entry == -7));
+}
+
+#[test]
+fn a_refused_run_or_read_leaves_the_buffer() {
+    let record = motor();
+    let mut filled = record.clone();
+    *filled.last_mut().expect("a last byte") |= 1;
+    let mut no_claims = record.clone();
+    no_claims[0] = 0x30;
+    no_claims[1..3].fill(0);
+    let refused: [(&[u8], u64); 5] = [
+        (&[], 1),
+        (&[0x0f; 38], 1),
+        (&record[1..], 1),
+        (&filled, 2),
+        (&no_claims, 4),
+    ];
+    for (record, number) in refused {
+        let mut list = [-7; RESULTS_MAX];
+        let refusal = run(record, &mut list).expect_err("refused");
+        assert_eq!((refusal.number(), refusal.call()), (number, Call::Run));
+        let refusal = read(record, &mut list).expect_err("refused");
+        assert_eq!((refusal.number(), refusal.call()), (number, Call::Read));
+        assert_eq!(list, [-7; RESULTS_MAX]);
+    }
+}
+
+#[test]
+fn a_short_buffer_is_refused_and_left() {
+    let record = motor();
+    let mut results = vec![-7; result_count(3) - 1];
+    assert_eq!(run(&record, &mut results).map_err(|r| r.number()), Err(3));
+    assert!(results.iter().all(|&entry| entry == -7));
+    let mut list = vec![-7; field_count(3) - 1];
+    assert_eq!(read(&record, &mut list).map_err(|r| r.number()), Err(3));
+    assert!(list.iter().all(|&entry| entry == -7));
+    assert_eq!(run(&record, &mut []).map_err(|r| r.number()), Err(3));
+}
+
+#[test]
+fn marked_refusals_of_the_engine() {
+    let changed: [(Fields, u64); 3] = [
+        (
+            Fields {
+                increments: &[60, 40, 0],
+                ..TWO_YEARS
+            },
+            8,
+        ),
+        (
+            Fields {
+                increments: &[0, 40, 66],
+                ..TWO_YEARS
+            },
+            13,
+        ),
+        (
+            Fields {
+                ulae: &[6, 161],
+                ..TWO_YEARS
+            },
+            12,
+        ),
+    ];
+    for (fields, number) in changed {
+        let record = write_to_vec(&fields).expect("written");
+        let refusal = run_to_vec(&record).expect_err("refused");
+        assert_eq!(refusal.number(), number);
+    }
+}
+
+#[test]
+fn a_refused_write_leaves_the_buffer() {
+    let calls: [(Fields, usize, u64); 6] = [
+        (Fields { k: 0, ..MOTOR }, 0, 1),
+        (Fields { k: 16, ..MOTOR }, 0, 1),
+        (
+            Fields {
+                increments: &[504],
+                ..MOTOR
+            },
+            0,
+            2,
+        ),
+        (MOTOR, 1, 2),
+        (
+            Fields {
+                exposures: &[0, 1, 1, 1],
+                ..MOTOR
+            },
+            0,
+            4,
+        ),
+        (
+            Fields {
+                reporting: &[700_000, 200_000, 80_000, 20_001],
+                ..MOTOR
+            },
+            0,
+            5,
+        ),
+    ];
+    for (fields, over, number) in calls {
+        let mut record = vec![0xa5; record_bytes(3) + over];
+        let refusal = write(&fields, &mut record).expect_err("refused");
+        assert_eq!((refusal.number(), refusal.call()), (number, Call::Write));
+        assert!(record.iter().all(|&byte| byte == 0xa5));
+    }
+    assert_eq!(
+        write_to_vec(&Fields {
+            k: u64::MAX,
+            ..MOTOR
+        })
+        .map_err(|r| r.number()),
+        Err(1)
+    );
+}
+
+#[test]
+fn a_refusal_says_its_question() {
+    let refusal = run_to_vec(&[]).expect_err("refused");
+    assert_eq!(
+        refusal.to_string(),
+        "refused 1: Is there a first byte, and is k at least 1?"
+    );
+    let refusal = write_to_vec(&Fields { k: 0, ..MOTOR }).expect_err("refused");
+    assert_eq!(refusal.to_string(), "refused 1: Is k from 1 to 15?");
+}
+
+#[test]
+fn fields_come_back_from_their_record() {
+    let record = motor();
+    let list = read_to_vec(&record).expect("read");
+    let natural = |from: usize, count: usize| -> Vec<u64> {
+        list[from..from + count].iter().map(|&v| v as u64).collect()
+    };
+    assert_eq!(list.len(), field_count(3));
+    assert_eq!(list[5..15], *MOTOR.increments);
+    let back = write_to_vec(&Fields {
+        k: list[0] as u64,
+        exposures: &natural(1, 4),
+        increments: &list[5..15],
+        indices: &natural(15, 3),
+        reporting: &natural(18, 4),
+        weight: list[22] as u64,
+        ulae: &natural(23, 4),
+    });
+    assert_eq!(back, Ok(record));
+}

@@ -1,0 +1,24 @@
+// Packs the figures on standard input, a text of labelled lines, into a record on standard output; what is wrong with them goes to standard error.
+use libc::STDERR_FILENO;
+use libc::STDOUT_FILENO;
+use printing::put_first;
+use sheet_packing::pack_text;
+
+// The first n bytes on standard output.
+fn put_record(packed: &[u8; 790], n: usize) {
+    put_first(STDOUT_FILENO, packed, n);
+}
+
+fn main() {
+    let mut text = io::large_buffer();
+    let n = io::read_full(0, &mut text);
+    if n == 65536 {
+        put_first(STDERR_FILENO, b"the text is longer than 65,535 bytes\n", 64);
+        return;
+    }
+    let mut packed = [0u8; 790];
+    let mut message = [0u8; 256];
+    let outcome = pack_text(&text[..n], &mut packed, &mut message);
+    put_record(&packed, outcome.size);
+    put_first(STDERR_FILENO, &message, outcome.said);
+}

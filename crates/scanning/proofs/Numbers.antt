@@ -1,0 +1,96 @@
+-- Laws of words that are numbers: by their first byte, and digit by digit. Assumes nothing.
+use mathlib.Core.Path.{_≡_, refl, sym, ap, _∙_}
+use mathlib.Core.Bool.{false}
+use mathlib.Core.List.{List, [], _∷_}
+use Prim.Native.Nat.{ℕ, _+_, _-_, _*_, _≤_, _<_, _^_}
+use native.Mathlib.Numerals.{add-one}
+use native.Mathlib.Omega.{arith}
+use borrow.Author.Tests.{lt-ltb, le-ltb, eq-eqb, ne-eqb}
+use lib.IntN.{pos, negℤ, _-ℤ_, +ℤ-idl}
+use lib.ListN.{length, getD, take, drop}
+use lib.Seq.{drop-cons, drop-length}
+use mir.Syntax.{w64}
+use mir.Val.{SFits, toZ, ofZ}
+use mir.Facts.{toZ-ofZ}
+use mir.ValLaws.{toZ-pos}
+use Rattle.rules.specs.Lists.{every}
+use Rattle.laws.proofs.Signed.{size-fits, signed-size}
+use Rattle.scanning.specs.Scan.{isDigit, isNatural, isNumber, ceiling, withDigit, sizeFrom, wholeOf}
+use Rattle.scanning.proofs.Parts.{from-place}
+
+-- a word that is not empty is a natural number where every byte is a digit
+pub natural-is : (xs : List ℕ) → 0 < length xs → isNatural xs ≡ every isDigit xs
+unfolding isNatural
+natural-is [] h = absurd (omega arith)
+natural-is (b ∷ bs) h = refl
+
+-- and an empty one is none
+pub natural-none : (xs : List ℕ) → length xs ≡ 0 → isNatural xs ≡ false
+unfolding isNatural
+natural-none [] h = refl
+natural-none (b ∷ bs) h = absurd (omega arith)
+
+pub number-none : (xs : List ℕ) → length xs ≡ 0 → isNumber xs ≡ false
+unfolding isNumber
+number-none [] h = refl
+number-none (b ∷ bs) h = absurd (omega arith)
+
+pub whole-none : (xs : List ℕ) → length xs ≡ 0 → wholeOf xs ≡ pos 0
+unfolding wholeOf
+whole-none [] h = refl
+whole-none (b ∷ bs) h = absurd (omega arith)
+
+-- what comes after a minus sign
+after-first : (b : ℕ) (bs : List ℕ) → take (length (b ∷ bs) - 1) (drop 1 (b ∷ bs)) ≡ bs
+after-first b bs = from-place (b ∷ bs) 1
+
+-- by the first byte, a minus sign or not
+pub number-minus : (xs : List ℕ) → 0 < length xs → getD xs 0 0 ≡ 45 → isNumber xs ≡ isNatural (take (length xs - 1) (drop 1 xs))
+unfolding isNumber
+number-minus [] h e = absurd (omega arith)
+number-minus (b ∷ bs) h e = rw (eq-eqb b 45 e) (ap isNatural (sym (after-first b bs)))
+
+pub number-plain : (xs : List ℕ) → 0 < length xs → (getD xs 0 0 ≡ 45 → ⊥) → isNumber xs ≡ isNatural xs
+unfolding isNumber
+number-plain [] h e = absurd (omega arith)
+number-plain (b ∷ bs) h e = rw (ne-eqb b 45 e)
+
+pub whole-minus : (xs : List ℕ) → 0 < length xs → getD xs 0 0 ≡ 45 → wholeOf xs ≡ negℤ (pos (sizeFrom 0 (take (length xs - 1) (drop 1 xs))))
+unfolding wholeOf
+whole-minus [] h e = absurd (omega arith)
+whole-minus (b ∷ bs) h e = rw (eq-eqb b 45 e) (ap (λ (l : List ℕ). negℤ (pos (sizeFrom 0 l))) (sym (after-first b bs)))
+
+pub whole-plain : (xs : List ℕ) → 0 < length xs → (getD xs 0 0 ≡ 45 → ⊥) → wholeOf xs ≡ pos (sizeFrom 0 xs)
+unfolding wholeOf
+whole-plain [] h e = absurd (omega arith)
+whole-plain (b ∷ bs) h e = rw (ne-eqb b 45 e)
+
+-- a digit more, below 10^17 and from there on
+pub digit-more : (n b : ℕ) → n < ceiling → withDigit n b ≡ 10 * n + (b - 48)
+unfolding withDigit
+digit-more n b h = rw (lt-ltb n ceiling h)
+
+pub digit-stops : (n b : ℕ) → ceiling ≤ n → withDigit n b ≡ n
+unfolding withDigit
+digit-stops n b h = rw (le-ltb n ceiling h)
+
+-- one digit more of a word, and the end of it
+pub size-more : (xs : List ℕ) (i n m : ℕ) → i < length xs → sizeFrom 0 xs ≡ sizeFrom n (drop i xs)
+    → m ≡ withDigit n (getD xs i 0) → sizeFrom 0 xs ≡ sizeFrom m (drop (i + 1) xs)
+unfolding sizeFrom
+size-more xs i n m h e p = rw (p, add-one i) (e ∙ rw (drop-cons xs i 0 h))
+
+pub size-end : (xs : List ℕ) (i n : ℕ) → i ≡ length xs → sizeFrom 0 xs ≡ sizeFrom n (drop i xs) → n ≡ sizeFrom 0 xs
+unfolding sizeFrom
+size-end xs i n h e = sym (e ∙ rw (h, drop-length xs))
+
+-- a size with a minus sign in front, at 64 bits
+module _ (n : ℕ) (h : n < 2 ^ 60) where
+  minus-is : pos 0 -ℤ toZ w64 n ≡ negℤ (pos n)
+  minus-is = rw (toZ-pos w64 n (omega arith)) (+ℤ-idl (negℤ (pos n)))
+
+  pub minus-fits : SFits w64 (pos 0 -ℤ toZ w64 n)
+  minus-fits = rw (minus-is) (size-fits (negℤ (pos n)) (rw (signed-size 1 n) (omega arith)))
+
+  pub minus-read : toZ w64 (ofZ w64 (pos 0 -ℤ toZ w64 n)) ≡ negℤ (pos n)
+  minus-read = toZ-ofZ minus-fits ∙ minus-is

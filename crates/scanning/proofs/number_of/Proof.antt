@@ -1,0 +1,70 @@
+-- By the first byte, a minus sign or not; a size below 2 ^ 60 fits with either sign. Assumes nothing.
+use mathlib.Core.Path.{sym, ap, _∙_}
+use native.Mathlib.Omega.{arith}
+use lib.IntN.{pos, negℤ}
+use mir.Syntax.{w64}
+use mir.ValLaws.{toZ-pos}
+use Rattle.scanning.proofs.Numbers.{whole-none, whole-minus, whole-plain, minus-fits, minus-read}
+use borrow.Author.Needs.{needs}
+use Rattle.scanning.proofs.number_of.Statement.{statement}
+use Rattle.scanning.proofs.number_of.Tie as tie
+
+returns : tie.Need-returns
+returns c = sym (whole-none (c .before .before .args .word .now) (c .if1 .taken))
+
+shared-slice-read-if2 : tie.Need-shared-slice-read-if2
+shared-slice-read-if2 c = search needs
+
+sub-size-of-digits : tie.Need-sub-size-of-digits
+sub-size-of-digits c = search needs
+
+part-size-of-digits-start : tie.Need-part-size-of-digits-start
+part-size-of-digits-start c = search needs
+
+part-size-of-digits-end : tie.Need-part-size-of-digits-end
+part-size-of-digits-end c = search needs
+
+size-of-digits-requires : tie.Need-size-of-digits-requires
+size-of-digits-requires c κs = search needs
+
+cast-result : tie.Need-cast-result
+cast-result c = search needs
+
+sub-result : tie.Need-sub-result
+sub-result c = minus-fits (c .size-of-digits .result) (c .size-of-digits .ensures .1)
+
+returns-2 : tie.Need-returns-2
+returns-2 c =
+    let d = c .before .before in
+    let xs = d .before .before .before .before .args .word .now in
+    minus-read (c .size-of-digits .result) (c .size-of-digits .ensures .1)
+    ∙ (ap (λ n. negℤ (pos n)) (c .size-of-digits .ensures .0) ∙ sym (whole-minus xs (omega arith) (d .if2 .taken)))
+
+size-of-digits-requires-2 : tie.Need-size-of-digits-requires-2
+size-of-digits-requires-2 c κs = search needs
+
+cast-result-2 : tie.Need-cast-result-2
+cast-result-2 c = search needs
+
+returns-3 : tie.Need-returns-3
+returns-3 c =
+    let d = c .before in
+    let xs = d .before .before .before .before .args .word .now in
+    toZ-pos w64 (c .size-of-digits2 .result) (omega arith) ∙ (ap pos (c .size-of-digits2 .ensures .0) ∙ sym (whole-plain xs (omega arith) (d .if2 .left)))
+
+pub number-of-spec : {M : Type 1} → statement M
+number-of-spec =
+    tie.close
+    (tie.spec
+    returns
+    shared-slice-read-if2
+    sub-size-of-digits
+    part-size-of-digits-start
+    part-size-of-digits-end
+    size-of-digits-requires
+    cast-result
+    sub-result
+    returns-2
+    size-of-digits-requires-2
+    cast-result-2
+    returns-3)

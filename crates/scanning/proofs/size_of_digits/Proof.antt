@@ -1,0 +1,57 @@
+-- The loop's invariant: the size so far goes on to the size of the word with the digits from place i on. Assumes nothing.
+use mathlib.Core.Path.{_≡_, refl}
+use Prim.Native.Nat.{_-_, _≤_, _<_, _^_}
+use native.Mathlib.Omega.{arith}
+use lib.ListN.{length, drop}
+use Rattle.scanning.specs.Scan.{sizeFrom}
+use Rattle.scanning.proofs.Numbers.{size-more, size-end}
+use borrow.Author.Needs.{needs}
+use Rattle.scanning.proofs.size_of_digits.Statement.{statement}
+use Rattle.scanning.proofs.size_of_digits.Tie as tie
+
+abbrev Inv-loop : tie.InvT-loop
+Inv-loop digits size₀ n i₀ size i = (i ≤ n) × ((n ≡ length digits) × ((size < 2 ^ 60) × (sizeFrom 0 digits ≡ sizeFrom size (drop i digits))))
+
+abbrev μ-loop : tie.MeasureT-loop
+μ-loop digits size₀ n i₀ size i = n - i
+
+loop-holds : tie.Need-loop-holds Inv-loop μ-loop
+loop-holds c = (omega arith, (refl, (omega arith, refl)))
+
+shared-slice-read-with-digit : tie.Need-shared-slice-read-with-digit Inv-loop μ-loop
+shared-slice-read-with-digit c = search needs
+
+with-digit-requires : tie.Need-with-digit-requires Inv-loop μ-loop
+with-digit-requires c κs = search needs
+
+add-i : tie.Need-add-i Inv-loop μ-loop
+add-i c = search needs
+
+loop-less : tie.Need-loop-less Inv-loop μ-loop
+loop-less c = search needs
+
+loop-again : tie.Need-loop-again Inv-loop μ-loop
+loop-again c =
+    let l = c .before .before .before in
+    let xs = l .before .before .args .digits .now in
+    let d = c .with-digit in
+    (omega arith, (refl, (d .ensures .1, size-more xs (l .loop .i) (l .loop .size) (d .result) (omega arith) (l .loop .inv .1 .1 .1) (d .ensures .0))))
+
+returns : tie.Need-returns Inv-loop μ-loop
+returns c =
+    let l = c .before in
+    (size-end (l .before .before .args .digits .now) (l .loop .i) (l .loop .size) (omega arith) (l .loop .inv .1 .1 .1), l .loop .inv .1 .1 .0)
+
+pub size-of-digits-spec : {M : Type 1} → statement M
+size-of-digits-spec =
+    tie.close
+    (tie.spec
+    Inv-loop
+    μ-loop
+    loop-holds
+    shared-slice-read-with-digit
+    with-digit-requires
+    add-i
+    loop-less
+    loop-again
+    returns)

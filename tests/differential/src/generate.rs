@@ -1,0 +1,534 @@
+//! Cases by chance: accounts of several characters, records at the edge of each question, damaged records, and fields that a writer must refuse.
+
+use crate::paper::{self, Given};
+use crate::random::Random;
+use crate::records::{account, cell, pack, rows, set_bits};
+
+const AMOUNT_MAX: i64 = 10_000_000_000;
+const EXPOSURE_MAX: i64 = 1_000_000;
+const INDEX_MAX: i64 = 5_000_000;
+const M: i64 = 1_000_000;
+const S: i64 = 1_000_000_000;
+const CUMULATIVE_MAX: i64 = 100_000_000_000;
+const ULTIMATE_MAX: i64 = 1_000_000_000_000;
+
+/// What the account looks like.
+#[derive(Clone, Copy)]
+enum Character {
+    Steady,
+    LongTail,
+    Negative,
+    Recoveries,
+    Zeros,
+    Limits,
+    LargeExposures,
+    Anything,
+}
+
+const CHARACTERS: [Character; 8] = [
+    Character::Steady,
+    Character::LongTail,
+    Character::Negative,
+    Character::Recoveries,
+    Character::Zeros,
+    Character::Limits,
+    Character::LargeExposures,
+    Character::Anything,
+];
+
+/// A number from least to most, mostly at one of the two or next to it.
+fn at_limit(r: &mut Random, least: i64, most: i64) -> i64 {
+    match r.below(6) {
+        0 | 1 => least,
+        2 => least + 1,
+        3 => most - 1,
+        4 => most,
+        _ => r.between(least, most),
+    }
+}
+
+/// k + 1 shares of a million: the same for all, all in one, or by chance.
+fn reporting(r: &mut Random, k: usize) -> Vec<u64> {
+    let mut left = M;
+    let mut shares: Vec<u64> = (0..=k)
+        .map(|j| {
+            let share = match r.below(4) {
+                _ if j == k => left,
+                0 => 0,
+                1 => left / (k + 1 - j) as i64,
+                2 => left,
+                _ => r.between(0, left),
+            };
+            left -= share;
+            share as u64
+        })
+        .collect();
+    if r.one_in(2) {
+        shares.reverse();
+    }
+    shares
+}
+
+fn increment(r: &mut Random, character: Character, k: usize, i: usize, j: usize, size: i64) -> i64 {
+    let usual = size * r.between(70, 130) / 100 / (1 + j * j) as i64;
+    let late = 2 * j > k;
+    match character {
+        Character::Steady => usual + r.between(0, 9),
+        // The last development year pays next to nothing.
+        Character::LongTail if j == k => r.between(0, 2),
+        Character::LongTail => size * r.between(90, 110) / 100 / (1 + j as i64),
+        Character::Negative if j > 0 && r.one_in(4) => -usual / 2,
+        Character::Recoveries if late => -r.between(0, size / (8 * (k as i64 + 1)) + 1),
+        Character::Zeros if r.one_in(2) => 0,
+        Character::Limits => r.pick(&[0, 1, -1, 2, AMOUNT_MAX, AMOUNT_MAX - 1, -AMOUNT_MAX, size]),
+        Character::LargeExposures => r.between(AMOUNT_MAX / 100, AMOUNT_MAX) / (1 + (i + j) as i64),
+        Character::Anything => r.between(-AMOUNT_MAX, AMOUNT_MAX) >> r.below(34),
+        _ => usual,
+    }
+}
+
+/// Fields in range; whether a run accepts them is another matter.
+pub fn fields(r: &mut Random, k: usize) -> Given {
+    let character = r.pick(&CHARACTERS);
+    let size = r.spread(AMOUNT_MAX as u64 / 2) as i64;
+    let claims = r.spread(EXPOSURE_MAX as u64 / 2) as i64;
+    let mut increments = Vec::with_capacity(paper::cells(k));
+    for i in 0..=k {
+        for j in 0..=k - i {
+            let paid = increment(r, character, k, i, j, size);
+            increments.push(paid.clamp(-AMOUNT_MAX, AMOUNT_MAX));
+        }
+    }
+    let paid: i64 = increments.iter().sum();
+    let limits = matches!(character, Character::Limits);
+    let many = |r: &mut Random, count: usize, one: &dyn Fn(&mut Random) -> i64| {
+        (0..count).map(|_| one(r) as u64).collect::<Vec<u64>>()
+    };
+    let exposures = many(r, k + 1, &|r| match character {
+        Character::Limits => at_limit(r, 1, EXPOSURE_MAX),
+        Character::LargeExposures => r.between(EXPOSURE_MAX - 100_000, EXPOSURE_MAX),
+        Character::Anything => r.between(1, EXPOSURE_MAX),
+        _ => claims + r.between(0, claims),
+    });
+    let indices = many(r, k, &|r| {
+        if limits {
+            at_limit(r, 1, INDEX_MAX)
+        } else {
+            r.between(M - 200_000, M + 900_000)
+        }
+    });
+    let cost = (paid / (k as i64 + 1)).clamp(0, AMOUNT_MAX);
+    let ulae = many(r, k + 1, &|r| {
+        if limits {
+            at_limit(r, 0, AMOUNT_MAX)
+        } else {
+            r.between(0, cost / 4)
+        }
+    });
+    Given {
+        k: k as u64,
+        exposures,
+        increments,
+        indices,
+        reporting: reporting(r, k),
+        weight: at_limit(r, 0, M) as u64,
+        ulae,
+    }
+}
+
+fn answer(given: &Given) -> u64 {
+    paper::run(&pack(given), &mut [0; 489]).err().unwrap_or(0)
+}
+
+/// Fields on the way from one set to another; the reporting shares stay, for they must sum to a million.
+fn between(from: &Given, to: &Given, part: u32) -> Given {
+    let step =
+        |a: i64, b: i64| a + (((i128::from(b) - i128::from(a)) * i128::from(part)) >> 31) as i64;
+    let steps = |a: &[u64], b: &[u64]| {
+        let pairs = a.iter().zip(b);
+        pairs
+            .map(|(&a, &b)| step(a as i64, b as i64) as u64)
+            .collect()
+    };
+    let pairs = from.increments.iter().zip(&to.increments);
+    Given {
+        k: from.k,
+        exposures: steps(&from.exposures, &to.exposures),
+        increments: pairs.map(|(&a, &b)| step(a, b)).collect(),
+        indices: steps(&from.indices, &to.indices),
+        reporting: from.reporting.clone(),
+        weight: step(from.weight as i64, to.weight as i64) as u64,
+        ulae: steps(&from.ulae, &to.ulae),
+    }
+}
+
+/// Two sets of fields next to each other on the way between two with different answers: one of them on each side of an edge.
+fn edge_between(from: &Given, to: &Given) -> [Given; 2] {
+    let (mut low, mut high) = (0u32, 1 << 31);
+    let first = answer(from);
+    while high - low > 1 {
+        let middle = low + (high - low) / 2;
+        if answer(&between(from, to, middle)) == first {
+            low = middle;
+        } else {
+            high = middle;
+        }
+    }
+    [between(from, to, low), between(from, to, high)]
+}
+
+/// An account whose averages are its increments: 100 claims a year, so that a total can be set to the unit.
+fn plain(r: &mut Random, k: usize) -> Given {
+    let mut a = account(k);
+    a.exposures.fill(100);
+    let shrink = r.between(3, 2_000);
+    for paid in &mut a.increments {
+        *paid = *paid / shrink + r.between(0, 40);
+    }
+    let cost = a.increments.iter().sum::<i64>() / (8 * (k as i64 + 1));
+    a.ulae.fill_with(|| r.between(0, cost) as u64);
+    a.reporting = reporting(r, k);
+    a.weight = r.between(0, M) as u64;
+    a
+}
+
+/// A cumulative set to 0 or to 10^11, and past it.
+fn cumulative_edge(r: &mut Random, a: &mut Given, k: usize, past: i64) {
+    let i = r.below(k + 1);
+    let count = k + 1 - i;
+    let last = r.below(count);
+    let row = &mut a.increments[cell(k, i, 0)..][..count];
+    if count >= 11 && r.one_in(2) {
+        // Ten of the largest increments make the largest cumulative.
+        a.exposures[i] = EXPOSURE_MAX as u64;
+        row[..10].fill(AMOUNT_MAX);
+        row[10..].fill(0);
+        row[9] += past.min(0);
+        row[10] = past.max(0);
+    } else {
+        row[last] = -row[..last].iter().sum::<i64>() - past;
+    }
+}
+
+/// The total of the averages set to S, or a column or a diagonal set to 0, and past it.
+fn totals_edge(r: &mut Random, a: &mut Given, k: usize, past: i64) {
+    let line = r.below(k + 1);
+    let by_column = r.one_in(2);
+    if r.one_in(2) {
+        let total: i64 = a.increments.iter().sum();
+        let place = r.below(a.increments.len());
+        a.increments[place] += S + past - total;
+        return;
+    }
+    let on_line: Vec<(usize, usize)> = if by_column {
+        (0..=k - line).map(|i| (i, line)).collect()
+    } else {
+        (0..=line).map(|i| (i, line - i)).collect()
+    };
+    let total: i64 = on_line
+        .iter()
+        .map(|&(i, j)| a.increments[cell(k, i, j)])
+        .sum();
+    // The last cell of the line past column 0 takes the change, and the row's first cell carries it, so that question 6 says yes.
+    if let Some(&(i, j)) = on_line.iter().rfind(|&&(_, j)| j > 0) {
+        a.increments[cell(k, i, j)] -= total + past;
+        if !on_line.contains(&(i, 0)) {
+            a.increments[cell(k, i, 0)] += (total + past).max(0);
+        }
+    }
+}
+
+/// The last year's first cumulative set so that the first factor, tenfold or a little more, carries it to 10^11 or near it.
+fn completed_edge(r: &mut Random, a: &mut Given, k: usize, past: i64) {
+    let more = if r.one_in(3) { 0 } else { 1 };
+    let (mut base, mut next) = (0, 0);
+    for i in 0..k {
+        let first = r.between(1, 4_000);
+        let second = 9 * first + more * r.between(0, first);
+        base += first;
+        next += first + second;
+        let row = &mut a.increments[cell(k, i, 0)..][..k + 1 - i];
+        row.fill(0);
+        row[0] = first;
+        row[1] = second;
+    }
+    let factor = i128::from(M * next / base);
+    let target = i128::from(CUMULATIVE_MAX + past) * i128::from(M);
+    a.exposures[k] = EXPOSURE_MAX as u64;
+    a.increments[cell(k, k, 0)] = ((target + factor - 1) / factor) as i64;
+}
+
+/// An account set to a limit of this question, 6 to 14, or one past it.
+fn set_to_edge(r: &mut Random, k: usize, question: u64) -> Given {
+    let mut a = plain(r, k);
+    // 0 is at the limit, 1 is past it; -1 is well within.
+    let past = r.pick(&[-1, 0, 0, 1, 1]);
+    match question {
+        6 => cumulative_edge(r, &mut a, k, past),
+        7 => totals_edge(r, &mut a, k, past),
+        8 => {
+            // T_h - v_h is the total of the cells left of column h on diagonal h or later.
+            let h = 1 + r.below(k);
+            for i in 0..=k {
+                for j in 0..=k - i {
+                    if j < h && i + j >= h {
+                        a.increments[cell(k, i, j)] = 0;
+                    }
+                }
+            }
+            a.increments[cell(k, h, 0)] = 1 - past.max(0);
+        }
+        9 => {
+            // A_0 is about S × x / (x + late) × x / (x + early).
+            let x = r.between(1, 900);
+            let late = r.between(1_000_000, 450_000_000);
+            let early = (S as i128 * i128::from(x * x) / i128::from(late)) as i64;
+            let early = (early * r.between(50, 150) / 100).clamp(1, 450_000_000);
+            a.increments.fill(0);
+            a.increments[cell(k, 0, k)] = late;
+            a.increments[cell(k, 0, 1)] += early;
+            a.increments[cell(k, k, 0)] = x;
+        }
+        10 => {
+            // A level is above S just where its diagonal is above its running share; cell 0, 0 is diagonal 0 and no part of A_0.
+            let mut list = [0; 489];
+            if paper::run(&pack(&a), &mut list).is_ok() {
+                let first_share = list[paper::cells(k)];
+                a.increments[0] = first_share + past;
+            }
+        }
+        11 => return ultimate_edge(r, k, past),
+        12 => {
+            let paid: i64 = a.increments.iter().sum();
+            if r.one_in(6) {
+                a.increments.fill(0);
+                a.increments[0] = r.between(0, 1);
+                a.ulae.fill(0);
+            } else {
+                let rest: u64 = a.ulae[1..].iter().sum();
+                a.ulae[0] = (paid + past - rest as i64).clamp(0, AMOUNT_MAX) as u64;
+            }
+        }
+        13 => {
+            let before = r.between(0, 60) * if r.one_in(2) { 1 } else { 1_000_000 };
+            a.increments[..k].fill(0);
+            a.increments[r.below(k)] = before;
+            a.increments[k] = 49 * before + past;
+        }
+        _ => completed_edge(r, &mut a, k, past),
+    }
+    for paid in &mut a.increments {
+        *paid = (*paid).clamp(-AMOUNT_MAX, AMOUNT_MAX);
+    }
+    a
+}
+
+/// The last year's ultimate at 10^12 or near it: a million claims, and the future indices raised until it is passed.
+fn ultimate_edge(r: &mut Random, k: usize, past: i64) -> Given {
+    let mut a = account(k);
+    let claims = r.between(40, 70) as u64 * (k as u64 + 2) / 17 + 2;
+    a.exposures.fill(claims);
+    a.exposures[k] = EXPOSURE_MAX as u64;
+    let last = cell(k, k, 0);
+    // A whole number of hundredths a claim, so that a little more or less paid leaves the average as it is.
+    a.increments[last] = 10_000 * r.between(400, 9_000);
+    let mut low = a.clone();
+    low.indices.fill(1);
+    let mut high = a;
+    high.indices.fill(INDEX_MAX as u64);
+    let [mut within, outside] = edge_between(&low, &high);
+    if answer(&within) != 0 || answer(&outside) != 11 {
+        return outside;
+    }
+    let mut list = [0; 489];
+    if paper::run(&pack(&within), &mut list).is_ok() {
+        let provisions = 2 * paper::cells(k) + 2 * k + 1;
+        let gap = ULTIMATE_MAX - within.increments[last] - list[provisions + k];
+        if gap < 5_000 {
+            within.increments[last] += gap + past;
+            return within;
+        }
+    }
+    if past > 0 {
+        outside
+    } else {
+        within
+    }
+}
+
+/// A record at an edge of this question, 4 to 14.
+fn edge(r: &mut Random, k: usize, question: u64) -> Vec<u8> {
+    match question {
+        4 => {
+            let mut record = pack(&plain(r, k));
+            let (at, width, count) = r.pick(&rows(k)[1..]);
+            let limits: &[u64] = match width {
+                20 => &[0, 1, 1_000_000, 1_000_001, 1_048_575],
+                23 => &[0, 1, 5_000_000, 5_000_001, 8_388_607],
+                34 => &[0, 10_000_000_000, 10_000_000_001, 17_179_869_183],
+                // With the sign bit: zero, the largest size and one more, of both signs.
+                _ => &[
+                    0,
+                    10_000_000_000,
+                    10_000_000_001,
+                    1 << 34,
+                    (1 << 34) + 10_000_000_000,
+                    (1 << 34) + 10_000_000_001,
+                ],
+            };
+            let place = at + width * r.below(count);
+            set_bits(&mut record, place, width, r.pick(limits));
+            record
+        }
+        5 => {
+            let given = plain(r, k);
+            let mut record = pack(&given);
+            let (at, width, count) = rows(k)[4];
+            let j = r.below(count);
+            let share = given.reporting[j] as i64 + r.pick(&[-1, 1, -20, 1_000]);
+            set_bits(&mut record, at + width * j, width, share.clamp(0, M) as u64);
+            record
+        }
+        _ => pack(&set_to_edge(r, k, question)),
+    }
+}
+
+/// A record that something has happened to.
+fn damaged(r: &mut Random, k: usize) -> Vec<u8> {
+    let mut record = pack(&fields(r, k));
+    match r.below(8) {
+        0 => {
+            for _ in 0..=r.below(8) {
+                let bit = r.below(8 * record.len());
+                record[bit / 8] ^= 0x80 >> (bit % 8);
+            }
+        }
+        1 => record.truncate(r.below(record.len())),
+        2 => {
+            let more = 1 + r.below(20);
+            record.extend((0..more).map(|_| r.pick(&[0, 0, 0xff, 0x10])));
+        }
+        3 => {
+            let filling = 8 * record.len() - paper::bits(k);
+            let bits = r.below(1 << filling) as u8;
+            if let Some(last) = record.last_mut() {
+                *last |= bits;
+            }
+        }
+        4 => record.fill_with(|| r.number() as u8),
+        5 => {
+            // The right k and length, everything else by chance.
+            let filling = 8 * record.len() - paper::bits(k);
+            record.fill_with(|| r.number() as u8);
+            set_bits(&mut record, 0, 4, k as u64);
+            let end = 8 * record.len() - filling;
+            set_bits(&mut record, end, filling, 0);
+        }
+        6 => set_bits(&mut record, 0, 4, r.pick(&[0, 0, 1, 15, 16 - k as u64])),
+        _ => record.clear(),
+    }
+    record
+}
+
+/// The record, or the bytes in the place of one, of a case.
+pub fn record(r: &mut Random) -> Vec<u8> {
+    let k = 1 + r.below(15);
+    match r.below(20) {
+        0..=5 => pack(&fields(r, k)),
+        6 => pack(&plain(r, k)),
+        7 | 8 => damaged(r, k),
+        9 if r.one_in(4) => {
+            let from = fields(r, k);
+            let to = if r.one_in(2) {
+                fields(r, k)
+            } else {
+                plain(r, k)
+            };
+            let side = r.below(2);
+            pack(&edge_between(&from, &to)[side])
+        }
+        _ => {
+            let question = r.pick(&[4, 5, 6, 7, 8, 9, 10, 11, 12, 13, 14]);
+            edge(r, k, question)
+        }
+    }
+}
+
+/// How long the buffer of a call is that needs `needed` entries: too short, just enough, longer, or empty.
+pub fn buffer_length(r: &mut Random, needed: usize) -> usize {
+    match r.below(20) {
+        0 => r.below(needed.max(1)),
+        1 => needed.saturating_sub(1),
+        2 => 0,
+        3..=9 => needed + r.below(30),
+        _ => needed,
+    }
+}
+
+/// Fields for a writer: in range, or with a k, a length or a field that it must refuse, and the length of the buffer.
+pub fn written(r: &mut Random) -> (Given, usize) {
+    let k = 1 + r.below(15);
+    let mut given = fields(r, k);
+    let mut length = paper::bytes(k);
+    let list = r.below(4);
+    let naturals = match list {
+        0 => &mut given.exposures,
+        1 => &mut given.indices,
+        2 => &mut given.reporting,
+        _ => &mut given.ulae,
+    };
+    match r.below(12) {
+        0 => given.k = r.pick(&[0, 16, 17, 255, u64::MAX, 1 + k as u64]),
+        1 => length = r.pick(&[0, length - 1, length + 1, 790, 38]),
+        2 => {
+            if r.one_in(2) {
+                naturals.pop();
+            } else {
+                naturals.push(1);
+            }
+        }
+        3 => {
+            if r.one_in(2) {
+                given.increments.pop();
+            } else {
+                given.increments.push(0);
+            }
+        }
+        4 => {
+            let place = r.below(naturals.len());
+            naturals[place] = r.pick(&[
+                0,
+                1_000_000,
+                1_000_001,
+                5_000_000,
+                5_000_001,
+                10_000_000_000,
+                10_000_000_001,
+                u64::MAX,
+            ]);
+        }
+        5 => {
+            let place = r.below(given.increments.len());
+            given.increments[place] = r.pick(&[
+                0,
+                AMOUNT_MAX,
+                -AMOUNT_MAX,
+                AMOUNT_MAX + 1,
+                -AMOUNT_MAX - 1,
+                i64::MIN,
+                i64::MAX,
+            ]);
+        }
+        6 => given.weight = r.pick(&[0, 1_000_000, 1_000_001, u64::MAX]),
+        7 => {
+            let place = r.below(given.reporting.len());
+            given.reporting[place] = r.pick(&[0, 1, 500_000, 1_000_000]);
+        }
+        8 => {
+            given.exposures.clear();
+            given.increments.clear();
+        }
+        _ => {}
+    }
+    (given, length)
+}

@@ -1,0 +1,287 @@
+//! Holds the proved reader, writer and engine against document 01 in plain Rust (`paper.rs`), on records made by chance from a seed.
+//!
+//!     differential [--seconds N] [--seed S] [--cases N]
+//!     differential --records N FOLDER     writes N accepted records into the folder, one a file
+//!
+//! Each case compares the answer and every entry of the lent buffer, those past the list too. A difference is printed and ends with status 1.
+
+use differential::paper::{self, Given};
+use differential::random::Random;
+use differential::{generate, records};
+use doonamurk::Fields;
+use std::panic::{catch_unwind, AssertUnwindSafe};
+use std::path::Path;
+use std::process::ExitCode;
+use std::time::{Duration, Instant};
+
+const SEED: u64 = 1977;
+const CASES: u64 = 400_000;
+
+/// How often each question said no (at 0: how often all said yes), by call.
+#[derive(Default)]
+struct Tally {
+    run: [u64; 15],
+    read: [u64; 15],
+    write: [u64; 15],
+    back: u64,
+}
+
+impl Tally {
+    fn print(&self) {
+        println!("answer {:>12} {:>12} {:>12}", "run", "read", "write");
+        for number in 0..15 {
+            let [run, read, write] = [self.run, self.read, self.write].map(|t| t[number]);
+            println!("{number:6} {run:12} {read:12} {write:12}");
+        }
+        println!("read, and written back to the same record: {}", self.back);
+    }
+
+    /// Every number that a call can answer has been answered.
+    fn complete(&self) -> bool {
+        let run = self.run.iter().all(|&n| n > 0);
+        let read = self.read[..6].iter().all(|&n| n > 0);
+        let write = [0, 1, 2, 4, 5].iter().all(|&n| self.write[n] > 0);
+        run && read && write && self.back > 0
+    }
+}
+
+fn hex(bytes: &[u8]) -> String {
+    bytes.iter().map(|byte| format!("{byte:02x}")).collect()
+}
+
+fn number(outcome: Result<(), u64>) -> u64 {
+    outcome.err().unwrap_or(0)
+}
+
+fn engine_number(outcome: Result<(), doonamurk::Refused>) -> u64 {
+    outcome.err().map_or(0, |refused| refused.number())
+}
+
+fn fields(given: &Given) -> Fields<'_> {
+    Fields {
+        k: given.k,
+        exposures: &given.exposures,
+        increments: &given.increments,
+        indices: &given.indices,
+        reporting: &given.reporting,
+        weight: given.weight,
+        ulae: &given.ulae,
+    }
+}
+
+/// The fields of a list as `read` fills it, k first.
+fn given(list: &[i64]) -> Given {
+    let k = list[0] as usize;
+    let mut rest = &list[1..];
+    let mut take = |count: usize| {
+        let (these, after) = rest.split_at(count);
+        rest = after;
+        these
+    };
+    let natural = |these: &[i64]| these.iter().map(|&value| value as u64).collect();
+    Given {
+        k: k as u64,
+        exposures: natural(take(k + 1)),
+        increments: take(paper::cells(k)).to_vec(),
+        indices: natural(take(k)),
+        reporting: natural(take(k + 1)),
+        weight: take(1)[0] as u64,
+        ulae: natural(take(k + 1)),
+    }
+}
+
+/// A call that reads bytes into a list, in the engine and in the paper.
+type Calls = (
+    fn(&[u8], &mut [i64]) -> Result<(), doonamurk::Refused>,
+    fn(&[u8], &mut [i64]) -> Result<(), u64>,
+);
+
+/// Calls both with buffers of the same pattern; the answer and the buffer, or what is different.
+fn both(
+    name: &str,
+    (engine, paper): Calls,
+    record: &[u8],
+    length: usize,
+    pattern: i64,
+) -> Result<(u64, Vec<i64>), String> {
+    let start: Vec<i64> = (0..length as i64).map(|n| pattern ^ n).collect();
+    let mut ours = start.clone();
+    let mut theirs = start.clone();
+    let answer = engine_number(engine(record, &mut ours));
+    let expected = number(paper(record, &mut theirs));
+    let untouched = answer == 0 || ours == start;
+    if answer == expected && ours == theirs && untouched {
+        return Ok((answer, ours));
+    }
+    let place = ours.iter().zip(&theirs).position(|(a, b)| a != b);
+    let mut said = format!(
+        "{name} with {length} entries\nrecord {}\nengine answers {answer}, paper {expected}",
+        hex(record)
+    );
+    if !untouched {
+        said += "\nthe engine refused and changed the buffer";
+    }
+    if let Some(n) = place {
+        said += &format!("\nentry {n}: engine {}, paper {}", ours[n], theirs[n]);
+        said += &format!("\nengine {ours:?}\npaper {theirs:?}");
+    }
+    Err(said)
+}
+
+fn compare_write(given: &Given, length: usize, pattern: u8) -> Result<u64, String> {
+    let start: Vec<u8> = (0..length).map(|n| pattern ^ n as u8).collect();
+    let mut ours = start.clone();
+    let mut theirs = start.clone();
+    let answer = engine_number(doonamurk::write(&fields(given), &mut ours));
+    let expected = number(paper::write(given, &mut theirs));
+    if answer == expected && ours == theirs && (answer == 0 || ours == start) {
+        return Ok(answer);
+    }
+    Err(format!(
+        "write into {length} bytes of {given:?}\nengine answers {answer}, record {}\npaper answers {expected}, record {}",
+        hex(&ours),
+        hex(&theirs)
+    ))
+}
+
+fn case(r: &mut Random, tally: &mut Tally) -> Result<(), String> {
+    let record = generate::record(r);
+    let k = record.first().map_or(0, |byte| usize::from(byte >> 4));
+    let pattern = r.number() as i64;
+
+    let length = generate::buffer_length(r, paper::entries(k));
+    let (answer, _) = both(
+        "run",
+        (doonamurk::run, paper::run),
+        &record,
+        length,
+        pattern,
+    )?;
+    tally.run[answer as usize] += 1;
+
+    let length = generate::buffer_length(r, paper::fields(k));
+    let (answer, list) = both(
+        "read",
+        (doonamurk::read, paper::read),
+        &record,
+        length,
+        pattern,
+    )?;
+    tally.read[answer as usize] += 1;
+    if answer == 0 {
+        let mut back = vec![!0; record.len()];
+        let written = engine_number(doonamurk::write(&fields(&given(&list)), &mut back));
+        if written != 0 || back != record {
+            return Err(format!(
+                "written back\nrecord {}\nwrite answers {written}, record {}",
+                hex(&record),
+                hex(&back)
+            ));
+        }
+        tally.back += 1;
+    }
+
+    let (given, length) = generate::written(r);
+    let answer = compare_write(&given, length, pattern as u8)?;
+    tally.write[answer as usize] += 1;
+    Ok(())
+}
+
+fn write_records(count: u64, folder: &Path) -> std::io::Result<()> {
+    let mut results = [0; 489];
+    let mut case = 0;
+    for n in 0..count {
+        let record = loop {
+            let mut r = Random::new(SEED, case);
+            case += 1;
+            let k = 1 + r.below(15);
+            let record = records::pack(&generate::fields(&mut r, k));
+            if paper::run(&record, &mut results).is_ok() {
+                break record;
+            }
+        };
+        std::fs::write(folder.join(format!("{n:06}.rec")), record)?;
+    }
+    Ok(())
+}
+
+struct Options {
+    seed: u64,
+    cases: u64,
+    seconds: Option<u64>,
+}
+
+fn options(arguments: &[String]) -> Option<Options> {
+    let mut options = Options {
+        seed: SEED,
+        cases: CASES,
+        seconds: None,
+    };
+    let mut counted = false;
+    for pair in arguments.chunks(2) {
+        let value = pair.get(1)?.parse().ok()?;
+        match pair[0].as_str() {
+            "--seconds" => options.seconds = Some(value),
+            "--seed" => options.seed = value,
+            "--cases" => {
+                options.cases = value;
+                counted = true;
+            }
+            _ => return None,
+        }
+    }
+    if options.seconds.is_some() && !counted {
+        options.cases = u64::MAX;
+    }
+    Some(options)
+}
+
+fn main() -> ExitCode {
+    let arguments: Vec<String> = std::env::args().skip(1).collect();
+    if let [mode, count, folder] = &arguments[..] {
+        if let ("--records", Ok(count)) = (mode.as_str(), count.parse()) {
+            return match write_records(count, Path::new(folder)) {
+                Ok(()) => ExitCode::SUCCESS,
+                Err(error) => {
+                    eprintln!("{folder}: {error}");
+                    ExitCode::FAILURE
+                }
+            };
+        }
+    }
+    let Some(Options {
+        seed,
+        cases,
+        seconds,
+    }) = options(&arguments)
+    else {
+        eprintln!("usage: differential [--seconds N] [--seed S] [--cases N] | --records N FOLDER");
+        return ExitCode::from(2);
+    };
+
+    let start = Instant::now();
+    let end = seconds.map(|n| start + Duration::from_secs(n));
+    let mut tally = Tally::default();
+    let mut done = 0;
+    while done < cases && end.is_none_or(|end| done % 256 != 0 || Instant::now() < end) {
+        let outcome = catch_unwind(AssertUnwindSafe(|| {
+            case(&mut Random::new(seed, done), &mut tally)
+        }));
+        if let Err(difference) = outcome.unwrap_or_else(|_| Err("the panic above".into())) {
+            println!("DIFFERENT: seed {seed}, case {done}: {difference}");
+            return ExitCode::FAILURE;
+        }
+        done += 1;
+    }
+    tally.print();
+    println!(
+        "{done} cases of seed {seed} in {:.1} s, no difference",
+        start.elapsed().as_secs_f64()
+    );
+    // A run of fair length that misses an answer tests less than it says.
+    if done >= 20_000 && !tally.complete() {
+        println!("an answer was never reached");
+        return ExitCode::FAILURE;
+    }
+    ExitCode::SUCCESS
+}

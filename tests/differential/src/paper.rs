@@ -1,0 +1,477 @@
+//! Document 01 in plain Rust, written from the paper alone: the reader, the writer and the run from a record to its result list.
+//!
+//! The differential test holds the proved engine against it, and the benchmark measures the engine beside it.
+//! Each answer is `Ok`, or `Err` with the number of the first question that says no; an `Err` leaves the lent buffer as it was.
+//! Every product below stays under 2^63 by the questions asked before it, so 64 bits are enough throughout.
+
+/// The total of the shares, in billionths.
+const S: u64 = 1_000_000_000;
+/// The unit of indices, reporting shares, weight, ratio and development factors, in millionths.
+const M: u64 = 1_000_000;
+
+const YEARS: usize = 16;
+const CELLS: usize = 136;
+const LONGEST_LIST: usize = 489;
+
+const EXPOSURE_MAX: u64 = 1_000_000;
+const AMOUNT_MAX: u64 = 10_000_000_000;
+const INDEX_MAX: u64 = 5_000_000;
+const CUMULATIVE_MAX: i64 = 100_000_000_000;
+const ULTIMATE_MAX: u64 = 1_000_000_000_000;
+const FACTOR_MAX: u64 = 50 * M;
+
+const K_BITS: usize = 4;
+const EXPOSURE_BITS: usize = 20;
+const SIGN_BITS: usize = 1;
+const AMOUNT_BITS: usize = 34;
+const INDEX_BITS: usize = 23;
+const SHARE_BITS: usize = 20;
+
+/// The cells of a triangle with years 0 to k.
+pub fn cells(k: usize) -> usize {
+    (k + 1) * (k + 2) / 2
+}
+
+/// The fields of a record.
+pub fn fields(k: usize) -> usize {
+    1 + (k + 1) + cells(k) + k + (k + 1) + 1 + (k + 1)
+}
+
+/// The bits of a record before its filling bits.
+pub fn bits(k: usize) -> usize {
+    K_BITS
+        + (k + 1) * EXPOSURE_BITS
+        + cells(k) * (SIGN_BITS + AMOUNT_BITS)
+        + k * INDEX_BITS
+        + (k + 2) * SHARE_BITS
+        + (k + 1) * AMOUNT_BITS
+}
+
+/// The bytes of a record.
+pub fn bytes(k: usize) -> usize {
+    bits(k).div_ceil(8)
+}
+
+/// The entries of a result list.
+pub fn entries(k: usize) -> usize {
+    let future = cells(k) - (k + 1);
+    cells(k) + (k + 1) + (k + 1) + k + future + (k + 1) + 1 + (k + 1) + (k + 1) + 1 + 1 + k + future
+}
+
+/// Takes fields off a record, the most significant bit first.
+struct Bits<'a> {
+    record: &'a [u8],
+    at: usize,
+}
+
+impl Bits<'_> {
+    fn take(&mut self, width: usize) -> u64 {
+        let byte = self.at / 8;
+        // A field is at most 35 bits wide and starts in the window's first byte, so eight bytes hold it.
+        let window = match self.record.get(byte..byte + 8) {
+            Some(eight) => u64::from_be_bytes(eight.try_into().expect("eight bytes")),
+            None => {
+                let mut eight = [0; 8];
+                let last = &self.record[byte..];
+                eight[..last.len()].copy_from_slice(last);
+                u64::from_be_bytes(eight)
+            }
+        };
+        let value = window << (self.at % 8) >> (64 - width);
+        self.at += width;
+        value
+    }
+
+    /// Takes a field under question 4.
+    fn take_within(&mut self, width: usize, least: u64, most: u64) -> Result<u64, u64> {
+        let value = self.take(width);
+        if (least..=most).contains(&value) {
+            Ok(value)
+        } else {
+            Err(4)
+        }
+    }
+}
+
+/// A record's fields; of each list only what k calls for is used.
+struct Record {
+    k: usize,
+    exposures: [u64; YEARS],
+    increments: [i64; CELLS],
+    indices: [u64; YEARS],
+    reporting: [u64; YEARS],
+    weight: u64,
+    ulae: [u64; YEARS],
+}
+
+/// Questions 1 and 2; answers k.
+fn last_year(record: &[u8]) -> Result<usize, u64> {
+    let k = usize::from(record.first().ok_or(1u64)? >> 4);
+    if k == 0 {
+        return Err(1);
+    }
+    if record.len() != bytes(k) {
+        return Err(2);
+    }
+    let filling = 8 * bytes(k) - bits(k);
+    if record[record.len() - 1].trailing_zeros() < filling as u32 {
+        return Err(2);
+    }
+    Ok(k)
+}
+
+impl Record {
+    /// Questions 4 and 5, for a record of which 1 and 2 said yes.
+    fn unpack(k: usize, record: &[u8]) -> Result<Record, u64> {
+        let mut figures = Record {
+            k,
+            exposures: [0; YEARS],
+            increments: [0; CELLS],
+            indices: [0; YEARS],
+            reporting: [0; YEARS],
+            weight: 0,
+            ulae: [0; YEARS],
+        };
+        let mut field = Bits { record, at: K_BITS };
+        for exposure in &mut figures.exposures[..=k] {
+            *exposure = field.take_within(EXPOSURE_BITS, 1, EXPOSURE_MAX)?;
+        }
+        for increment in &mut figures.increments[..cells(k)] {
+            let signed = field.take(SIGN_BITS + AMOUNT_BITS);
+            let size = signed & ((1 << AMOUNT_BITS) - 1);
+            let negative = signed != size;
+            if size > AMOUNT_MAX || (negative && size == 0) {
+                return Err(4);
+            }
+            *increment = if negative {
+                -(size as i64)
+            } else {
+                size as i64
+            };
+        }
+        for index in &mut figures.indices[..k] {
+            *index = field.take_within(INDEX_BITS, 1, INDEX_MAX)?;
+        }
+        for share in &mut figures.reporting[..=k] {
+            *share = field.take_within(SHARE_BITS, 0, M)?;
+        }
+        figures.weight = field.take_within(SHARE_BITS, 0, M)?;
+        for total in &mut figures.ulae[..=k] {
+            *total = field.take_within(AMOUNT_BITS, 0, AMOUNT_MAX)?;
+        }
+        if figures.reporting.iter().sum::<u64>() != M {
+            return Err(5);
+        }
+        Ok(figures)
+    }
+}
+
+/// Reads a record into a list of its fields, k first: questions 1 to 5.
+pub fn read(record: &[u8], list: &mut [i64]) -> Result<(), u64> {
+    let k = last_year(record)?;
+    if list.len() < fields(k) {
+        return Err(3);
+    }
+    let figures = Record::unpack(k, record)?;
+    let plain = |values: &[u64], place: &mut [i64]| {
+        for (entry, &value) in place.iter_mut().zip(values) {
+            *entry = value as i64;
+        }
+    };
+    list[0] = k as i64;
+    let (exposures, list) = list[1..].split_at_mut(k + 1);
+    let (increments, list) = list.split_at_mut(cells(k));
+    let (indices, list) = list.split_at_mut(k);
+    let (reporting, list) = list.split_at_mut(k + 1);
+    let (weight, list) = list.split_at_mut(1);
+    plain(&figures.exposures, exposures);
+    increments.copy_from_slice(&figures.increments[..cells(k)]);
+    plain(&figures.indices, indices);
+    plain(&figures.reporting, reporting);
+    weight[0] = figures.weight as i64;
+    plain(&figures.ulae, &mut list[..=k]);
+    Ok(())
+}
+
+/// What a writer is given: k, the lists and the weight, of any lengths and sizes.
+#[derive(Clone, Debug, Default)]
+pub struct Given {
+    pub k: u64,
+    pub exposures: Vec<u64>,
+    pub increments: Vec<i64>,
+    pub indices: Vec<u64>,
+    pub reporting: Vec<u64>,
+    pub weight: u64,
+    pub ulae: Vec<u64>,
+}
+
+/// Puts fields into a record, the most significant bit first.
+struct Packer<'a> {
+    record: &'a mut [u8],
+    full: usize,
+    held: u64,
+    width: usize,
+}
+
+impl Packer<'_> {
+    fn put(&mut self, width: usize, value: u64) {
+        self.held = self.held << width | value;
+        self.width += width;
+        while self.width >= 8 {
+            self.width -= 8;
+            self.record[self.full] = (self.held >> self.width) as u8;
+            self.full += 1;
+        }
+    }
+
+    fn fill(mut self) {
+        if self.width > 0 {
+            self.put(8 - self.width, 0);
+        }
+    }
+}
+
+/// Writes the record of the given fields: questions 1, 2, 4 and 5.
+pub fn write(given: &Given, record: &mut [u8]) -> Result<(), u64> {
+    if !(1..=15).contains(&given.k) {
+        return Err(1);
+    }
+    let k = given.k as usize;
+    let lengths = [
+        (record.len(), bytes(k)),
+        (given.exposures.len(), k + 1),
+        (given.increments.len(), cells(k)),
+        (given.indices.len(), k),
+        (given.reporting.len(), k + 1),
+        (given.ulae.len(), k + 1),
+    ];
+    if lengths.iter().any(|(has, needs)| has != needs) {
+        return Err(2);
+    }
+    let within = |values: &[u64], least, most| values.iter().all(|v| (least..=most).contains(v));
+    let in_range = within(&given.exposures, 1, EXPOSURE_MAX)
+        && given
+            .increments
+            .iter()
+            .all(|p| p.unsigned_abs() <= AMOUNT_MAX)
+        && within(&given.indices, 1, INDEX_MAX)
+        && within(&given.reporting, 0, M)
+        && given.weight <= M
+        && within(&given.ulae, 0, AMOUNT_MAX);
+    if !in_range {
+        return Err(4);
+    }
+    if given.reporting.iter().sum::<u64>() != M {
+        return Err(5);
+    }
+    let mut packer = Packer {
+        record,
+        full: 0,
+        held: 0,
+        width: 0,
+    };
+    packer.put(K_BITS, given.k);
+    for &exposure in &given.exposures {
+        packer.put(EXPOSURE_BITS, exposure);
+    }
+    for &increment in &given.increments {
+        packer.put(SIGN_BITS, u64::from(increment < 0));
+        packer.put(AMOUNT_BITS, increment.unsigned_abs());
+    }
+    for &index in &given.indices {
+        packer.put(INDEX_BITS, index);
+    }
+    for &share in &given.reporting {
+        packer.put(SHARE_BITS, share);
+    }
+    packer.put(SHARE_BITS, given.weight);
+    for &total in &given.ulae {
+        packer.put(AMOUNT_BITS, total);
+    }
+    packer.fill();
+    Ok(())
+}
+
+/// 100 × increment / exposure to the nearest whole hundredth, halves away from zero.
+fn average(increment: i64, exposure: u64) -> i64 {
+    let size = (200 * increment.unsigned_abs() + exposure) / (2 * exposure);
+    if increment < 0 {
+        -(size as i64)
+    } else {
+        size as i64
+    }
+}
+
+/// The result list as it grows; it is worked out in the order in which it is listed.
+struct List<'a> {
+    entries: &'a mut [i64; LONGEST_LIST],
+    len: usize,
+}
+
+impl List<'_> {
+    #[inline]
+    fn push(&mut self, entry: i64) {
+        self.entries[self.len] = entry;
+        self.len += 1;
+    }
+
+    #[inline]
+    fn extend(&mut self, values: &[u64]) {
+        for &value in values {
+            self.push(value as i64);
+        }
+    }
+}
+
+/// Runs from a record to its result list: questions 1 to 14.
+pub fn run(record: &[u8], results: &mut [i64]) -> Result<(), u64> {
+    let k = last_year(record)?;
+    if results.len() < entries(k) {
+        return Err(3);
+    }
+    let figures = Record::unpack(k, record)?;
+    // The results are lent, and a later question may still say no: the list grows here first.
+    let mut list = [0; LONGEST_LIST];
+    work_out(&figures, &mut list)?;
+    results[..entries(k)].copy_from_slice(&list[..entries(k)]);
+    Ok(())
+}
+
+/// Questions 6 to 14, and the list where all say yes.
+fn work_out(figures: &Record, entries: &mut [i64; LONGEST_LIST]) -> Result<(), u64> {
+    let k = figures.k;
+    let mut list = List { entries, len: 0 };
+
+    // Averages, their columns v and diagonals d; of the cumulatives only the column totals and each row's latest are needed.
+    let mut columns = [0i64; YEARS];
+    let mut diagonals = [0i64; YEARS];
+    let mut cumulative_columns = [0u64; YEARS];
+    let mut latest = [0u64; YEARS];
+    let mut rest = &figures.increments[..cells(k)];
+    for i in 0..=k {
+        let (row, below) = rest.split_at(k + 1 - i);
+        rest = below;
+        let mut cumulative = 0;
+        for (j, &increment) in row.iter().enumerate() {
+            cumulative += increment;
+            if !(0..=CUMULATIVE_MAX).contains(&cumulative) {
+                return Err(6);
+            }
+            cumulative_columns[j] += cumulative as u64;
+            let s = average(increment, figures.exposures[i]);
+            list.push(s);
+            columns[j] += s;
+            diagonals[i + j] += s;
+        }
+        latest[i] = cumulative as u64;
+    }
+    let negative = columns.iter().chain(&diagonals).any(|&total| total < 0);
+    if negative || columns.iter().sum::<i64>() > S as i64 {
+        return Err(7);
+    }
+    let v = columns.map(|total| total as u64);
+    let d = diagonals.map(|total| total as u64);
+
+    // T_h less column h, and diagonal h − 1 more, is T_{h−1}.
+    let mut t = [0; YEARS];
+    t[k] = d[k];
+    for h in (1..=k).rev() {
+        if t[h] <= v[h] {
+            return Err(8);
+        }
+        t[h - 1] = t[h] - v[h] + d[h - 1];
+    }
+    let mut running = [0; YEARS];
+    running[k] = S;
+    for h in (1..=k).rev() {
+        running[h - 1] = running[h] * (t[h] - v[h]) / t[h];
+        if running[h - 1] == 0 {
+            return Err(9);
+        }
+    }
+    let mut shares = [0; YEARS];
+    let mut levels = [0; YEARS];
+    shares[0] = running[0];
+    for h in 1..=k {
+        shares[h] = running[h] - running[h - 1];
+    }
+    for h in 0..=k {
+        levels[h] = d[h] * S / running[h];
+        if levels[h] > S {
+            return Err(10);
+        }
+    }
+    list.extend(&shares[..=k]);
+    list.extend(&levels[..=k]);
+
+    // Future levels L_1 to L_k, from place 0.
+    let mut future = [0; YEARS];
+    for (level, index) in future.iter_mut().zip(&figures.indices[..k]) {
+        *level = d[k] * index / M;
+    }
+    list.extend(&future[..k]);
+
+    let mut provisions = [0; YEARS];
+    let mut ultimates = [0; YEARS];
+    for i in 0..=k {
+        let after = &shares[k - i + 1..=k];
+        for (share, level) in after.iter().zip(&future[..i]) {
+            let unit = share * level / S;
+            let payment = figures.exposures[i] * unit / 100;
+            list.push(payment as i64);
+            provisions[i] += payment;
+        }
+        ultimates[i] = latest[i] + provisions[i];
+        if ultimates[i] > ULTIMATE_MAX {
+            return Err(11);
+        }
+    }
+    list.extend(&provisions[..=k]);
+    list.push(provisions.iter().sum::<u64>() as i64);
+
+    let paid = latest.iter().sum::<u64>();
+    let expense = figures.ulae.iter().sum::<u64>();
+    if paid < 1 || expense > paid {
+        return Err(12);
+    }
+    let ratio = M * expense / paid;
+    let mut unreported = [0; YEARS];
+    let mut reserves = [0; YEARS];
+    let mut still_to_report = 0;
+    for i in 0..=k {
+        unreported[i] = ultimates[i] * still_to_report / M;
+        let weighted = figures.weight * unreported[i] + (M - figures.weight) * provisions[i];
+        reserves[i] = ratio * (weighted / M) / M;
+        still_to_report += figures.reporting[k - i];
+    }
+    list.extend(&unreported[..=k]);
+    list.extend(&reserves[..=k]);
+    list.push(reserves.iter().sum::<u64>() as i64);
+    list.push(ratio as i64);
+
+    // Row k − h is the one whose latest cumulative stands in column h and has no next one.
+    let mut factors = [0; YEARS];
+    for h in 0..k {
+        let base = cumulative_columns[h] - latest[k - h];
+        if base < 1 {
+            return Err(13);
+        }
+        factors[h] = M * cumulative_columns[h + 1] / base;
+        if factors[h] > FACTOR_MAX {
+            return Err(13);
+        }
+    }
+    list.extend(&factors[..k]);
+
+    for i in 1..=k {
+        let mut cumulative = latest[i];
+        for factor in &factors[k - i..k] {
+            cumulative = cumulative * factor / M;
+            if cumulative > CUMULATIVE_MAX as u64 {
+                return Err(14);
+            }
+            list.push(cumulative as i64);
+        }
+    }
+    Ok(())
+}

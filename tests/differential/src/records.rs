@@ -1,0 +1,132 @@
+//! Records that need no chance: an account that is accepted, the same account changed so that one question says no, and single fields of a record.
+
+use crate::paper::{self, Given};
+
+/// The place of row i, column j among the increments.
+pub fn cell(k: usize, i: usize, j: usize) -> usize {
+    paper::cells(k) - paper::cells(k - i) + j
+}
+
+/// The record of fields that are known to be in range.
+pub fn pack(given: &Given) -> Vec<u8> {
+    let mut record = vec![0; paper::bytes(given.k as usize)];
+    paper::write(given, &mut record).expect("fields in range");
+    record
+}
+
+/// Puts the low bits of a value into a record, whether or not they are in range there.
+pub fn set_bits(record: &mut [u8], at: usize, width: usize, value: u64) {
+    for n in 0..width {
+        let mask = 0x80 >> ((at + n) % 8);
+        if value >> (width - 1 - n) & 1 == 1 {
+            record[(at + n) / 8] |= mask;
+        } else {
+            record[(at + n) / 8] &= !mask;
+        }
+    }
+}
+
+/// The rows of a record: first bit, width and how many fields, in their order.
+pub fn rows(k: usize) -> [(usize, usize, usize); 7] {
+    let mut rows = [
+        (0, 4, 1),
+        (0, 20, k + 1),
+        (0, 35, paper::cells(k)),
+        (0, 23, k),
+        (0, 20, k + 1),
+        (0, 20, 1),
+        (0, 34, k + 1),
+    ];
+    let mut at = 0;
+    for row in &mut rows {
+        row.0 = at;
+        at += row.1 * row.2;
+    }
+    rows
+}
+
+/// A plain account of k + 1 years that is accepted: payments fall with the development year, and rise with the payment year.
+pub fn account(k: usize) -> Given {
+    let mut increments = Vec::with_capacity(paper::cells(k));
+    for i in 0..=k {
+        for j in 0..=k - i {
+            increments.push(((9_000_000 + 310_007 * (i + j)) >> (2 * j / 3)) as i64);
+        }
+    }
+    let mut reporting = vec![500_000 / (k as u64 + 1); k + 1];
+    reporting[0] += 1_000_000 - reporting.iter().sum::<u64>();
+    Given {
+        k: k as u64,
+        exposures: (0..=k as u64).map(|i| 18_000 + 411 * i).collect(),
+        increments,
+        indices: (1..=k as u64).map(|t| 1_000_000 + 31_000 * t).collect(),
+        reporting,
+        weight: 450_000,
+        ulae: (0..=k as u64).map(|t| 210_000 + 9_000 * t).collect(),
+    }
+}
+
+/// The account of sixteen years, changed so that this question, 2 or 4 to 14, is the first that says no, and says it late: the work of all questions
+/// before it is done. `None` for 1 and 3, which no field of sixteen years can reach.
+pub fn refused(question: u64) -> Option<Vec<u8>> {
+    const K: usize = 15;
+    let mut a = account(K);
+    let [.., (shares, width, count), _, (totals, size, years)] = rows(K);
+    match question {
+        2 => {
+            let mut record = pack(&a);
+            *record.last_mut()? |= 1;
+            return Some(record);
+        }
+        4 => {
+            let mut record = pack(&a);
+            set_bits(
+                &mut record,
+                totals + size * (years - 1),
+                size,
+                10_000_000_001,
+            );
+            return Some(record);
+        }
+        5 => {
+            let mut record = pack(&a);
+            set_bits(
+                &mut record,
+                shares + width * (count - 1),
+                width,
+                a.reporting[K] + 1,
+            );
+            return Some(record);
+        }
+        6 => a.increments[cell(K, K, 0)] = -1,
+        // The total of the averages is asked after the columns and the diagonals.
+        7 => a.exposures.fill(1),
+        // T_1 - v_1 is the total of column 0 below its first cell.
+        8 => (1..=K).for_each(|i| a.increments[cell(K, i, 0)] = 0),
+        9 => {
+            a.exposures.fill(100);
+            (1..=K).for_each(|i| a.increments[cell(K, i, 0)] = 0);
+            a.increments[cell(K, K, 0)] = 1;
+            a.increments[cell(K, 0, 1)] = 400_000_000;
+        }
+        10 => {
+            a.exposures.fill(100);
+            (1..=K).for_each(|i| a.increments[cell(K, i, 0)] = 1);
+            a.increments[cell(K, 0, 0)] = 500_000_000;
+        }
+        // The last year has few increments and many claims, at the averages of the others.
+        11 => {
+            a.exposures.fill(60);
+            a.exposures[K] = 1_000_000;
+            a.indices.fill(5_000_000);
+        }
+        12 => a.ulae[K] = 10_000_000_000,
+        13 => a.increments[K] = 50 * a.increments[..K].iter().sum::<i64>(),
+        14 => {
+            (0..K).for_each(|i| a.increments[cell(K, i, 0)] /= 20);
+            a.increments[cell(K, K, 0)] = 10_000_000_000;
+        }
+        _ => return None,
+    }
+    Some(pack(&a))
+}

@@ -1,0 +1,20 @@
+"""Times tests/model.py on records: one in hexadecimal a line on standard input, and the repetitions of each as the argument.
+
+Prints for each record the answer, the sum of its result list and the nanoseconds of a run, the median of its repetitions."""
+
+import statistics
+import sys
+import time
+from pathlib import Path
+
+sys.path.insert(0, str(Path(__file__).resolve().parents[1]))
+import model
+
+for line in sys.stdin:
+    record = bytes.fromhex(line)
+    times = []
+    for _ in range(int(sys.argv[1])):
+        start = time.perf_counter_ns()
+        answer, results = model.run(record, 489)
+        times.append(time.perf_counter_ns() - start)
+    print(answer, sum(results or []), int(statistics.median(times)))
