@@ -1,14 +1,16 @@
 #!/usr/bin/env python3
-"""make_cases.py: writes the stored input and expected output of the test programs read_cases, write_cases, run_cases and reserve, and the records
-of the examples from their texts.
+"""make_cases.py: writes the stored input and expected output of the test programs read_cases, write_cases and run_cases and of the programs reserve,
+report, pack and unpack; the records of the examples from their texts, and their pages (tests/pages); and the texts that pack must accept or refuse, with
+the record of each or what pack says (tests/texts).
 
-The expected output comes from model.py, which is written from document 01 and shares nothing with the Rattle code.
+What is expected comes from model.py and page.py, which are written from document 01 and from the docs and share nothing with the Rattle code.
 """
 import glob
 import os
 import random
 
 import model
+import page
 
 HERE = os.path.dirname(os.path.abspath(__file__))
 CRATES = os.path.join(HERE, "..", "crates")
@@ -300,17 +302,110 @@ def main():
     print("cases by number:", {number_: numbers.count(number_) for number_ in range(15)})
     record = model.pack(model.MOTOR_ACCOUNT)
     store("reserve", record, "".join(f"{v}\n" for v in model.run(record, model.result_count(3))[1]))
+    store("report", record, page.page(record))
+    examples()
+    texts()
+
+
+def examples():
+    """The record and the page of every example; the longest of them is what pack and unpack are given."""
     for path in sorted(glob.glob(os.path.join(HERE, "..", "examples", "*.txt"))):
-        record = model.pack(typed(path))
-        assert model.run(record, model.result_count(record[0] >> 4))[0] == 0
-        with open(path.removesuffix(".txt") + ".rec", "wb") as out:
-            out.write(record)
+        name = os.path.splitext(os.path.basename(path))[0]
+        with open(path, "rb") as text:
+            given = text.read()
+        fields = typed(given.decode())
+        record = model.pack(fields)
+        put(os.path.splitext(path)[0] + ".rec", record)
+        put(os.path.join(HERE, "pages", name + ".txt"), page.page(record))
+        if name == "liability_book":
+            store("pack", given, record)
+            store("unpack", record, page.sheet(fields))
 
 
-def typed(path):
+def typed(text):
     """The fields of an example's text: every number of every line, comments left out."""
-    with open(path) as text:
-        return [int(word) for line in text for word in line.split("#")[0].split()[1:]]
+    return [int(word) for line in text.split("\n") for word in line.split("#")[0].split()[1:]]
+
+
+# What pack says, by docs/SHEET.md.
+NO_NUMBER = "a word is not a whole number (only paid amounts may be below zero)"
+REFUSED_1 = "refused 1: there is no record, or k is not from 1 to 15"
+REFUSED_4 = "refused 4: a field is out of its range"
+REFUSED_5 = "refused 5: the reporting shares do not sum to 1,000,000"
+
+
+def due(label):
+    return f"a line that starts with `{label}` is due"
+
+
+def refused_texts():
+    """Name, text and what pack says of it, for texts that it refuses."""
+    two_years = page.sheet(model.TWO_YEARS).splitlines()
+
+    def with_line(number_, line):
+        """The two years with another line in this place, counted from 1."""
+        return "\n".join(two_years[:number_ - 1] + [line] + two_years[number_:]) + "\n"
+
+    plain_text = "\n".join(two_years) + "\n"
+    # words that are no numbers
+    yield "letter", with_line(3, "paid 60 4o"), f"line 3: {NO_NUMBER}"
+    yield "decimals", with_line(4, "paid 66.0"), f"line 4: {NO_NUMBER}"
+    yield "minus_alone", with_line(4, "paid -"), f"line 4: {NO_NUMBER}"
+    yield "two_minus", with_line(4, "paid --5"), f"line 4: {NO_NUMBER}"
+    yield "plus", with_line(4, "paid +5"), f"line 4: {NO_NUMBER}"
+    yield "negative_exposure", with_line(2, "exposures 1 -1"), f"line 2: {NO_NUMBER}"
+    yield "two_labels", with_line(3, "paid 60 40 paid 66"), f"line 3: {NO_NUMBER}"
+    # labels
+    yield "label", with_line(5, "index 1100000"), "line 5: " + due("indices")
+    yield "label_in_capitals", with_line(4, "PAID 66"), "line 4: " + due("paid")
+    yield "label_goes_on", with_line(4, "paidx 66"), "line 4: " + due("paid")
+    yield "label_cut", with_line(4, "pai 66"), "line 4: " + due("paid")
+    yield "label_in_quotes", with_line(4, '"paid" 66'), "line 4: " + due("paid")
+    yield "order", "\n".join(two_years[:6] + [two_years[7], two_years[6]]) + "\n", "line 7: " + due("weight")
+    # counts of numbers
+    yield "thousands", with_line(5, "indices 1,100,000"), "line 5: `indices` takes 1 number"
+    yield "too_many", with_line(7, "weight 500 000"), "line 7: `weight` takes 1 number"
+    yield "too_few", "# one payment is missing\n\n" + with_line(3, "paid 60"), "line 5: `paid` takes 2 numbers"
+    # too short and too long
+    yield "empty", "", "line 1: the text ends where `k` is due"
+    yield "only_comments", "# nothing\n# here\n", "line 3: the text ends where `k` is due"
+    yield "ends_early", "\n".join(two_years[:7]) + "\n", "line 8: the text ends where `ulae` is due"
+    yield "goes_on", plain_text + "\npaid 3\n", "line 10: there is more than the figures call for"
+    # figures
+    yield "k_zero", with_line(1, "k 0"), REFUSED_1
+    yield "k_sixteen", with_line(1, "k 16"), REFUSED_1
+    yield "k_huge", with_line(1, "k 100000000000000000000000000001"), REFUSED_1
+    yield "exposure_zero", with_line(2, "exposures 1 0"), REFUSED_4
+    yield "amount_low", with_line(4, "paid -10000000001"), REFUSED_4
+    # 2^64 + 1, which would be 1 if it were cut to 64 bits
+    yield "amount_huge", with_line(4, "paid 18446744073709551617"), REFUSED_4
+    yield "reporting_sum", with_line(6, "reporting 800000 200001"), REFUSED_5
+
+
+def accepted_texts():
+    """Name, text and fields, for texts that pack accepts."""
+    two_years = page.sheet(model.TWO_YEARS)
+    yield "plain", two_years, model.TWO_YEARS
+    yield "semicolons", two_years.replace(" ", ";"), model.TWO_YEARS
+    yield "negative", two_years.replace("60 40", "60 -4"), changed(model.TWO_YEARS, 4, -4)
+    yield "negative_zero", two_years.replace("60 40", "60 -0"), changed(model.TWO_YEARS, 4, 0)
+    # as a spreadsheet saves it: a mark at the start, commas up to the longest line, carriage returns
+    rows = [line.split(" ") for line in two_years.splitlines()]
+    yield "spreadsheet", "\ufeff" + "".join(",".join(row + [""] * (4 - len(row))) + "\r\n" for row in rows), model.TWO_YEARS
+    untidy = two_years.replace("k 1\n", "# two years\n\tk\t1   # the last year\n\n").replace("paid 66", "  paid   0066 # the first payment of year 1")
+    yield "tabs_and_comments", untidy[:-1], model.TWO_YEARS
+
+
+def texts():
+    """The texts that pack must accept or refuse."""
+    folder = os.path.join(HERE, "texts")
+    made = {name + ".txt": text for name, text, _ in [*refused_texts(), *accepted_texts()]}
+    made.update({name + ".said": said + "\n" for name, _, said in refused_texts()})
+    made.update({name + ".rec": model.pack(fields) for name, _, fields in accepted_texts()})
+    for name, data in made.items():
+        put(os.path.join(folder, name), data)
+    for name in sorted(set(os.listdir(folder)) - set(made)):
+        print(f"tests/texts/{name} is not made here")
 
 
 def shown(number_, values, room):
@@ -319,12 +414,17 @@ def shown(number_, values, room):
     return text + ("unchanged\n" if values is None else "".join(f"{v}\n" for v in values + [-7] * (room - len(values))))
 
 
+def put(path, data):
+    """Writes a file of bytes, or of text as UTF-8 with its line ends as they are."""
+    os.makedirs(os.path.dirname(path), exist_ok=True)
+    with open(path, "wb") as out:
+        out.write(data if isinstance(data, bytes) else data.encode())
+
+
 def store(name, given, wanted):
-    with open(os.path.join(CRATES, name, "stdin"), "wb") as out:
-        out.write(given)
-    with open(os.path.join(CRATES, name, "stdout"), "w") as out:
-        out.write(wanted)
-    print(name, len(given), "bytes in,", wanted.count("\n"), "lines out")
+    put(os.path.join(CRATES, name, "stdin"), given)
+    put(os.path.join(CRATES, name, "stdout"), wanted)
+    print(name, len(given), "bytes in,", f"{len(wanted)} bytes out" if isinstance(wanted, bytes) else f"{wanted.count(chr(10))} lines out")
 
 
 main()

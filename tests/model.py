@@ -92,6 +92,12 @@ def lists(fields):
     return out
 
 
+def by_row(k, increments):
+    """The increments of each origin year."""
+    rest = iter(increments)
+    return [[next(rest) for _ in range(k + 1 - i)] for i in range(k + 1)]
+
+
 def write(k, n, P, e, b, w, U, room):
     """The record with these fields, for a buffer of `room` bytes."""
     if not 1 <= k <= 15:
@@ -185,9 +191,7 @@ def run(record, room):
     try:
         given = lists(read(record, room, result_count))
         k = given["k"][0]
-        rest = iter(given["P"])
-        by_row = [[next(rest) for _ in range(k + 1 - i)] for i in range(k + 1)]
-        out = results(k, given["n"], by_row, given["e"], given["b"], given["w"][0], given["U"])
+        out = results(k, given["n"], by_row(k, given["P"]), given["e"], given["b"], given["w"][0], given["U"])
         assert len(out) == result_count(k)
         return 0, out
     except Refused as no:

@@ -10,6 +10,23 @@
  *   null, not even one of length 0: any non-null pointer will do for that.
  * - A buffer that is filled must not overlap any other buffer of the call. Buffers that are only read may overlap each other.
  * - There is no global state: any number of threads may call at once, each with buffers of its own to fill; what is only read may be shared.
+ *
+ * The questions, asked in this order; the answer is the number of the first that says no:
+ *    1  Is there a first byte, and is k at least 1? (write: is k from 1 to 15?)
+ *    2  Is the length just what k calls for, and every filling bit zero? (write: has the buffer just the length that k calls for, and each list its own?)
+ *    3  Does the list that is filled hold all entries? (run, read)
+ *    4  Is every field in its range?
+ *    5  Do the reporting shares sum to 1,000,000?
+ *    6  Is every given cumulative from 0 to 10^11?
+ *    7  Is every column and every diagonal of the averages at least 0, and their total at most 10^9?
+ *    8  Is T_h - v_h at least 1 for every h from 1 to k?
+ *    9  Is every running share at least 1?
+ *   10  Is every level at most 10^9?
+ *   11  Is every ultimate at most 10^12?
+ *   12  Is the total of paid increments at least 1, and the total of the ULAE totals at most that?
+ *   13  Is every chain-ladder base at least 1, and every development factor at most 50,000,000?
+ *   14  Is every completed cumulative at most 10^11?
+ * run asks all of them, read 1 to 5, and write 1, 2, 4 and 5.
  */
 #ifndef DOONAMURK_H
 #define DOONAMURK_H

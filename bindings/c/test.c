@@ -1,6 +1,7 @@
-/* Tests the C functions on Taylor's motor account, on document 01's two years, and on refusals. Says which check fails, and ends with status 1. */
+/* Tests the C functions on Taylor's motor account, on document 01's two years, on refusals, and from several threads at once. Says which check fails, and ends with status 1. */
 #include "doonamurk.h"
 
+#include <pthread.h>
 #include <stdio.h>
 #include <string.h>
 
@@ -160,6 +161,52 @@ static void refused_writes(void)
     check(answer == 5 && memcmp(record, before, sizeof record) == 0, "write refused 5: reporting shares of 1,000,001");
 }
 
+#define THREADS 4
+#define RUNS 2000
+
+/* What a thread is given and hands back: the record and the list are shared and only read, the count of lists that differ is its own. */
+struct work {
+    const uint8_t *record;
+    const int64_t *expected;
+    int different;
+};
+
+static void *run_many(void *given)
+{
+    struct work *work = given;
+    size_t count = doonamurk_result_count(MOTOR_K);
+    for (int n = 0; n < RUNS; n++) {
+        int64_t results[DOONAMURK_RESULTS_MAX];
+        fill(results, DOONAMURK_RESULTS_MAX);
+        uint64_t answer = doonamurk_run(work->record, doonamurk_record_bytes(MOTOR_K), results, DOONAMURK_RESULTS_MAX);
+        if (answer != 0 || memcmp(results, work->expected, count * sizeof *results) != 0 || !filled(results, count, DOONAMURK_RESULTS_MAX))
+            work->different++;
+    }
+    return NULL;
+}
+
+static void threads(void)
+{
+    uint8_t record[DOONAMURK_RECORD_MAX];
+    int64_t expected[DOONAMURK_RESULTS_MAX];
+    size_t bytes = doonamurk_record_bytes(MOTOR_K);
+    check(write_motor(MOTOR_K, 1, 10, record, bytes) == 0, "the motor account is written");
+    check(doonamurk_run(record, bytes, expected, DOONAMURK_RESULTS_MAX) == 0, "the motor account is accepted");
+    pthread_t thread[THREADS];
+    struct work work[THREADS];
+    int started = 0;
+    for (; started < THREADS; started++) {
+        work[started] = (struct work){record, expected, 0};
+        if (pthread_create(&thread[started], NULL, run_many, &work[started]) != 0)
+            break;
+    }
+    check(started == THREADS, "every thread starts");
+    for (int n = 0; n < started; n++) {
+        pthread_join(thread[n], NULL);
+        check(work[n].different == 0, "threads that run at once have the same list");
+    }
+}
+
 int main(void)
 {
     sizes();
@@ -167,5 +214,6 @@ int main(void)
     motor_account();
     refusals();
     refused_writes();
+    threads();
     return failures != 0;
 }

@@ -5,8 +5,13 @@
 
 A refusal is raised as Refused, with the number of the first question that says no. docs/FORMAT.md has the record, the lists and the questions.
 
-The library is target/lib/libdoonamurk.so of this repository, or the file that the environment variable DOONAMURK_LIBRARY names. It has no global
-state: any number of threads may call at once.
+The library is target/lib/libdoonamurk.so of this repository, or the file that the environment variable DOONAMURK_LIBRARY names.
+
+Of every call here:
+- A record is bytes, or what else lends its memory as single bytes (bytearray, memoryview, array("B")). It is copied in, and what is returned is a new
+  list or new bytes of the caller's own: nothing is kept, and nothing that is handed in is changed.
+- The library has no global state: any number of threads may call at once. A bytearray must not be changed by another thread while it is copied in.
+- What is refused gives nothing at all: no list, no record.
 """
 
 import ctypes
@@ -36,7 +41,8 @@ QUESTIONS = {
 }
 
 # The writer asks these two otherwise.
-WRITE_QUESTIONS = QUESTIONS | {
+WRITE_QUESTIONS = {
+    **QUESTIONS,
     1: "Is k from 1 to 15?",
     2: "Has the buffer just the length that k calls for, and each list its own?",
 }
@@ -73,7 +79,8 @@ def result_count(k):
 
 def _load():
     path = os.environ.get("DOONAMURK_LIBRARY")
-    path = Path(path) if path else Path(__file__).resolve().parents[2] / "target/lib/libdoonamurk.so"
+    # A name without a folder would be looked for in the folders of the system, so the path is made absolute.
+    path = Path(path).resolve() if path else Path(__file__).resolve().parents[2] / "target/lib/libdoonamurk.so"
     if not path.is_file():
         raise OSError(f"{path} is missing: run bindings/build first, it makes it")
     library = ctypes.CDLL(str(path))
@@ -93,8 +100,18 @@ def _load():
 _library = _load()
 
 
-def _filled(call, record, count):
-    """The first `count` entries that a call fills from a record, in a buffer of just that length."""
+def _bytes_of(record):
+    """The bytes of a record, copied. A list of numbers, or memory of wider items, is no record: its length would not be counted in bytes."""
+    view = memoryview(record)
+    if view.itemsize != 1:
+        raise TypeError(f"a record has items of one byte, these have {view.itemsize}")
+    return view.tobytes()
+
+
+def _filled(call, record, count_of):
+    """The count_of(k) entries that a call fills from a record, in a buffer of just that length."""
+    record = _bytes_of(record)
+    count = count_of(record[0] >> 4 if record else 0)
     packed = (ctypes.c_uint8 * len(record)).from_buffer_copy(record)
     entries = (ctypes.c_int64 * count)()
     number = call(packed, len(record), entries, count)
@@ -103,22 +120,24 @@ def _filled(call, record, count):
     return list(entries)
 
 
-def _k_of(record):
-    return record[0] >> 4 if record else 0
-
-
 def run(record):
-    """The result list of a record (bytes), a list of whole numbers.
+    """The result list of a record, a list of whole numbers.
 
-    Raises Refused with the first of questions 1 to 14 that says no; question 3 never does, for the list is made as long as it must be."""
-    return _filled(_library.doonamurk_run, record, result_count(_k_of(record)))
+    Refusals: raises Refused with the first of questions 1 to 14 that says no; question 3 never does, for the list is made as long as it must be.
+    Raises TypeError where the record is not bytes or memory of single bytes.
+    Ownership: the record is copied in and not changed or kept; the list is a new one, the caller's.
+    Threads: any number may call at once, with the same record too."""
+    return _filled(_library.doonamurk_run, record, result_count)
 
 
 def read(record):
-    """The fields of a record (bytes) in its order, k first, increments signed.
+    """The fields of a record in its order, k first, increments signed: a list of whole numbers.
 
-    Raises Refused with the first of questions 1, 2, 4 and 5 that says no."""
-    return _filled(_library.doonamurk_read, record, field_count(_k_of(record)))
+    Refusals: raises Refused with the first of questions 1, 2, 4 and 5 that says no; question 3 never does, for the list is made as long as it must be.
+    Raises TypeError where the record is not bytes or memory of single bytes.
+    Ownership: the record is copied in and not changed or kept; the list is a new one, the caller's.
+    Threads: any number may call at once, with the same record too."""
+    return _filled(_library.doonamurk_read, record, field_count)
 
 
 def _numbers(kind, values):
@@ -134,7 +153,9 @@ def write(k, exposures, increments, indices, reporting, weight, ulae):
     """The record (bytes) of the given fields: k, k + 1 exposures, the paid increments row by row, k future indices, k + 1 reporting shares, the
     reporting weight and k + 1 ULAE totals.
 
-    Raises Refused with the first of questions 1, 2, 4 and 5 that says no, and OverflowError for a number that 64 bits cannot hold."""
+    Refusals: raises Refused with the first of questions 1, 2, 4 and 5 that says no, and OverflowError for a number that 64 bits cannot hold.
+    Ownership: the numbers are copied in and no list is changed or kept; the record is new bytes, the caller's.
+    Threads: any number may call at once, with the same lists too as long as none of them is changed meanwhile."""
     natural = ctypes.c_uint64
     _numbers(natural, [k, weight])
     # A k past 15 is refused under question 1 whatever the buffer, so it need not be large.

@@ -3,6 +3,10 @@
     python3 -m unittest discover bindings/python
 """
 
+import array
+import ctypes
+import os
+import subprocess
 import sys
 import threading
 import unittest
@@ -74,9 +78,55 @@ class Calls(unittest.TestCase):
             self.refused(number, doonamurk.run, bad)
             self.refused(number, doonamurk.read, bad)
 
+    def test_a_refusal_leaves_the_lent_buffer(self):
+        """The functions of the library themselves, on buffers that hold a pattern: run and read on a list, write on bytes."""
+        pattern = [-1000 - n for n in range(doonamurk.RESULTS_MAX)]
+        record = doonamurk.write(**MOTOR)
+        zero = doonamurk.write(**{**TWO_YEARS, "increments": [60, 40, 0]})
+        library = doonamurk._library
+        run, read = library.doonamurk_run, library.doonamurk_read
+        full = doonamurk.RESULTS_MAX
+        for number, call, bad, room in (
+            (1, run, b"", full), (1, read, b"", full),
+            (2, run, record[:-1], full), (2, read, record[:-1], full),
+            (3, run, record, doonamurk.result_count(3) - 1), (3, read, record, doonamurk.field_count(3) - 1),
+            (4, run, b"\x30\0\0" + record[3:], full), (4, read, b"\x30\0\0" + record[3:], full),
+            (8, run, zero, full),
+        ):
+            lent = (ctypes.c_int64 * full)(*pattern)
+            packed = (ctypes.c_uint8 * len(bad)).from_buffer_copy(bad)
+            self.assertEqual(call(packed, len(bad), lent, room), number)
+            self.assertEqual(list(lent), pattern)
+        natural = ctypes.c_uint64
+        for number, k, exposure, length in ((1, 16, 1, 38), (2, 1, 1, 37), (4, 1, 0, 38)):
+            lent = (ctypes.c_uint8 * 38)(*range(38))
+            n, c = (natural * 2)(exposure, 1), (ctypes.c_int64 * 3)(60, 40, 66)
+            e, b, u = (natural * 1)(1100000), (natural * 2)(800000, 200000), (natural * 2)(6, 10)
+            self.assertEqual(library.doonamurk_write(k, n, 2, c, 3, e, 1, b, 2, 500000, u, 2, lent, length), number)
+            self.assertEqual(bytes(lent), bytes(range(38)))
+
+    def test_what_a_record_may_be(self):
+        record = doonamurk.write(**MOTOR)
+        results = doonamurk.run(record)
+        for same in (bytearray(record), memoryview(record), array.array("B", record), (ctypes.c_uint8 * len(record)).from_buffer_copy(record)):
+            self.assertEqual(doonamurk.run(same), results)
+            self.assertEqual(bytes(same), record)
+        for other in (list(record), "30", None, array.array("H", [0x30] * 60), 48):
+            for call in doonamurk.run, doonamurk.read:
+                with self.assertRaises(TypeError):
+                    call(other)
+
+    def test_library_named_by_the_environment(self):
+        """A path without a folder is a file of the working folder, not of the system's folders."""
+        here = Path(doonamurk._library._name)
+        found = {**os.environ, "DOONAMURK_LIBRARY": here.name, "PYTHONPATH": str(Path(__file__).resolve().parent)}
+        shown = subprocess.run([sys.executable, "-c", "import doonamurk; print(doonamurk._library._name)"], cwd=here.parent, env=found,
+                               stdout=subprocess.PIPE, check=True, universal_newlines=True)
+        self.assertEqual(shown.stdout.strip(), str(here))
+
     def test_marked_refusals(self):
         for number, change in ((8, dict(increments=[60, 40, 0])), (13, dict(increments=[0, 40, 66])), (12, dict(ulae=[6, 161]))):
-            self.refused(number, doonamurk.run, doonamurk.write(**(TWO_YEARS | change)))
+            self.refused(number, doonamurk.run, doonamurk.write(**{**TWO_YEARS, **change}))
 
     def test_refused_writes(self):
         for number, change in (
@@ -90,16 +140,16 @@ class Calls(unittest.TestCase):
             (4, dict(increments=[-(2**63)] + MOTOR["increments"][1:])),
             (5, dict(reporting=[700000, 200000, 80000, 20001])),
         ):
-            self.refused(number, doonamurk.write, **(MOTOR | change))
+            self.refused(number, doonamurk.write, **{**MOTOR, **change})
 
     def test_numbers_past_64_bits_are_not_cut(self):
         for change in (dict(k=2**64 + 3), dict(k=-1), dict(weight=2**64), dict(exposures=[2**64 + 1, 1, 1, 1]), dict(ulae=[-1, 0, 0, 0])):
             with self.assertRaises(OverflowError):
-                doonamurk.write(**(MOTOR | change))
+                doonamurk.write(**{**MOTOR, **change})
 
     def test_refusal_says_its_question(self):
         self.assertEqual(str(self.refused(1, doonamurk.run, b"")), "refused 1: Is there a first byte, and is k at least 1?")
-        self.assertEqual(str(self.refused(1, doonamurk.write, **(MOTOR | dict(k=0)))), "refused 1: Is k from 1 to 15?")
+        self.assertEqual(str(self.refused(1, doonamurk.write, **{**MOTOR, "k": 0})), "refused 1: Is k from 1 to 15?")
 
     def test_threads(self):
         records = [doonamurk.write(**MOTOR), doonamurk.write(**TWO_YEARS)]

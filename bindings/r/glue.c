@@ -1,7 +1,9 @@
 /* What R's .C can call: R has no 64-bit whole numbers and passes everything by reference, so results go out as doubles and counts as ints.
  *
  * Every result is far below 2^53 (the largest, a total of provisions, is below 2^44), so a double holds it exactly; fits() checks it all the same,
- * and the answer is then -1. A refused call leaves R's vectors as they were. */
+ * and the answer is then -1. A refused call leaves R's vectors as they were.
+ *
+ * Threads: nothing here is shared or kept between calls, so any number could call at once; R itself calls from one thread only. R owns every vector. */
 #include "../c/doonamurk.h"
 
 static int fits(const int64_t *list, size_t n)
@@ -22,7 +24,8 @@ static int hand_out(const int64_t *list, double *out, size_t n)
     return 0;
 }
 
-/* The result list of a record. results has *results_len doubles, as many as are to be filled at most. */
+/* The result list of a record. results has *results_len doubles, as many as are to be filled at most. *answer is 0, or 1 to 14, the first question that
+ * says no, or -1; results is filled only where it is 0. */
 void doonamurk_r_run(const unsigned char *record, const int *record_len, double *results, const int *results_len, int *answer)
 {
     int64_t list[DOONAMURK_RESULTS_MAX];
@@ -32,7 +35,7 @@ void doonamurk_r_run(const unsigned char *record, const int *record_len, double 
         *answer = hand_out(list, results, doonamurk_result_count(record[0] >> 4));
 }
 
-/* The fields of a record, k first. */
+/* The fields of a record, k first, in the same way; *answer is 0, or 1 to 5, or -1. */
 void doonamurk_r_read(const unsigned char *record, const int *record_len, double *fields, const int *fields_len, int *answer)
 {
     int64_t list[DOONAMURK_FIELDS_MAX];

@@ -7,7 +7,7 @@
 source("bindings/r/doonamurk.R")
 doonamurk_load("target/lib/doonamurk_r.so")
 
-record <- function(file) readBin(file, "raw", 1000)
+record <- function(file) readBin(file, "raw", file.size(file))
 refused <- function(call) tryCatch({ call; 0 }, doonamurk_refused = function(refusal) refusal$number)
 
 motor <- record("examples/motor_account.rec")
@@ -49,3 +49,19 @@ stopifnot(
 )
 words <- tryCatch(doonamurk_run(raw(0)), doonamurk_refused = conditionMessage)
 stopifnot(words == "refused 1: Is there a first byte, and is k at least 1?")
+
+# A refusal leaves the lent vector: the functions of the glue themselves, on a vector that holds a pattern.
+left <- function(name, bytes, bytes_len, room, number) {
+  pattern <- -1000.5 - seq_len(489)
+  out <- .C(name, bytes, as.integer(bytes_len), lent = pattern, as.integer(room), answer = 0L)
+  out$answer == number && identical(out$lent, pattern)
+}
+stopifnot(
+  left("doonamurk_r_run", as.raw(0), 0, 489, 1),
+  left("doonamurk_r_run", motor, length(motor) - 1, 489, 2),
+  left("doonamurk_r_run", motor, length(motor), 50, 3),
+  left("doonamurk_r_run", no_claims, length(no_claims), 489, 4),
+  left("doonamurk_r_read", motor, length(motor) - 1, 489, 2),
+  left("doonamurk_r_read", motor, length(motor), 26, 3),
+  left("doonamurk_r_read", no_claims, length(no_claims), 489, 4)
+)

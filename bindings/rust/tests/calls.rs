@@ -1,4 +1,4 @@
-//! Taylor's motor account, document 01's two years, refusals, and the way from fields to a record and back.
+//! Taylor's motor account, document 01's two years, refusals, threads, and the way from fields to a record and back.
 
 use doonamurk::{
     cells, field_count, read, read_to_vec, record_bytes, result_count, run, run_to_vec, write,
@@ -212,4 +212,23 @@ fn fields_come_back_from_their_record() {
         ulae: &natural(23, 4),
     });
     assert_eq!(back, Ok(record));
+}
+
+#[test]
+fn threads_run_at_once_and_agree() {
+    let records = [motor(), write_to_vec(&TWO_YEARS).expect("written")];
+    let expected: Vec<Vec<i64>> = records
+        .iter()
+        .map(|record| run_to_vec(record).expect("accepted"))
+        .collect();
+    std::thread::scope(|scope| {
+        for n in 0..4 {
+            let (record, expected) = (&records[n % 2], &expected[n % 2]);
+            scope.spawn(move || {
+                for _ in 0..2000 {
+                    assert_eq!(run_to_vec(record).as_ref(), Ok(expected));
+                }
+            });
+        }
+    });
 }

@@ -1,7 +1,7 @@
 // The chain ladder: development factors, and the cumulatives completed by them, under questions 13 and 14.
 ghost use mathlib.Core.Path.{_≡_};
 ghost use mathlib.Core.Bool.{true};
-ghost use Prim.Native.Nat.{ℕ, suc, _+_, _≤_, _<_};
+ghost use Prim.Native.Nat.{ℕ, suc, _+_, _-_, _≤_, _<_};
 ghost use lib.Dec.{leb};
 ghost use lib.ListN.{getD};
 ghost use lib.Seq.{sets};
@@ -25,36 +25,45 @@ pub struct Completed {
     pub cumulatives: [u64; 120],
 }
 
-// The sum of column j of the cumulatives over the first rows.
-fn column_sum(k: usize, cumulatives: &[u64; 136], j: usize, rows: usize) -> u64
-    requires { ⌜ (k < 16) × ((rows + j ≤ k + 1) × ((i : ℕ) → getD (now cumulatives) i 0 ≤ 100000000000)) ⌝ }
-    ensures { λ r. ⌜ (r ≡ columnSum k (now (cumulatives .entry)) j rows) × (r ≤ 1600000000000) ⌝ }
-{
-    let mut sum: u64 = 0;
-    let mut at: usize = 0;
-    for i in 0..rows {
-        sum += cumulatives[at + j];
-        at += k + 1 - i;
-    }
-    sum
+// The sum of a column over some rows, and over all of them but the last.
+pub struct Sums {
+    pub all: u64,
+    pub shorter: u64,
 }
 
-// The development factors, as far as question 13 says yes.
+// The sums of column j of the cumulatives over the first rows.
+fn column_sums(k: usize, cumulatives: &[u64; 136], j: usize, rows: usize) -> Sums
+    requires { ⌜ (k < 16) × ((rows + j ≤ k + 1) × ((i : ℕ) → getD (now cumulatives) i 0 ≤ 100000000000)) ⌝ }
+    ensures { λ r. ⌜ (r .all ≡ columnSum k (now (cumulatives .entry)) j rows)
+        × ((r .all ≤ 1600000000000) × (r .shorter ≡ columnSum k (now (cumulatives .entry)) j (rows - 1))) ⌝ }
+{
+    let mut all: u64 = 0;
+    let mut shorter: u64 = 0;
+    let mut at: usize = 0;
+    for i in 0..rows {
+        shorter = all;
+        all += cumulatives[at + j];
+        at += k + 1 - i;
+    }
+    Sums { all, shorter }
+}
+
+// The development factors, as far as question 13 says yes. The rows of a year's base are those of the year before but the last.
 pub fn development_factors(k: usize, cumulatives: &[u64; 136]) -> Ladder
     requires { ⌜ (k < 16) × ((i : ℕ) → getD (now cumulatives) i 0 ≤ 100000000000) ⌝ }
     ensures { λ r. ⌜ (r .pass ≡ ladderPass k (now (cumulatives .entry))) × (r .pass ≡ true → r .factors ≡ ladderFactors k (now (cumulatives .entry))) ⌝ }
 {
     let mut factors = [0u64; 16];
+    let mut base = column_sums(k, cumulatives, 0, k).all;
     for h in 0..k {
-        let rows = k - h;
-        let base = column_sum(k, cumulatives, h, rows);
         if base < 1 {
             return Ladder {
                 pass: false,
                 factors,
             };
         }
-        let factor = 1_000_000 * column_sum(k, cumulatives, h + 1, rows) / base;
+        let next = column_sums(k, cumulatives, h + 1, k - h);
+        let factor = 1_000_000 * next.all / base;
         if factor > MOST_FACTOR {
             return Ladder {
                 pass: false,
@@ -62,6 +71,7 @@ pub fn development_factors(k: usize, cumulatives: &[u64; 136]) -> Ladder
             };
         }
         factors[h] = factor;
+        base = next.shorter;
     }
     Ladder {
         pass: true,

@@ -1,12 +1,12 @@
 // Packs the figures on standard input, a text of labelled lines, into a record on standard output; what is wrong with them goes to standard error.
 use libc::STDERR_FILENO;
-use libc::STDOUT_FILENO;
 use printing::put_first;
+use printing::put_output;
 use sheet_packing::pack_text;
 
 // The first n bytes on standard output.
 fn put_record(packed: &[u8; 790], n: usize) {
-    put_first(STDOUT_FILENO, packed, n);
+    put_output(packed, n);
 }
 
 fn main() {

@@ -20,20 +20,27 @@ fn wide(x: u8) -> u64
     x as u64
 }
 
-// The four bytes from place i on as one number. The sum is of this shape so that it compiles to one load.
-fn half(s: &[u8], i: usize) -> u64
-    requires { ⌜ i + 4 ≤ length (now s) ⌝ }
-    ensures { λ r. ⌜ (r ≡ fieldAt (now (s .entry)) (8 * i) 32) × (r < 2 ^ 32) ⌝ }
+// x, the n bytes from place i on as one number, with the next byte after them.
+fn followed(s: &[u8], i: usize, n: usize, x: u64) -> u64
+    requires { ⌜ (i + n < length (now s)) × ((n < 8) × (x ≡ fieldAt (now s) (8 * i) (8 * n))) ⌝ }
+    ensures { λ r. ⌜ r ≡ fieldAt (now (s .entry)) (8 * i) (8 * n + 8) ⌝ }
 {
-    ((wide(s[i]) << 24) + (wide(s[i + 1]) << 16)) + ((wide(s[i + 2]) << 8) + wide(s[i + 3]))
+    (x << 8) + wide(s[i + n])
 }
 
-// The eight bytes from place i on as one number.
+// The eight bytes from place i on as one number. Byte after byte, it compiles to one load.
 fn word(s: &[u8], i: usize) -> u64
     requires { ⌜ i + 8 ≤ length (now s) ⌝ }
     ensures { λ r. ⌜ r ≡ fieldAt (now (s .entry)) (8 * i) 64 ⌝ }
 {
-    (half(s, i) << 32) + half(s, i + 4)
+    let a = followed(s, i, 0, 0);
+    let b = followed(s, i, 1, a);
+    let c = followed(s, i, 2, b);
+    let d = followed(s, i, 3, c);
+    let e = followed(s, i, 4, d);
+    let f = followed(s, i, 5, e);
+    let g = followed(s, i, 6, f);
+    followed(s, i, 7, g)
 }
 
 fn least(a: usize, b: usize) -> usize

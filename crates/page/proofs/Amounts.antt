@@ -10,7 +10,7 @@ use mir.Val.{SFits}
 use Rattle.rules.specs.Lists.{total}
 use Rattle.laws.proofs.Lists.{total-most}
 use Rattle.laws.proofs.Signed.{size-fits, sum-size}
-use Rattle.page.specs.Places.{Paid}
+use Rattle.page.specs.Places.{Addable}
 
 turned-size : (n : ℕ) → natAbs (negℤ (pos n)) ≡ n
 turned-size zero = refl
@@ -21,5 +21,5 @@ pub less-fits : (x y : ℕ) → x ≤ 20000000000000 → y ≤ 20000000000000 �
 less-fits x y h k = size-fits (pos x -ℤ pos y) (omega (arith, sum-size (pos x) (negℤ (pos y)), turned-size y))
 
 -- sixteen amounts add up to at most 16 × 10^12
-pub sum-most : (xs : List ℕ) → Paid xs → total (take 16 xs) ≤ 20000000000000
+pub sum-most : (xs : List ℕ) → Addable xs → total (take 16 xs) ≤ 20000000000000
 sum-most xs h = omega (arith, total-most 1000000000000 xs h 16)

@@ -84,7 +84,7 @@ developmentTable k list =
     ascii "\nChain ladder: development factors, from each development year to the next\n  year        factor\n"
     ++ joined (upTo (developmentLine list (placeOf k 11)) k)
 
--- Amounts by origin year.
+-- Amounts by origin year. No entry after the averages is below zero (the third demand), so the size of one is the entry itself.
 
 -- an amount of the list, one that is paid or its sum with one of the list, and the difference of two
 abbrev pub whole : ℤ → List ℕ

@@ -22,5 +22,5 @@ startsOf k = record {
 }
 
 -- amounts that a table adds: none is above 10^12
-abbrev pub Paid : List ℕ → Type 0
-Paid xs = (i : ℕ) → getD xs i 0 ≤ 1000000000000
+abbrev pub Addable : List ℕ → Type 0
+Addable xs = (i : ℕ) → getD xs i 0 ≤ 1000000000000

@@ -20,7 +20,7 @@ ghost use Rattle.rules.specs.Results.{joined, placeOf};
 ghost use Rattle.rules.specs.Demand.{futureStart};
 ghost use Rattle.composing.specs.Text.{ascii, decimal, fixed, spaces, Put};
 ghost use Rattle.page.specs.Page.{year, cell, whole, natural, lineEnd, yearsLine, cellsFrom, pastLine, futureLine, averagesTable, futureTable, paymentsTable, completedTable, factorLine, aheadLine, factorsTable, developmentLine, developmentTable, ladderAmounts, amountsLine, totalsLine, amountsTable, ratioLine, pageOf};
-ghost use Rattle.page.specs.Places.{startsOf, Paid};
+ghost use Rattle.page.specs.Places.{startsOf, Addable};
 
 // Where the sections of the result list after the averages start.
 pub struct Starts {
@@ -365,7 +365,7 @@ fn put_amounts_lines(
     r: usize,
     n: usize,
 ) -> usize
-    requires { ⌜ (n ≤ 16) × ((p + n ≤ 489) × ((q + n ≤ 489) × ((r + n ≤ 489) × (Paid (now paid) × Paid (now ladder))))) ⌝ }
+    requires { ⌜ (n ≤ 16) × ((p + n ≤ 489) × ((q + n ≤ 489) × ((r + n ≤ 489) × (Addable (now paid) × Addable (now ladder))))) ⌝ }
     ensures { λ x. ⌜ Put (now (out .entry)) (now (out .exit)) at x
         (joined (upTo (amountsLine (now (list .entry)) (now (paid .entry)) (now (ladder .entry)) p q r) n)) ⌝ }
 {
@@ -417,7 +417,7 @@ fn put_totals(
     p: usize,
     r: usize,
 ) -> usize
-    requires { ⌜ (p < 489) × ((r < 489) × (Paid (now paid) × Paid (now ladder))) ⌝ }
+    requires { ⌜ (p < 489) × ((r < 489) × (Addable (now paid) × Addable (now ladder))) ⌝ }
     ensures { λ x. ⌜ Put (now (out .entry)) (now (out .exit)) at x
         (totalsLine (now (list .entry)) (total (now (paid .entry))) (total (now (ladder .entry))) p r) ⌝ }
 {
@@ -436,7 +436,7 @@ fn put_amounts(
     k: usize,
     places: Starts,
 ) -> usize
-    requires { ⌜ (k < 16) × ((places ≡ startsOf k) × (Paid (now paid) × Paid (now ladder))) ⌝ }
+    requires { ⌜ (k < 16) × ((places ≡ startsOf k) × (Addable (now paid) × Addable (now ladder))) ⌝ }
     ensures { λ r. ⌜ Put (now (out .entry)) (now (out .exit)) at r (amountsTable k (now (list .entry)) (now (paid .entry)) (now (ladder .entry))) ⌝ }
 {
     let a = put_bytes(
@@ -513,7 +513,7 @@ pub fn put_page(
     ladder: &[u64; 16],
     k: usize,
 ) -> usize
-    requires { ⌜ (k < 16) × (Paid (now paid) × Paid (now ladder)) ⌝ }
+    requires { ⌜ (k < 16) × (Addable (now paid) × Addable (now ladder)) ⌝ }
     ensures { λ r. ⌜ Put (now (out .entry)) (now (out .exit)) at r (pageOf k (now (list .entry)) (now (paid .entry)) (now (ladder .entry))) ⌝ }
 {
     let places = starts_of(k);

@@ -1,6 +1,7 @@
 // Numbers and lists on standard output. What arrives there is outside the contracts: the kit says nothing of what a write leaves behind, so the
 // routines promise only that they are safe and end, and the gate compares what each program writes with its stored output.
 use entries::size_of;
+use libc::STDERR_FILENO;
 use libc::STDOUT_FILENO;
 ghost use Prim.Native.Nat.{_≤_};
 ghost use lib.ListN.{length};
@@ -65,5 +66,12 @@ pub fn put_first(fd: i32, text: &[u8], n: usize) -> bool {
         io::write_all(fd, &text[..n])
     } else {
         io::write_all(fd, text)
+    }
+}
+
+// Writes the first n bytes of a text to standard output, and says so on standard error where they cannot be written.
+pub fn put_output(text: &[u8], n: usize) {
+    if !put_first(STDOUT_FILENO, text, n) {
+        io::write_all(STDERR_FILENO, b"the output could not be written\n");
     }
 }

@@ -1,6 +1,5 @@
 // Writes the report of the record on standard input: a page of tables, or the question that said no in words.
-use libc::STDOUT_FILENO;
-use printing::put_first;
+use printing::put_output;
 use reports::report;
 
 fn main() {
@@ -8,5 +7,5 @@ fn main() {
     let n = io::read_full(0, &mut record);
     let mut page = io::large_buffer();
     let end = report(&record[..n], &mut page);
-    put_first(STDOUT_FILENO, &page, end);
+    put_output(&page, end);
 }

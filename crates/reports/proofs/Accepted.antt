@@ -4,7 +4,7 @@ use native.Mathlib.Numerals.{add-one}
 use native.Mathlib.Omega.{arith}
 use borrow.Author.Tests.{leb-true, ne-eqb}
 use mathlib.Core.Path.{_≡_, refl, sym, ap, _∙_}
-use mathlib.Core.Bool.{true, false}
+use mathlib.Core.Bool.{Bool, true, false, cond}
 use mathlib.Core.List.{List, [], _++_, map}
 use lib.Dec.{eqb}
 use lib.IntN.{ℤ, pos, natAbs}
@@ -40,9 +40,10 @@ use Rattle.results.proofs.Small.{small-list, small-completed}
 use Rattle.results.proofs.Finished.{cumulative-at}
 use Rattle.results.proofs.Settled.{cumulatives-most}
 use Rattle.page.specs.Page.{ladderUltimate, pageOf}
-use Rattle.page.specs.Places.{Paid}
+use Rattle.page.specs.Places.{Addable}
 use Rattle.page.proofs.Sections.{known, start-least}
-use Rattle.reports.specs.Report.{filledBy, reportOf}
+use Rattle.web_page.specs.Web.{webPageOf}
+use Rattle.reports.specs.Report.{filledBy, webRefusal, reportOf, htmlReportOf, reportIn}
 
 -- the ultimates without provisions are what is paid
 pub paid-is : (f : Figures) → ultimatesOf (f .k) (cumulativesOf (f .k) (f .increments)) (replicate 16 0) ≡ padded 16 0 (upTo (paidTo f) (f .k + 1))
@@ -52,7 +53,7 @@ paid-is f =
     (upTo-ext _ (paidTo f) (f .k + 1)
     (λ i h. omega (arith, cumulative-at f i (f .k - i) (omega arith), same-all (λ (x : ℕ). x ≤ 0) 0 0 (omega arith) (omega arith) 16 i)))
 
-pub paid-small : (f : Figures) → cumulativesPass (f .k) (f .increments) ≡ true → Paid (padded 16 0 (upTo (paidTo f) (f .k + 1)))
+pub paid-small : (f : Figures) → cumulativesPass (f .k) (f .increments) ≡ true → Addable (padded 16 0 (upTo (paidTo f) (f .k + 1)))
 unfolding paidTo givenCumulative
 paid-small f q =
     small-list 16 (f .k + 1) (paidTo f)
@@ -128,7 +129,7 @@ module _ (s : List ℕ) (ok : runAnswer s 489 ≡ 0) where
   filled = rw ok (sets-eq (resultsOf (figuresOf s)) (replicate 489 (pos 0)) 0 (omega (arith, room, results-length (figuresOf s))))
 
   -- the chain ladder's ultimates are small
-  ladder-at : Fit 8 s → (paid : List ℕ) → Paid paid → (i : ℕ) → i < figuresOf s .k + 1
+  ladder-at : Fit 8 s → (paid : List ℕ) → Addable paid → (i : ℕ) → i < figuresOf s .k + 1
       → ladderUltimate (figuresOf s .k) (filledBy s) paid i ≤ 1000000000000
   unfolding ladderUltimate
   ladder-at h paid small zero l = small 0
@@ -138,25 +139,26 @@ module _ (s : List ℕ) (ok : runAnswer s 489 ≡ 0) where
       let inside : futureStart (suc i) + i < futureStart (f .k + 1) = omega (arith, start-least (f .k) (suc i) (omega arith)) in
       rw filled (completed-small f rest (sound h .few) completed (futureStart (suc i) + i) inside)
 
-  pub ladder-small : Fit 8 s → (paid : List ℕ) → Paid paid
-      → Paid (padded 16 0 (upTo (ladderUltimate (figuresOf s .k) (filledBy s) paid) (figuresOf s .k + 1)))
+  pub ladder-small : Fit 8 s → (paid : List ℕ) → Addable paid
+      → Addable (padded 16 0 (upTo (ladderUltimate (figuresOf s .k) (filledBy s) paid) (figuresOf s .k + 1)))
   ladder-small h paid small = small-list 16 (figuresOf s .k + 1) (ladderUltimate (figuresOf s .k) (filledBy s) paid) (ladder-at h paid small)
 
-  -- the page of what was read and filled is the report
-  pub page-is : (f : Figures) (list : List ℤ) (paid ladder : List ℕ) → f ≡ figuresOf s → list ≡ filledBy s
+  -- the page of what was read and filled is the report, as HTML and as text
+  pub page-is : (html : Bool) (f : Figures) (list : List ℤ) (paid ladder : List ℕ) → f ≡ figuresOf s → list ≡ filledBy s
       → paid ≡ padded 16 0 (upTo (paidTo f) (f .k + 1)) → ladder ≡ padded 16 0 (upTo (ladderUltimate (f .k) list paid) (f .k + 1))
-      → pageOf (f .k) list paid ladder ≡ reportOf s
-  unfolding reportOf figuresOf
-  page-is f list paid ladder e g h l = rw (l, h, g, e, ok)
+      → cond html (webPageOf (f .k) list paid ladder) (pageOf (f .k) list paid ladder) ≡ reportIn html s
+  unfolding reportIn htmlReportOf reportOf figuresOf
+  page-is html f list paid ladder e g h l = rw (l, h, g, e, ok)
 
 -- what was read are the figures of the record
 pub figures-are : (s : List ℕ) (r : Reading) → r ≡ readingOf s → r .figures ≡ figuresOf s
 unfolding readingOf
 figures-are s r e = ap (λ (x : Reading). x .figures) e
 
--- the words of a refusal are the report
-pub refusal-is : (s : List ℕ) (n : ℕ) → n ≡ runAnswer s 489 → (n ≡ 0 → ⊥) → refusalText n ≡ reportOf s
-unfolding reportOf
-refusal-is s n e h =
+-- the words of a refusal are the report, as HTML and as text
+pub refusal-is : (html : Bool) (s : List ℕ) (n : ℕ) → n ≡ runAnswer s 489 → (n ≡ 0 → ⊥)
+    → cond html (webRefusal n) (refusalText n) ≡ reportIn html s
+unfolding reportIn htmlReportOf reportOf
+refusal-is html s n e h =
     let no : eqb (runAnswer s 489) 0 ≡ false = ne-eqb (runAnswer s 489) 0 (λ z. h (e ∙ z)) in
     rw (no, e)

@@ -1,7 +1,7 @@
--- The report of any record: the page of an accepted run, or the question that said no in words. Assumes nothing.
+-- The report of any record, as text and as HTML: the page of an accepted run, or the question that said no in words. Assumes nothing.
 use Prim.Native.Nat.{ℕ, _+_}
-use mathlib.Core.Bool.{cond}
-use mathlib.Core.List.{List}
+use mathlib.Core.Bool.{Bool, cond}
+use mathlib.Core.List.{List, _++_}
 use lib.Dec.{eqb}
 use lib.IntN.{ℤ, pos}
 use lib.ListN.{replicate}
@@ -11,6 +11,7 @@ use Rattle.rules.specs.Completion.{paidTo}
 use Rattle.rules.specs.Engine.{runAnswer, runInto}
 use Rattle.wording.specs.Wording.{refusalText}
 use Rattle.page.specs.Page.{ladderUltimate, pageOf}
+use Rattle.web_page.specs.Web.{webStart, webText, webPageOf}
 
 -- the list that the engine fills, of 489 entries, enough for every k; and in arrays of sixteen, zero past year k, what is paid and the chain
 -- ladder's ultimates by origin year
@@ -26,3 +27,15 @@ ladderBy s = padded 16 0 (upTo (ladderUltimate (lastYearOf s) (filledBy s) (paid
 -- the report of the record s
 unfoldable pub reportOf : List ℕ → List ℕ
 reportOf s = cond (eqb (runAnswer s 489) 0) (pageOf (lastYearOf s) (filledBy s) (paidBy s) (ladderBy s)) (refusalText (runAnswer s 489))
+
+-- the words of question n's refusal on a page of HTML
+unfoldable pub webRefusal : ℕ → List ℕ
+webRefusal n = webStart ++ webText (refusalText n)
+
+-- the report of the record s as a page of HTML
+unfoldable pub htmlReportOf : List ℕ → List ℕ
+htmlReportOf s = cond (eqb (runAnswer s 489) 0) (webPageOf (lastYearOf s) (filledBy s) (paidBy s) (ladderBy s)) (webRefusal (runAnswer s 489))
+
+-- the report as HTML, or as text
+unfoldable pub reportIn : Bool → List ℕ → List ℕ
+reportIn html s = cond html (htmlReportOf s) (reportOf s)

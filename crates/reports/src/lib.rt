@@ -1,4 +1,4 @@
-// The report of any record: the page of an accepted run, or the question that said no in words.
+// The report of any record, as text or as HTML: the page of an accepted run, or the question that said no in words.
 use completion::ultimates;
 use engine::doonamurk_run;
 use entries::size_of;
@@ -7,11 +7,14 @@ use page::starts_of;
 use reading::read;
 use rules::Figures;
 use triangle::cumulatives;
+use web_page::put_text_end;
+use web_page::put_text_start;
+use web_page::put_web_page;
+use web_page::put_web_start;
 use wording::put_refusal;
 ghost use mathlib.Core.Path.{_≡_};
-ghost use mathlib.Core.Bool.{true};
+ghost use mathlib.Core.Bool.{true, cond};
 ghost use Prim.Native.Nat.{_+_, _<_};
-ghost use lib.ListN.{replicate};
 ghost use Rattle.rules.specs.Lists.{upTo, padded};
 ghost use Rattle.rules.specs.Triangle.{cumulativesPass};
 ghost use Rattle.rules.specs.Completion.{paidTo};
@@ -19,14 +22,16 @@ ghost use Rattle.rules.specs.Results.{placeOf};
 ghost use Rattle.rules.specs.Engine.{runAnswer};
 ghost use Rattle.stages.specs.Stages.{Sound};
 ghost use Rattle.composing.specs.Text.{Put};
-ghost use Rattle.page.specs.Page.{ladderUltimate};
-ghost use Rattle.page.specs.Places.{Paid};
-ghost use Rattle.reports.specs.Report.{filledBy, reportOf};
+ghost use Rattle.wording.specs.Wording.{refusalText};
+ghost use Rattle.page.specs.Page.{ladderUltimate, pageOf};
+ghost use Rattle.page.specs.Places.{Addable};
+ghost use Rattle.web_page.specs.Web.{webPageOf};
+ghost use Rattle.reports.specs.Report.{filledBy, webRefusal, reportOf, htmlReportOf, reportIn};
 
 // What is paid by origin year: the ultimates of years without provisions.
 fn paid_of(f: Figures) -> [u64; 16]
     requires { ⌜ Sound f × (cumulativesPass (f .k) (f .increments) ≡ true) ⌝ }
-    ensures { λ r. ⌜ (r ≡ padded 16 0 (upTo (paidTo f) (f .k + 1))) × Paid r ⌝ }
+    ensures { λ r. ⌜ (r ≡ padded 16 0 (upTo (paidTo f) (f .k + 1))) × Addable r ⌝ }
 {
     let k = f.k;
     let increments = f.increments;
@@ -50,26 +55,80 @@ fn ladder_of(list: &[i64; 489], paid: &[u64; 16], k: usize, p: usize) -> [u64; 1
     all
 }
 
+// The page of the years 0 to k, as HTML or as text.
+fn put_form(
+    out: &mut [u8],
+    list: &[i64; 489],
+    paid: &[u64; 16],
+    ladder: &[u64; 16],
+    k: usize,
+    html: bool,
+) -> usize
+    requires { ⌜ (k < 16) × (Addable (now paid) × Addable (now ladder)) ⌝ }
+    ensures { λ r. ⌜ Put (now (out .entry)) (now (out .exit)) 0 r
+        (cond html (webPageOf k (now (list .entry)) (now (paid .entry)) (now (ladder .entry)))
+        (pageOf k (now (list .entry)) (now (paid .entry)) (now (ladder .entry)))) ⌝ }
+{
+    if html {
+        return put_web_page(out, list, paid, ladder, k);
+    }
+    put_page(out, 0, list, paid, ladder, k)
+}
+
 // The page of an accepted run, from the record and the list that the engine filled.
-fn put_accepted(out: &mut [u8], packed: &[u8], list: &[i64; 489]) -> usize
+fn put_accepted(out: &mut [u8], packed: &[u8], list: &[i64; 489], html: bool) -> usize
     requires { ⌜ (runAnswer (now packed) 489 ≡ 0) × (now list ≡ filledBy (now packed)) ⌝ }
-    ensures { λ r. ⌜ Put (now (out .entry)) (now (out .exit)) 0 r (reportOf (now (packed .entry))) ⌝ }
+    ensures { λ r. ⌜ Put (now (out .entry)) (now (out .exit)) 0 r (reportIn html (now (packed .entry))) ⌝ }
 {
     let f = read(packed).figures;
     let k = f.k;
     let paid = paid_of(f);
     let ladder = ladder_of(list, &paid, k, starts_of(k).completed);
-    put_page(out, 0, list, &paid, &ladder, k)
+    put_form(out, list, &paid, &ladder, k, html)
+}
+
+// The words of question n's refusal on a page of HTML.
+fn put_web_refusal(out: &mut [u8], n: u64) -> usize
+    ensures { λ r. ⌜ Put (now (out .entry)) (now (out .exit)) 0 r (webRefusal n) ⌝ }
+{
+    let a = put_web_start(out, 0);
+    let b = put_text_start(out, a);
+    let c = put_refusal(out, b, n);
+    put_text_end(out, c)
+}
+
+// The words of question n's refusal, as HTML or as text.
+fn put_refused(out: &mut [u8], n: u64, html: bool) -> usize
+    ensures { λ r. ⌜ Put (now (out .entry)) (now (out .exit)) 0 r (cond html (webRefusal n) (refusalText n)) ⌝ }
+{
+    if html {
+        return put_web_refusal(out, n);
+    }
+    put_refusal(out, 0, n)
+}
+
+// The report of a record, as HTML or as text.
+fn put_report(packed: &[u8], out: &mut [u8], html: bool) -> usize
+    ensures { λ r. ⌜ Put (now (out .entry)) (now (out .exit)) 0 r (reportIn html (now (packed .entry))) ⌝ }
+{
+    let mut list = [0i64; 489];
+    let answer = doonamurk_run(packed, &mut list);
+    if answer != 0 {
+        return put_refused(out, answer, html);
+    }
+    put_accepted(out, packed, &list, html)
 }
 
 // Puts the report of a record into the buffer, as far as it goes, and answers where it ends.
 pub fn report(packed: &[u8], out: &mut [u8]) -> usize
     ensures { λ r. ⌜ Put (now (out .entry)) (now (out .exit)) 0 r (reportOf (now (packed .entry))) ⌝ }
 {
-    let mut list = [0i64; 489];
-    let answer = doonamurk_run(packed, &mut list);
-    if answer != 0 {
-        return put_refusal(out, 0, answer);
-    }
-    put_accepted(out, packed, &list)
+    put_report(packed, out, false)
+}
+
+// The same as a page of HTML.
+pub fn report_html(packed: &[u8], out: &mut [u8]) -> usize
+    ensures { λ r. ⌜ Put (now (out .entry)) (now (out .exit)) 0 r (htmlReportOf (now (packed .entry))) ⌝ }
+{
+    put_report(packed, out, true)
 }

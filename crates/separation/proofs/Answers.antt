@@ -9,7 +9,7 @@ use lib.Dec.{leb, ltb}
 use lib.ListN.{getD, take}
 use Rattle.rules.specs.Lists.{every, between}
 use Rattle.rules.specs.Questions.{firstNo, afterCall}
-use Rattle.rules.specs.Separation.{billion, noFactors}
+use Rattle.rules.specs.Separation.{billion}
 use Rattle.rules.specs.declared.Factors.{Factors}
 use Rattle.laws.proofs.Lists.{every-upTo}
 use Rattle.laws.proofs.Padded.{filled-at}
@@ -39,8 +39,8 @@ module _ (v d : List ℕ) (k : ℕ) where
 
   -- the years of the walk are k and below
   pub walk-k : walkFactors v d k .k ≡ k
-  unfolding walkFactors levelWalk noFactors
-  walk-k = k-kept v d (cornersOf v d k) billion _ k
+  unfolding walkFactors levelWalk
+  walk-k = k-kept v d (cornersOf v d k) billion k k
 
   module _ (pass : cornersPass v d k ≡ true) where
     -- T is above its column in every year that is asked

@@ -32,17 +32,18 @@ withShare f h r = record { shares = set (f .shares) h r; levels = f .levels; k =
 abbrev pub withLevel : Factors → ℕ → ℕ → Factors
 withLevel f h l = record { shares = f .shares; levels = set (f .levels) h l; k = f .k }
 
--- the share of year h, and all below: a is the running share of h
-unfoldable pub shareWalk : List ℕ → List ℕ → List ℕ → ℕ → Factors → ℕ → Factors
-shareWalk v d t a f zero = withShare f 0 a
-shareWalk v d t a f (suc h) =
-    shareWalk v d t (runningBelow v t (suc h) a)
-    (withLevel (withShare f (suc h) (a - runningBelow v t (suc h) a)) h (levelAt d h (runningBelow v t (suc h) a)))
-    h
+-- the factors of the years up to h but for the level of h, of which a is the running share: those of the year below, and the share of h
+unfoldable pub shareWalk : List ℕ → List ℕ → List ℕ → ℕ → ℕ → ℕ → Factors
+shareWalk v d t a k zero = withShare (noFactors k) 0 a
+shareWalk v d t a k (suc h) =
+    withShare
+    (withLevel (shareWalk v d t (runningBelow v t (suc h) a) k h) h (levelAt d h (runningBelow v t (suc h) a)))
+    (suc h)
+    (a - runningBelow v t (suc h) a)
 
--- the level of year h, its share, and all below
-unfoldable pub levelWalk : List ℕ → List ℕ → List ℕ → ℕ → Factors → ℕ → Factors
-levelWalk v d t a f h = shareWalk v d t a (withLevel f h (levelAt d h a)) h
+-- the factors of the years up to h: its level beside the share
+unfoldable pub levelWalk : List ℕ → List ℕ → List ℕ → ℕ → ℕ → ℕ → Factors
+levelWalk v d t a k h = withLevel (shareWalk v d t a k h) h (levelAt d h a)
 
 -- what the walk asks of the totals up to year h
 pub record Ready (v d t : List ℕ) (h : ℕ) : Type 0 where
@@ -62,7 +63,7 @@ cornersOf v d k = padded 16 0 (upTo (λ h. cornerDown v d k (k - h)) (k + 1))
 
 -- the factors of the whole walk
 unfoldable pub walkFactors : List ℕ → List ℕ → ℕ → Factors
-walkFactors v d k = levelWalk v d (cornersOf v d k) billion (noFactors k) k
+walkFactors v d k = levelWalk v d (cornersOf v d k) billion k k
 
 -- the answer of the walk: questions 8, 9 and 10, and the factors that it hands back
 unfoldable pub walkAnswer : List ℕ → List ℕ → ℕ → ℕ

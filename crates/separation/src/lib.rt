@@ -16,7 +16,7 @@ ghost use Rattle.rules.specs.Triangle.{sumTo, ZeroOutside};
 ghost use Rattle.rules.specs.Questions.{firstNo};
 ghost use Rattle.rules.specs.Separation.{billion, noFactors, separateAnswer, separated};
 ghost use Rattle.triangle.specs.Bounds.{Cells};
-ghost use Rattle.separation.specs.Walk.{cornersPass, cornersOf, runningBelow, levelAt, withShare, withLevel, shareWalk, levelWalk, Ready, Walkable, walkAnswer, walked};
+ghost use Rattle.separation.specs.Walk.{cornersPass, cornersOf, runningBelow, levelAt, shareWalk, levelWalk, Ready, Walkable, walkAnswer, walked};
 
 // S, one whole in billionths.
 const BILLION: u64 = 1_000_000_000;
@@ -118,26 +118,6 @@ fn corners_of(columns: &[u64; 16], diagonals: &[u64; 16], k: usize) -> Corners
     Corners { pass: true, totals }
 }
 
-// f with the share r in year h.
-fn with_share(f: Factors, h: usize, r: u64) -> Factors
-    requires { ⌜ h < 16 ⌝ }
-    ensures { λ g. ⌜ g ≡ withShare f h r ⌝ }
-{
-    let mut g = f;
-    g.shares[h] = r;
-    g
-}
-
-// f with the level l in year h.
-fn with_level(f: Factors, h: usize, l: u64) -> Factors
-    requires { ⌜ h < 16 ⌝ }
-    ensures { λ g. ⌜ g ≡ withLevel f h l ⌝ }
-{
-    let mut g = f;
-    g.levels[h] = l;
-    g
-}
-
 // The running share of the year below h, from that of h.
 fn running_below(columns: &[u64; 16], corners: &[u64; 16], h: usize, a: u64) -> u64
     requires { ⌜ (getD (now columns) h 0 < getD (now corners) h 0) × ((getD (now corners) h 0 ≤ billion) × ((a ≤ billion) × (h < 16))) ⌝ }
@@ -158,48 +138,6 @@ fn level_of(diagonals: &[u64; 16], h: usize, a: u64) -> u64
     diagonals[h] * BILLION / a
 }
 
-// The share of year h, where a is its running share, and then the year below.
-fn share_step(
-    columns: &[u64; 16],
-    diagonals: &[u64; 16],
-    corners: &[u64; 16],
-    a: u64,
-    f: Factors,
-    h: usize,
-) -> Factors
-    requires { ⌜ Ready (now columns) (now diagonals) (now corners) h × ((a ≤ billion) × (h < 16)) ⌝ }
-    ensures { λ r. ⌜ r ≡ shareWalk (now (columns .entry)) (now (diagonals .entry)) (now (corners .entry)) a f h ⌝ }
-{
-    if h == 0 {
-        return with_share(f, 0, a);
-    }
-    let next = running_below(columns, corners, h, a);
-    level_step(
-        columns,
-        diagonals,
-        corners,
-        next,
-        with_share(f, h, a - next),
-        h - 1,
-    )
-}
-
-// The level of year h, where a is its running share, and then the year's share.
-fn level_step(
-    columns: &[u64; 16],
-    diagonals: &[u64; 16],
-    corners: &[u64; 16],
-    a: u64,
-    f: Factors,
-    h: usize,
-) -> Factors
-    requires { ⌜ Ready (now columns) (now diagonals) (now corners) h × ((a ≤ billion) × (h < 16)) ⌝ }
-    ensures { λ r. ⌜ r ≡ levelWalk (now (columns .entry)) (now (diagonals .entry)) (now (corners .entry)) a f h ⌝ }
-{
-    let level = level_of(diagonals, h, a);
-    share_step(columns, diagonals, corners, a, with_level(f, h, level), h)
-}
-
 // No factors.
 fn no_factors(k: usize) -> Factors
     ensures { λ r. ⌜ r ≡ noFactors k ⌝ }
@@ -210,6 +148,49 @@ fn no_factors(k: usize) -> Factors
         levels: zeros,
         k,
     }
+}
+
+// The factors of the year below h, and beside them the share of h, of which a is the running share.
+fn share_step(
+    columns: &[u64; 16],
+    diagonals: &[u64; 16],
+    corners: &[u64; 16],
+    a: u64,
+    k: usize,
+    h: usize,
+) -> Factors
+    requires { ⌜ Ready (now columns) (now diagonals) (now corners) h × ((a ≤ billion) × (h < 16)) ⌝ }
+    ensures { λ r. ⌜ r ≡ shareWalk (now (columns .entry)) (now (diagonals .entry)) (now (corners .entry)) a k h ⌝ }
+{
+    let mut f;
+    let mut share = a;
+    if h > 0 {
+        let next = running_below(columns, corners, h, a);
+        f = level_step(columns, diagonals, corners, next, k, h - 1);
+        share = a - next;
+    } else {
+        f = no_factors(k);
+    }
+    f.shares[h] = share;
+    f
+}
+
+// The factors with the share of year h, and beside it the level of h, of which a is the running share.
+fn level_step(
+    columns: &[u64; 16],
+    diagonals: &[u64; 16],
+    corners: &[u64; 16],
+    a: u64,
+    k: usize,
+    h: usize,
+) -> Factors
+    requires { ⌜ Ready (now columns) (now diagonals) (now corners) h × ((a ≤ billion) × (h < 16)) ⌝ }
+    ensures { λ r. ⌜ r ≡ levelWalk (now (columns .entry)) (now (diagonals .entry)) (now (corners .entry)) a k h ⌝ }
+{
+    let level = level_of(diagonals, h, a);
+    let mut f = share_step(columns, diagonals, corners, a, k, h);
+    f.levels[h] = level;
+    f
 }
 
 fn refused(answer: u64, k: usize) -> Separation
@@ -245,7 +226,7 @@ fn walk(columns: &[u64; 16], diagonals: &[u64; 16], k: usize) -> Separation
         return refused(8, k);
     }
     let totals = corners.totals;
-    let f = level_step(columns, diagonals, &totals, BILLION, no_factors(k), k);
+    let f = level_step(columns, diagonals, &totals, BILLION, k, k);
     let answer = factors_answer(f);
     if answer != 0 {
         return refused(answer, k);

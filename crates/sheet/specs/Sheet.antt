@@ -101,7 +101,7 @@ abbrev pub typed : ℕ → ℕ → ℕ → List ℤ → Typed
 typed p n i vs = record { problem = p; line = n; place = i; numbers = vs }
 
 -- the lines of a text held against the lines due, from place i of them on, after the numbers vs: a problem of the line itself, 4 where the text
--- ends (its last line is line `last`) before every line due was there, 5 where it goes on after them
+-- ends (its last line is line `last`, what follows a final line feed counted) before every line due was there, 5 where it goes on after them
 unfoldable pub readLines : ℕ → ℕ → List ℤ → List Due → List Line → Typed
 readLines last i vs [] [] = typed 0 last i vs
 readLines last i vs [] (l ∷ ls) = typed 5 (l .number) i vs

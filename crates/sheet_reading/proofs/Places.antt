@@ -12,7 +12,7 @@ use lib.Seq.{getD-append-add, drop-cons}
 use Rattle.rules.specs.Lists.{upTo}
 use Rattle.laws.proofs.Lists.{length-upTo, getD-upTo}
 use Rattle.sheet.specs.Sheet.{Due, due, duePaid, dueLines}
-use Rattle.sheet_reading.specs.Lines.{labels, rowAt, countAt, dueOf, dueAt}
+use Rattle.sheet_reading.specs.Lines.{labels, rowAt, countAt, dueOf, dueFor}
 
 -- the lines of the increments
 abbrev paid : ℕ → List Due
@@ -38,9 +38,9 @@ later-at k (suc (suc (suc zero))) d h = rw (ne-eqb (k + 3 + 3) (k + 3) (λ e. om
 later-at k (suc (suc (suc (suc m)))) d h = absurd (omega arith)
 
 -- the line at such a place
-dueAt-later : (k place : ℕ) → k + 3 ≤ place → dueAt k place ≡ dueOf (place - k) (laterCount k place)
-unfolding dueAt rowAt countAt
-dueAt-later k place h =
+dueFor-later : (k place : ℕ) → k + 3 ≤ place → dueFor k place ≡ dueOf (place - k) (laterCount k place)
+unfolding dueFor rowAt countAt
+dueFor-later k place h =
     rw (
       le-ltb place 2 (omega arith),
       lt-leb place (k + 2) (omega arith),
@@ -48,9 +48,9 @@ dueAt-later k place h =
       ne-eqb place 1 (λ e. omega arith),
     )
 
-dueAt-paid : (k i : ℕ) → i ≤ k → dueAt k (suc (suc i)) ≡ duePaid (k + 1 - i)
-unfolding dueAt rowAt countAt labels
-dueAt-paid k i h =
+dueFor-paid : (k i : ℕ) → i ≤ k → dueFor k (suc (suc i)) ≡ duePaid (k + 1 - i)
+unfolding dueFor rowAt countAt labels
+dueFor-paid k i h =
     let e : k + 3 - suc (suc i) ≡ k + 1 - i = omega arith in
     rw (
       le-ltb (suc (suc i)) 2 (omega arith),
@@ -61,16 +61,16 @@ dueAt-paid k i h =
     )
 
 -- the line at a place of the table
-pub due-at : (k place : ℕ) (d : Due) → place < k + 7 → getD (dueLines k) place d ≡ dueAt k place
-unfolding dueLines dueAt rowAt countAt labels
+pub due-at : (k place : ℕ) (d : Due) → place < k + 7 → getD (dueLines k) place d ≡ dueFor k place
+unfolding dueLines dueFor rowAt countAt labels
 due-at k zero d h = refl
 due-at k (suc zero) d h = refl
 due-at k (suc (suc i)) d h = go (decLt i (k + 1))
   where
-    go : Dec (i < k + 1) → getD (paid k ++ later k) i d ≡ dueAt k (suc (suc i))
+    go : Dec (i < k + 1) → getD (paid k ++ later k) i d ≡ dueFor k (suc (suc i))
     go (yes l) =
         List·getD-append (paid k) (later k) d i (rw (paid-count k) l)
-        ∙ (getD-upTo (λ i. duePaid (k + 1 - i)) (k + 1) i d l ∙ sym (dueAt-paid k i (omega arith)))
+        ∙ (getD-upTo (λ i. duePaid (k + 1 - i)) (k + 1) i d l ∙ sym (dueFor-paid k i (omega arith)))
     go (no l) =
         let m = i - (k + 1) in
         let n = paid-count k in
@@ -79,7 +79,7 @@ due-at k (suc (suc i)) d h = go (decLt i (k + 1))
         let q : 3 + m ≡ suc (suc i) - k = omega arith in
         ap (λ (j : ℕ). getD (paid k ++ later k) j d) e
         ∙ (getD-append-add (paid k) (later k) m d
-        ∙ (later-at k m d (omega arith) ∙ (ap₂ (λ (a b : ℕ). dueOf a (laterCount k b)) q p ∙ sym (dueAt-later k (suc (suc i)) (omega arith)))))
+        ∙ (later-at k m d (omega arith) ∙ (ap₂ (λ (a b : ℕ). dueOf a (laterCount k b)) q p ∙ sym (dueFor-later k (suc (suc i)) (omega arith)))))
 
 -- how many lines are due
 pub due-count : (k : ℕ) → length (dueLines k) ≡ k + 7
@@ -88,6 +88,6 @@ due-count k =
     omega (arith, length-append (paid k) (later k), paid-count k)
 
 -- the lines from a place on
-pub due-from : (k place : ℕ) → place < k + 7 → drop place (dueLines k) ≡ dueAt k place ∷ drop (suc place) (dueLines k)
+pub due-from : (k place : ℕ) → place < k + 7 → drop place (dueLines k) ≡ dueFor k place ∷ drop (suc place) (dueLines k)
 due-from k place h =
-    drop-cons (dueLines k) place (dueAt k place) (omega (arith, due-count k)) ∙ ap (λ (x : Due). x ∷ drop (suc place) (dueLines k)) (due-at k place (dueAt k place) h)
+    drop-cons (dueLines k) place (dueFor k place) (omega (arith, due-count k)) ∙ ap (λ (x : Due). x ∷ drop (suc place) (dueLines k)) (due-at k place (dueFor k place) h)

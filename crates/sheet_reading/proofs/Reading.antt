@@ -22,7 +22,7 @@ use Rattle.scanning.specs.Scan.{pieces, filled, endsLine, lines, words, uncomme
 use Rattle.scanning.specs.Parts.{before, firstLine, afterLine, firstWord, afterWord, wordsIn}
 use Rattle.scanning.proofs.Parts.{after, pieces-first, words-first, words-none, after-none}
 use Rattle.sheet.specs.Sheet.{Due, due, duePaid, Line, Typed, typed, lineProblem, lineWith, linesFrom, readLines, dueLines}
-use Rattle.sheet_reading.specs.Lines.{rowAt, countAt, dueAt, lineAs, problemOf, counted, answerAt, linesIn, foundOf}
+use Rattle.sheet_reading.specs.Lines.{rowAt, countAt, dueFor, lineAs, problemOf, counted, answerAt, linesIn, foundOf}
 use Rattle.sheet_reading.specs.First.{first, firstOf, firstFrom}
 use Rattle.sheet_reading.proofs.Places.{due-count, due-from}
 
@@ -128,8 +128,8 @@ module _ (line : List ℕ) where
     unfolding answerAt
     answer-due h e = rw (ne-eqb (length (firstWord line)) 0 h, ne-eqb place (k + 7) e)
 
-    due-problem : (n : ℕ) → lineProblem (dueAt k place) (lineAs n line) ≡ problemOf (rowAt k place) (countAt k place) line
-    unfolding dueAt problemOf lineProblem
+    due-problem : (n : ℕ) → lineProblem (dueFor k place) (lineAs n line) ≡ problemOf (rowAt k place) (countAt k place) line
+    unfolding dueFor problemOf lineProblem
     due-problem n = refl
 
   -- a line as due has as many numbers as are due
@@ -180,7 +180,7 @@ module _ (k place : ℕ) (line : List ℕ) (h : place ≤ k + 7) (e : answerAt k
       go (no w) = omega (arith, counted-some line w, still-due w)
 
   pub turn-room : roomAt k place ≡ length (wordsIn (afterWord line)) + roomAt k (place + counted line)
-  unfolding total dueAt
+  unfolding total dueFor
   turn-room = go (ℕ-discrete (length (firstWord line)) 0)
     where
       go : Dec (length (firstWord line) ≡ 0) → roomAt k place ≡ length (wordsIn (afterWord line)) + roomAt k (place + counted line)
@@ -203,7 +203,7 @@ module _ (k place : ℕ) (line : List ℕ) (h : place ≤ k + 7) (e : answerAt k
       go (no w) =
           let p : place + 1 ≡ suc place = omega arith in
           rw (counted-some line w, p, turn-words xs line ys f g n (omega arith))
-          (read-due last place (dueAt k place) (drop (suc place) (dueLines k)) (drop place (dueLines k)) (lineAs n line) (linesIn (suc n) ys)
+          (read-due last place (dueFor k place) (drop (suc place) (dueLines k)) (drop place (dueLines k)) (lineAs n line) (linesIn (suc n) ys)
           (due-from k place (still-due w))
           (due-problem line k place n ∙ as-due w))
 
@@ -220,7 +220,7 @@ turn-wrong k place line p h e wrong last n xs ys f g = go (ℕ-discrete (length 
         (read-past last place (drop place (dueLines k)) (lineAs n line) (linesIn (suc n) ys) (due-none k place (omega arith)))
     go (no w) (no d) =
         rw (turn-words xs line ys f g n (omega arith))
-        (read-wrong last place (dueAt k place) (drop (suc place) (dueLines k)) (drop place (dueLines k)) (lineAs n line) (linesIn (suc n) ys) p
+        (read-wrong last place (dueFor k place) (drop (suc place) (dueLines k)) (drop place (dueLines k)) (lineAs n line) (linesIn (suc n) ys) p
         (due-from k place (omega arith))
         (due-problem line k place n ∙ (sym (answer-due line k place w d) ∙ sym e))
         wrong)

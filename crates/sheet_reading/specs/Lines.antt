@@ -31,9 +31,9 @@ countAt k place =
 abbrev pub dueOf : ℕ → ℕ → Due
 dueOf row n = record { label = getD labels row []; count = n; signed = eqb row 2 }
 
--- the line at a place
-unfoldable pub dueAt : ℕ → ℕ → Due
-dueAt k place = dueOf (rowAt k place) (countAt k place)
+-- the line at a place as the code finds it: entry `place` of `dueLines k` (proofs/Places.antt)
+unfoldable pub dueFor : ℕ → ℕ → Due
+dueFor k place = dueOf (rowAt k place) (countAt k place)
 
 -- a line of a text, without its comment, as line n
 abbrev pub lineAs : ℕ → List ℕ → Line

@@ -49,8 +49,8 @@ pub struct Rows {
     pub ulae: [u64; 16],
 }
 
-// What packing a text comes to: what is wrong with the text, in which line, and where which of the lines due was to be; the number that the
-// writer answers; and how many bytes the record takes.
+// What packing a text comes to: what is wrong with the text, in which line, and where which of the lines due was to be; the number of the
+// question that said no; and how many bytes a record of these figures takes. There is a record only where both problem and answer are 0.
 pub struct Packed {
     pub problem: u64,
     pub line: usize,
@@ -276,7 +276,7 @@ fn read_lines(text: &[u8], k: usize, last: usize, list: &mut [i64]) -> Found
     }
 }
 
-// Reads the figures of a text into the list.
+// Reads the figures of a text into the list. Where something is wrong, the list has the numbers of the lines before.
 pub fn read_sheet(text: &[u8], list: &mut [i64; 201]) -> Found
     ensures { λ r. ⌜ (r ≡ foundOf (readSheet (now (text .entry))))
         × (now (list .exit) ≡ sets (now (list .entry)) 0 (readSheet (now (text .entry)) .numbers)) ⌝ }

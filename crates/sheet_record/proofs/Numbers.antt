@@ -36,6 +36,9 @@ digit-plain b h =
       ne-eqb b 13 (λ e. omega (arith, r .0)),
       ne-eqb b 44 (λ e. omega (arith, r .0)),
       ne-eqb b 59 (λ e. omega (arith, r .1)),
+      ne-eqb b 239 (λ e. omega (arith, r .1)),
+      ne-eqb b 187 (λ e. omega (arith, r .1)),
+      ne-eqb b 191 (λ e. omega (arith, r .1)),
       ne-eqb b 35 (λ e. omega (arith, r .0)),
       ne-eqb b 10 (λ e. omega (arith, r .0)),
     )

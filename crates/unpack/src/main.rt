@@ -1,7 +1,7 @@
 // Writes the figures of the record on standard input as a text of labelled lines; a refusal goes to standard error.
 use libc::STDERR_FILENO;
-use libc::STDOUT_FILENO;
 use printing::put_first;
+use printing::put_output;
 use sheet_writing::unpack;
 use wording::put_refusal;
 
@@ -11,7 +11,7 @@ fn main() {
     let mut text = [0u8; 8192];
     let shown = unpack(&packed[..n], &mut text);
     if shown.answer == 0 {
-        put_first(STDOUT_FILENO, &text, shown.end);
+        put_output(&text, shown.end);
         return;
     }
     let mut message = [0u8; 256];

@@ -8,7 +8,7 @@ use Rattle.composing.specs.Text.{ascii, decimal}
 abbrev pub otherText : List ℕ
 otherText = ascii "no question has this number"
 
--- the words of the questions 1 to 14; the first five are put by the reader, the writer and the engine alike
+-- the words of the questions 1 to 14; those of 1 to 5 are true of the reader, the writer and the engine, whichever of them asks
 unfoldable pub questionTexts : List (List ℕ)
 questionTexts =
     otherText
@@ -17,15 +17,15 @@ questionTexts =
     ∷ ascii "the lent list is too short"
     ∷ ascii "a field is out of its range"
     ∷ ascii "the reporting shares do not sum to 1,000,000"
-    ∷ ascii "a given cumulative C is below 0 or above 10^11"
-    ∷ ascii "a column total v_j or a diagonal total d_h is below 0, or the total of averages is above 1,000,000,000"
-    ∷ ascii "T_h - v_h is below 1 for some year h"
-    ∷ ascii "a running share A_h is below 1"
-    ∷ ascii "a level l_h is above 1,000,000,000"
-    ∷ ascii "an ultimate X_i is above 10^12"
-    ∷ ascii "the total of P is below 1, or the total of U is above it"
-    ∷ ascii "a chain-ladder B is below 1, or a factor m_h is above 50,000,000"
-    ∷ ascii "a completed C is above 10^11"
+    ∷ ascii "a given cumulative C_ij is below 0 or above 10^11"
+    ∷ ascii "a column or a diagonal of the averages adds up to less than 0, or all averages to more than 1,000,000,000 hundredths"
+    ∷ ascii "beside some development year h the separation finds nothing left: T_h - v_h is below 1"
+    ∷ ascii "a running share A_h, the shares up to a year together, is below a billionth"
+    ∷ ascii "a level l_h is above 1,000,000,000 hundredths a claim"
+    ∷ ascii "the ultimate X_i of an origin year is above 10^12"
+    ∷ ascii "the payments add up to less than 1, or the ULAE totals to more than the payments"
+    ∷ ascii "the chain ladder has nothing to develop from in some year, or a development factor above 50"
+    ∷ ascii "a cumulative that the chain ladder completes is above 10^11"
     ∷ []
 
 -- what is not so where question n's answer is no

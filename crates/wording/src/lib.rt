@@ -20,11 +20,15 @@ fn put_early(out: &mut [u8], at: usize, n: u64) -> usize
         3 => put_bytes(out, at, b"the lent list is too short"),
         4 => put_bytes(out, at, b"a field is out of its range"),
         5 => put_bytes(out, at, b"the reporting shares do not sum to 1,000,000"),
-        6 => put_bytes(out, at, b"a given cumulative C is below 0 or above 10^11"),
+        6 => put_bytes(
+            out,
+            at,
+            b"a given cumulative C_ij is below 0 or above 10^11",
+        ),
         7 => put_bytes(
             out,
             at,
-            b"a column total v_j or a diagonal total d_h is below 0, or the total of averages is above 1,000,000,000",
+            b"a column or a diagonal of the averages adds up to less than 0, or all averages to more than 1,000,000,000 hundredths",
         ),
         _ => put_bytes(out, at, b"no question has this number"),
     }
@@ -36,21 +40,41 @@ fn put_late(out: &mut [u8], at: usize, n: u64) -> usize
     ensures { λ r. ⌜ Put (now (out .entry)) (now (out .exit)) at r (questionText n) ⌝ }
 {
     match n {
-        8 => put_bytes(out, at, b"T_h - v_h is below 1 for some year h"),
-        9 => put_bytes(out, at, b"a running share A_h is below 1"),
-        10 => put_bytes(out, at, b"a level l_h is above 1,000,000,000"),
-        11 => put_bytes(out, at, b"an ultimate X_i is above 10^12"),
+        8 => put_bytes(
+            out,
+            at,
+            b"beside some development year h the separation finds nothing left: T_h - v_h is below 1",
+        ),
+        9 => put_bytes(
+            out,
+            at,
+            b"a running share A_h, the shares up to a year together, is below a billionth",
+        ),
+        10 => put_bytes(
+            out,
+            at,
+            b"a level l_h is above 1,000,000,000 hundredths a claim",
+        ),
+        11 => put_bytes(
+            out,
+            at,
+            b"the ultimate X_i of an origin year is above 10^12",
+        ),
         12 => put_bytes(
             out,
             at,
-            b"the total of P is below 1, or the total of U is above it",
+            b"the payments add up to less than 1, or the ULAE totals to more than the payments",
         ),
         13 => put_bytes(
             out,
             at,
-            b"a chain-ladder B is below 1, or a factor m_h is above 50,000,000",
+            b"the chain ladder has nothing to develop from in some year, or a development factor above 50",
         ),
-        14 => put_bytes(out, at, b"a completed C is above 10^11"),
+        14 => put_bytes(
+            out,
+            at,
+            b"a cumulative that the chain ladder completes is above 10^11",
+        ),
         _ => put_bytes(out, at, b"no question has this number"),
     }
 }

@@ -3,7 +3,8 @@
 //!     differential [--seconds N] [--seed S] [--cases N]
 //!     differential --records N FOLDER     writes N accepted records into the folder, one a file
 //!
-//! Each case compares the answer and every entry of the lent buffer, those past the list too. A difference is printed and ends with status 1.
+//! Each case compares the answer and every entry of the lent buffer, those past the list too. What is lent is the middle of a larger array, and what
+//! stands on both sides of it must stay. A difference is printed and ends with status 1.
 
 use differential::paper::{self, Given};
 use differential::random::Random;
@@ -16,6 +17,10 @@ use std::time::{Duration, Instant};
 
 const SEED: u64 = 1977;
 const CASES: u64 = 400_000;
+/// From so many cases on, every answer must have been reached.
+const FAIR: u64 = 20_000;
+/// The entries on each side of what is lent.
+const GUARD: usize = 16;
 
 /// How often each question said no (at 0: how often all said yes), by call.
 #[derive(Default)]
@@ -90,6 +95,45 @@ fn given(list: &[i64]) -> Given {
     }
 }
 
+/// A buffer to lend: the middle of an array in which every entry holds a pattern, with guard entries on both sides.
+struct Lent<T> {
+    all: Vec<T>,
+    start: Vec<T>,
+}
+
+impl<T: Copy + PartialEq> Lent<T> {
+    fn new(length: usize, pattern: impl Fn(usize) -> T) -> Lent<T> {
+        let all: Vec<T> = (0..length + 2 * GUARD).map(pattern).collect();
+        Lent {
+            start: all.clone(),
+            all,
+        }
+    }
+
+    fn middle(&self) -> std::ops::Range<usize> {
+        GUARD..self.all.len() - GUARD
+    }
+
+    fn lend(&mut self) -> &mut [T] {
+        let middle = self.middle();
+        &mut self.all[middle]
+    }
+
+    fn held(&self) -> &[T] {
+        &self.all[self.middle()]
+    }
+
+    fn unchanged(&self) -> bool {
+        self.all == self.start
+    }
+
+    fn guards_stand(&self) -> bool {
+        let middle = self.middle();
+        self.all[..middle.start] == self.start[..middle.start]
+            && self.all[middle.end..] == self.start[middle.end..]
+    }
+}
+
 /// A call that reads bytes into a list, in the engine and in the paper.
 type Calls = (
     fn(&[u8], &mut [i64]) -> Result<(), doonamurk::Refused>,
@@ -104,14 +148,14 @@ fn both(
     length: usize,
     pattern: i64,
 ) -> Result<(u64, Vec<i64>), String> {
-    let start: Vec<i64> = (0..length as i64).map(|n| pattern ^ n).collect();
-    let mut ours = start.clone();
-    let mut theirs = start.clone();
-    let answer = engine_number(engine(record, &mut ours));
+    let mut lent = Lent::new(length, |n| pattern ^ n as i64);
+    let mut theirs = lent.held().to_vec();
+    let answer = engine_number(engine(record, lent.lend()));
     let expected = number(paper(record, &mut theirs));
-    let untouched = answer == 0 || ours == start;
-    if answer == expected && ours == theirs && untouched {
-        return Ok((answer, ours));
+    let untouched = answer == 0 || lent.unchanged();
+    let ours = lent.held();
+    if answer == expected && ours == theirs && untouched && lent.guards_stand() {
+        return Ok((answer, theirs));
     }
     let place = ours.iter().zip(&theirs).position(|(a, b)| a != b);
     let mut said = format!(
@@ -121,6 +165,9 @@ fn both(
     if !untouched {
         said += "\nthe engine refused and changed the buffer";
     }
+    if !lent.guards_stand() {
+        said += "\nthe engine wrote beside the buffer";
+    }
     if let Some(n) = place {
         said += &format!("\nentry {n}: engine {}, paper {}", ours[n], theirs[n]);
         said += &format!("\nengine {ours:?}\npaper {theirs:?}");
@@ -129,19 +176,23 @@ fn both(
 }
 
 fn compare_write(given: &Given, length: usize, pattern: u8) -> Result<u64, String> {
-    let start: Vec<u8> = (0..length).map(|n| pattern ^ n as u8).collect();
-    let mut ours = start.clone();
-    let mut theirs = start.clone();
-    let answer = engine_number(doonamurk::write(&fields(given), &mut ours));
+    let mut lent = Lent::new(length, |n| pattern ^ n as u8);
+    let mut theirs = lent.held().to_vec();
+    let answer = engine_number(doonamurk::write(&fields(given), lent.lend()));
     let expected = number(paper::write(given, &mut theirs));
-    if answer == expected && ours == theirs && (answer == 0 || ours == start) {
+    let untouched = answer == 0 || lent.unchanged();
+    if answer == expected && lent.held() == theirs && untouched && lent.guards_stand() {
         return Ok(answer);
     }
-    Err(format!(
+    let mut said = format!(
         "write into {length} bytes of {given:?}\nengine answers {answer}, record {}\npaper answers {expected}, record {}",
-        hex(&ours),
+        hex(lent.held()),
         hex(&theirs)
-    ))
+    );
+    if !lent.guards_stand() {
+        said += "\nthe engine wrote beside the buffer";
+    }
+    Err(said)
 }
 
 fn case(r: &mut Random, tally: &mut Tally) -> Result<(), String> {
@@ -169,13 +220,13 @@ fn case(r: &mut Random, tally: &mut Tally) -> Result<(), String> {
     )?;
     tally.read[answer as usize] += 1;
     if answer == 0 {
-        let mut back = vec![!0; record.len()];
-        let written = engine_number(doonamurk::write(&fields(&given(&list)), &mut back));
-        if written != 0 || back != record {
+        let mut back = Lent::new(record.len(), |_| !0);
+        let written = engine_number(doonamurk::write(&fields(&given(&list)), back.lend()));
+        if written != 0 || back.held() != record || !back.guards_stand() {
             return Err(format!(
-                "written back\nrecord {}\nwrite answers {written}, record {}",
+                "written back\nrecord {}\nwrite answers {written}, record between {GUARD} guards on each side {}",
                 hex(&record),
-                hex(&back)
+                hex(&back.all)
             ));
         }
         tally.back += 1;
@@ -263,7 +314,7 @@ fn main() -> ExitCode {
     let end = seconds.map(|n| start + Duration::from_secs(n));
     let mut tally = Tally::default();
     let mut done = 0;
-    while done < cases && end.is_none_or(|end| done % 256 != 0 || Instant::now() < end) {
+    while done < cases && end.map_or(true, |end| done % 256 != 0 || Instant::now() < end) {
         let outcome = catch_unwind(AssertUnwindSafe(|| {
             case(&mut Random::new(seed, done), &mut tally)
         }));
@@ -279,7 +330,9 @@ fn main() -> ExitCode {
         start.elapsed().as_secs_f64()
     );
     // A run of fair length that misses an answer tests less than it says.
-    if done >= 20_000 && !tally.complete() {
+    if done < FAIR {
+        println!("fewer than {FAIR} cases: it was not asked whether every answer was reached");
+    } else if !tally.complete() {
         println!("an answer was never reached");
         return ExitCode::FAILURE;
     }

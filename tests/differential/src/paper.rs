@@ -11,7 +11,6 @@ const M: u64 = 1_000_000;
 
 const YEARS: usize = 16;
 const CELLS: usize = 136;
-const LONGEST_LIST: usize = 489;
 
 const EXPOSURE_MAX: u64 = 1_000_000;
 const AMOUNT_MAX: u64 = 10_000_000_000;
@@ -28,7 +27,7 @@ const INDEX_BITS: usize = 23;
 const SHARE_BITS: usize = 20;
 
 /// The cells of a triangle with years 0 to k.
-pub fn cells(k: usize) -> usize {
+pub const fn cells(k: usize) -> usize {
     (k + 1) * (k + 2) / 2
 }
 
@@ -53,7 +52,7 @@ pub fn bytes(k: usize) -> usize {
 }
 
 /// The entries of a result list.
-pub fn entries(k: usize) -> usize {
+pub const fn entries(k: usize) -> usize {
     let future = cells(k) - (k + 1);
     cells(k) + (k + 1) + (k + 1) + k + future + (k + 1) + 1 + (k + 1) + (k + 1) + 1 + 1 + k + future
 }
@@ -303,12 +302,12 @@ fn average(increment: i64, exposure: u64) -> i64 {
 }
 
 /// The result list as it grows; it is worked out in the order in which it is listed.
-struct List<'a> {
-    entries: &'a mut [i64; LONGEST_LIST],
+struct List<'a, const ROOM: usize> {
+    entries: &'a mut [i64; ROOM],
     len: usize,
 }
 
-impl List<'_> {
+impl<const ROOM: usize> List<'_, ROOM> {
     #[inline]
     fn push(&mut self, entry: i64) {
         self.entries[self.len] = entry;
@@ -330,15 +329,26 @@ pub fn run(record: &[u8], results: &mut [i64]) -> Result<(), u64> {
         return Err(3);
     }
     let figures = Record::unpack(k, record)?;
-    // The results are lent, and a later question may still say no: the list grows here first.
-    let mut list = [0; LONGEST_LIST];
-    work_out(&figures, &mut list)?;
-    results[..entries(k)].copy_from_slice(&list[..entries(k)]);
+    let results = &mut results[..entries(k)];
+    // Four lengths of room, so that a short list need not clear the longest.
+    match k {
+        1..=2 => fill::<{ entries(2) }>(&figures, results),
+        3..=5 => fill::<{ entries(5) }>(&figures, results),
+        6..=9 => fill::<{ entries(9) }>(&figures, results),
+        _ => fill::<{ entries(15) }>(&figures, results),
+    }
+}
+
+/// The results are lent, and a later question may still say no: the list grows in a room of its own first.
+fn fill<const ROOM: usize>(figures: &Record, results: &mut [i64]) -> Result<(), u64> {
+    let mut list = [0; ROOM];
+    work_out(figures, &mut list)?;
+    results.copy_from_slice(&list[..results.len()]);
     Ok(())
 }
 
 /// Questions 6 to 14, and the list where all say yes.
-fn work_out(figures: &Record, entries: &mut [i64; LONGEST_LIST]) -> Result<(), u64> {
+fn work_out<const ROOM: usize>(figures: &Record, entries: &mut [i64; ROOM]) -> Result<(), u64> {
     let k = figures.k;
     let mut list = List { entries, len: 0 };
 

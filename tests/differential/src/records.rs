@@ -66,16 +66,26 @@ pub fn account(k: usize) -> Given {
     }
 }
 
-/// The account of sixteen years, changed so that this question, 2 or 4 to 14, is the first that says no, and says it late: the work of all questions
-/// before it is done. `None` for 1 and 3, which no field of sixteen years can reach.
-pub fn refused(question: u64) -> Option<Vec<u8>> {
-    const K: usize = 15;
-    let mut a = account(K);
-    let [.., (shares, width, count), _, (totals, size, years)] = rows(K);
+/// The account of k + 1 years, changed so that this question, 2 or 4 to 14, is the first that says no, and says it late: the work of all questions
+/// before it is done. `None` where the change does not bring that answer about: 1 and 3 never, and others for some k.
+pub fn refused(k: usize, question: u64) -> Option<Vec<u8>> {
+    let record = changed(k, question)?;
+    let answer = paper::run(&record, &mut [0; 489]);
+    (answer == Err(question)).then_some(record)
+}
+
+fn changed(k: usize, question: u64) -> Option<Vec<u8>> {
+    let mut a = account(k);
+    let [.., (shares, width, count), _, (totals, size, years)] = rows(k);
     match question {
         2 => {
             let mut record = pack(&a);
-            *record.last_mut()? |= 1;
+            if paper::bits(k) % 8 == 0 {
+                // There is no filling bit, so the length has to be wrong.
+                record.push(0);
+            } else {
+                *record.last_mut()? |= 1;
+            }
             return Some(record);
         }
         4 => {
@@ -94,37 +104,37 @@ pub fn refused(question: u64) -> Option<Vec<u8>> {
                 &mut record,
                 shares + width * (count - 1),
                 width,
-                a.reporting[K] + 1,
+                a.reporting[k] + 1,
             );
             return Some(record);
         }
-        6 => a.increments[cell(K, K, 0)] = -1,
+        6 => a.increments[cell(k, k, 0)] = -1,
         // The total of the averages is asked after the columns and the diagonals.
         7 => a.exposures.fill(1),
         // T_1 - v_1 is the total of column 0 below its first cell.
-        8 => (1..=K).for_each(|i| a.increments[cell(K, i, 0)] = 0),
+        8 => (1..=k).for_each(|i| a.increments[cell(k, i, 0)] = 0),
         9 => {
             a.exposures.fill(100);
-            (1..=K).for_each(|i| a.increments[cell(K, i, 0)] = 0);
-            a.increments[cell(K, K, 0)] = 1;
-            a.increments[cell(K, 0, 1)] = 400_000_000;
+            (1..=k).for_each(|i| a.increments[cell(k, i, 0)] = 0);
+            a.increments[cell(k, k, 0)] = 1;
+            a.increments[cell(k, 0, 1)] = 400_000_000;
         }
         10 => {
             a.exposures.fill(100);
-            (1..=K).for_each(|i| a.increments[cell(K, i, 0)] = 1);
-            a.increments[cell(K, 0, 0)] = 500_000_000;
+            (1..=k).for_each(|i| a.increments[cell(k, i, 0)] = 1);
+            a.increments[cell(k, 0, 0)] = 500_000_000;
         }
         // The last year has few increments and many claims, at the averages of the others.
         11 => {
             a.exposures.fill(60);
-            a.exposures[K] = 1_000_000;
+            a.exposures[k] = 1_000_000;
             a.indices.fill(5_000_000);
         }
-        12 => a.ulae[K] = 10_000_000_000,
-        13 => a.increments[K] = 50 * a.increments[..K].iter().sum::<i64>(),
+        12 => a.ulae[k] = 10_000_000_000,
+        13 => a.increments[k] = 50 * a.increments[..k].iter().sum::<i64>(),
         14 => {
-            (0..K).for_each(|i| a.increments[cell(K, i, 0)] /= 20);
-            a.increments[cell(K, K, 0)] = 10_000_000_000;
+            (0..k).for_each(|i| a.increments[cell(k, i, 0)] /= 20);
+            a.increments[cell(k, k, 0)] = 10_000_000_000;
         }
         _ => return None,
     }

@@ -1,31 +1,55 @@
--- `packing::word` meets its contract: a field of 64 bits is one of 32 and then one of 32. Assumes nothing.
-use mathlib.Core.Path.{_≡_}
-use Prim.Native.Nat.{_+_, _*_}
+-- Eight bytes one after another; of no bytes the number is 0. Assumes nothing.
+use mathlib.Core.Path.{_≡_, sym}
+use mathlib.Core.List.{List}
+use Prim.Native.Nat.{ℕ}
+use native.Mathlib.Nat.{mod-one}
 use native.Mathlib.Omega.{arith}
-use Rattle.packing.proofs.Places.{field-append}
+use Rattle.packing.specs.Field.{fieldAt}
 use borrow.Author.Needs.{needs}
 use Rattle.packing.proofs.word.Statement.{statement}
 use Rattle.packing.proofs.word.Tie as tie
 
-half-requires : tie.Need-half-requires
-half-requires c κs = search needs
+none : (s : List ℕ) (at : ℕ) → fieldAt s at 0 ≡ 0
+unfolding fieldAt
+none s at = mod-one _
 
-add-half : tie.Need-add-half
-add-half c = search needs
+followed-requires : tie.Need-followed-requires
+followed-requires c κs = (omega arith, (omega arith, sym (none _ _)))
 
-half-requires-2 : tie.Need-half-requires-2
-half-requires-2 c κs = search needs
+followed-requires-2 : tie.Need-followed-requires-2
+followed-requires-2 c κs = search needs
 
-add-result : tie.Need-add-result
-add-result c = search needs
+followed-requires-3 : tie.Need-followed-requires-3
+followed-requires-3 c κs = search needs
+
+followed-requires-4 : tie.Need-followed-requires-4
+followed-requires-4 c κs = search needs
+
+followed-requires-5 : tie.Need-followed-requires-5
+followed-requires-5 c κs = search needs
+
+followed-requires-6 : tie.Need-followed-requires-6
+followed-requires-6 c κs = search needs
+
+followed-requires-7 : tie.Need-followed-requires-7
+followed-requires-7 c κs = search needs
+
+followed-requires-8 : tie.Need-followed-requires-8
+followed-requires-8 c κs = search needs
 
 returns : tie.Need-returns
-returns c =
-    let s = c .before .before .before .args .s .now in
-    let i = c .before .before .before .args .i in
-    let e : 8 * i + 32 ≡ 8 * (i + 4) = omega arith in
-    let f = rw e at (field-append s (8 * i) 32 32 (omega (arith, c .before .before .before .pre))) in
-    omega arith
+returns c = search needs
 
 pub word-spec : {M : Type 1} → statement M
-word-spec = tie.close (tie.spec half-requires add-half half-requires-2 add-result returns)
+word-spec =
+    tie.close
+    (tie.spec
+    followed-requires
+    followed-requires-2
+    followed-requires-3
+    followed-requires-4
+    followed-requires-5
+    followed-requires-6
+    followed-requires-7
+    followed-requires-8
+    returns)

@@ -42,8 +42,8 @@ ladder-of-requires c κs =
     let few = rw (sym figures) at (sound packed ok bytes .few) in
     (few, at-starts (c .starts-of .result) (c .before .before .before .before .read .result .figures .k) (c .starts-of .ensures) .completed)
 
-put-page-requires : tie.Need-put-page-requires
-put-page-requires c κs =
+put-form-requires : tie.Need-put-form-requires
+put-form-requires c κs =
     let s = c .before .before .before .before .before .before .before .before .before .before .before in
     let packed = s .args .packed .now in
     let ok = s .pre .0 in
@@ -61,8 +61,8 @@ returns c =
     let s = c .before .before .before .before .before .before .before .before .before .before .before .before .before .before in
     let packed = s .args .packed .now in
     let figures = figures-are packed (c .before .before .before .before .before .before .before .before .before .before .before .read .result) (c .before .before .before .before .before .before .before .before .before .before .before .read .ensures) in
-    let page = page-is packed (s .pre .0) (c .before .before .before .before .before .before .before .before .before .before .before .read .result .figures) (s .args .list .now) (c .before .before .before .before .before .before .before .before .before .paid-of .result) (c .before .before .before .before .before .before .ladder-of .result) figures (s .pre .1) (c .before .before .before .before .before .before .before .before .before .paid-of .ensures .0) (c .before .before .before .before .before .before .ladder-of .ensures) in
-    put-same page (c .before .before .put-page .ensures)
+    let page = page-is packed (s .pre .0) (s .args .html) (c .before .before .before .before .before .before .before .before .before .before .before .read .result .figures) (s .args .list .now) (c .before .before .before .before .before .before .before .before .before .paid-of .result) (c .before .before .before .before .before .before .ladder-of .result) figures (s .pre .1) (c .before .before .before .before .before .before .before .before .before .paid-of .ensures .0) (c .before .before .before .before .before .before .ladder-of .ensures) in
+    put-same page (c .before .before .put-form .ensures)
 
 pub put-accepted-spec : {M : Type 1} → statement M
 put-accepted-spec =
@@ -72,6 +72,6 @@ put-accepted-spec =
     paid-of-requires
     starts-of-requires
     ladder-of-requires
-    put-page-requires
+    put-form-requires
     same-length
     returns)

@@ -1,11 +1,12 @@
 -- The measures are 2 × h for the share and 2 × h + 1 for the level: each call falls by one. Assumes nothing.
 use native.Mathlib.Nat.{le-refl}
 use native.Mathlib.Omega.{arith}
-use mathlib.Core.Path.{ap, _∙_}
+use mathlib.Core.Path.{ap₂, _∙_}
+use mathlib.Core.Logic.{⊎-elim}
 use Rattle.rules.specs.declared.Factors.{Factors}
-use Rattle.separation.specs.Walk.{shareWalk, levelWalk, withLevel}
-use Rattle.separation.proofs.Steps.{ready-below, share-down}
-use Prim.Native.Nat.{ℕ, _+_, _-_, _*_, _≤_, _<_}
+use Rattle.separation.specs.Walk.{withLevel, levelWalk}
+use Rattle.separation.proofs.Steps.{ready-below, share-first, share-next}
+use Prim.Native.Nat.{ℕ, _+_, _-_, _*_, _<_}
 use borrow.Fn.Kinds.{In}
 use borrow.Fn.PlainCycle.{Measures, is, falls, and}
 use Rattle.separation.proofs.level_step.Reads as level-step
@@ -15,9 +16,8 @@ use Rattle.separation.proofs.share_step.Reads as share-step
 use Rattle.separation.proofs.share_step.Kinds as share-step-kinds
 use Rattle.separation.proofs.+level_step+share_step.Lts-share_step as share-step-lts
 use Rattle.separation.proofs.level_of.Reads as level-of-reads
+use Rattle.separation.proofs.no_factors.Reads as no-factors-reads
 use Rattle.separation.proofs.running_below.Reads as running-below-reads
-use Rattle.separation.proofs.with_level.Reads as with-level-reads
-use Rattle.separation.proofs.with_share.Reads as with-share-reads
 use Rattle.separation.proofs.+level_step+share_step.{statement}
 use Rattle.separation.proofs.+level_step+share_step.Tie.{close}
 
@@ -46,76 +46,53 @@ share-step-below t =
 level-step-level-of-requires : (t : ℕ) → level-step-lts.Need-level-of-requires (
   level-of-reads.Asked,
   level-of-reads.Learnt,
-  with-level-reads.Asked,
-  with-level-reads.Learnt,
   share-step-below t,
   share-step.Post,
 ) (level-step-at t) level-step.Post
 level-step-level-of-requires t c κs = (c .pre .1 .0 .diagonal (c .args .h) (le-refl (c .args .h)), c .pre .1 .1 .1)
 
-level-step-with-level-requires : (t : ℕ) → level-step-lts.Need-with-level-requires (
-  level-of-reads.Asked,
-  level-of-reads.Learnt,
-  with-level-reads.Asked,
-  with-level-reads.Learnt,
-  share-step-below t,
-  share-step.Post,
-) (level-step-at t) level-step.Post
-level-step-with-level-requires t c κs = omega arith
-
 level-step-share-step-requires : (t : ℕ) → level-step-lts.Need-share-step-requires (
   level-of-reads.Asked,
   level-of-reads.Learnt,
-  with-level-reads.Asked,
-  with-level-reads.Learnt,
   share-step-below t,
   share-step.Post,
 ) (level-step-at t) level-step.Post
-level-step-share-step-requires t c κs = (omega arith, c .before .before .pre .1)
+level-step-share-step-requires t c κs = (omega arith, c .before .pre .1)
+
+level-step-mul-f : (t : ℕ) → level-step-lts.Need-mul-f (
+  level-of-reads.Asked,
+  level-of-reads.Learnt,
+  share-step-below t,
+  share-step.Post,
+) (level-step-at t) level-step.Post
+level-step-mul-f t c = omega arith
+
+level-step-element-write-f : (t : ℕ) → level-step-lts.Need-element-write-f (
+  level-of-reads.Asked,
+  level-of-reads.Learnt,
+  share-step-below t,
+  share-step.Post,
+) (level-step-at t) level-step.Post
+level-step-element-write-f t c = omega arith
 
 level-step-returns : (t : ℕ) → level-step-lts.Need-returns (
   level-of-reads.Asked,
   level-of-reads.Learnt,
-  with-level-reads.Asked,
-  with-level-reads.Learnt,
   share-step-below t,
   share-step.Post,
 ) (level-step-at t) level-step.Post
 unfolding levelWalk
 level-step-returns t c =
-    let s = c .before .before .before in
-    let walk : Factors → Factors = λ f. shareWalk (s .args .columns .now) (s .args .diagonals .now) (s .args .corners .now) (s .args .a) f (s .args .h) in
-    c .share-step .ensures
-    ∙ ap walk (c .before .with-level .ensures ∙ ap (withLevel (s .args .f) (s .args .h)) (c .before .before .level-of .ensures))
-
-share-step-with-share-requires : (t : ℕ) → share-step-lts.Need-with-share-requires (
-  with-share-reads.Asked,
-  with-share-reads.Learnt,
-  running-below-reads.Asked,
-  running-below-reads.Learnt,
-  level-step-below t,
-  level-step.Post,
-) (share-step-at t) share-step.Post
-share-step-with-share-requires t c κs = omega arith
-
-share-step-returns : (t : ℕ) → share-step-lts.Need-returns (
-  with-share-reads.Asked,
-  with-share-reads.Learnt,
-  running-below-reads.Asked,
-  running-below-reads.Learnt,
-  level-step-below t,
-  level-step.Post,
-) (share-step-at t) share-step.Post
-unfolding shareWalk
-share-step-returns t c = rw (c .before .if1 .taken) (c .with-share .ensures)
+    let s = c .before .before in
+    ap₂ (λ (f : Factors) (l : ℕ). withLevel f (s .args .h) l) (c .share-step .ensures) (c .before .level-of .ensures)
 
 share-step-running-below-requires : (t : ℕ) → share-step-lts.Need-running-below-requires (
-  with-share-reads.Asked,
-  with-share-reads.Learnt,
   running-below-reads.Asked,
   running-below-reads.Learnt,
   level-step-below t,
   level-step.Post,
+  no-factors-reads.Asked,
+  no-factors-reads.Learnt,
 ) (share-step-at t) share-step.Post
 share-step-running-below-requires t c κs =
     let s = c .before in
@@ -123,98 +100,118 @@ share-step-running-below-requires t c κs =
     let h = s .args .h in
     (r .rest h (omega arith) (le-refl h), (r .corner h (le-refl h), s .pre .1 .1))
 
-share-step-sub-with-share : (t : ℕ) → share-step-lts.Need-sub-with-share (
-  with-share-reads.Asked,
-  with-share-reads.Learnt,
-  running-below-reads.Asked,
-  running-below-reads.Learnt,
-  level-step-below t,
-  level-step.Post,
-) (share-step-at t) share-step.Post
-share-step-sub-with-share t c = c .running-below .ensures .1
-
-share-step-with-share-requires-2 : (t : ℕ) → share-step-lts.Need-with-share-requires-2 (
-  with-share-reads.Asked,
-  with-share-reads.Learnt,
-  running-below-reads.Asked,
-  running-below-reads.Learnt,
-  level-step-below t,
-  level-step.Post,
-) (share-step-at t) share-step.Post
-share-step-with-share-requires-2 t c κs = omega arith
-
 share-step-sub-level-step : (t : ℕ) → share-step-lts.Need-sub-level-step (
-  with-share-reads.Asked,
-  with-share-reads.Learnt,
   running-below-reads.Asked,
   running-below-reads.Learnt,
   level-step-below t,
   level-step.Post,
+  no-factors-reads.Asked,
+  no-factors-reads.Learnt,
 ) (share-step-at t) share-step.Post
 share-step-sub-level-step t c = omega arith
 
 share-step-level-step-requires : (t : ℕ) → share-step-lts.Need-level-step-requires (
-  with-share-reads.Asked,
-  with-share-reads.Learnt,
   running-below-reads.Asked,
   running-below-reads.Learnt,
   level-step-below t,
   level-step.Post,
+  no-factors-reads.Asked,
+  no-factors-reads.Learnt,
 ) (share-step-at t) share-step.Post
 share-step-level-step-requires t c κs =
-    let s = c .before .before .before in
+    let s = c .before .before in
     let h = s .args .h in
     let low = ready-below (s .args .columns .now) (s .args .diagonals .now) (s .args .corners .now) h (h - 1) (omega arith) (s .pre .1 .0) in
-    (omega arith, (low, (omega (arith, c .before .running-below .ensures .1), omega arith)))
+    (omega arith, (low, (omega (arith, c .running-below .ensures .1), omega arith)))
 
-share-step-returns-2 : (t : ℕ) → share-step-lts.Need-returns-2 (
-  with-share-reads.Asked,
-  with-share-reads.Learnt,
+share-step-sub-share : (t : ℕ) → share-step-lts.Need-sub-share (
   running-below-reads.Asked,
   running-below-reads.Learnt,
   level-step-below t,
   level-step.Post,
+  no-factors-reads.Asked,
+  no-factors-reads.Learnt,
 ) (share-step-at t) share-step.Post
-share-step-returns-2 t c =
-    let s = c .before .before .before .before in
-    let up : 1 ≤ s .args .h = omega arith in
-    cc (
-      c .level-step .ensures,
-      c .before .with-share2 .ensures,
-      c .before .before .running-below .ensures .0,
-      share-down (s .args .columns .now) (s .args .diagonals .now) (s .args .corners .now) (s .args .a) (s .args .f) (s .args .h) up,
-    )
+share-step-sub-share t c = omega (arith, c .before .running-below .ensures .1)
+
+share-step-no-factors-requires : (t : ℕ) → share-step-lts.Need-no-factors-requires (
+  running-below-reads.Asked,
+  running-below-reads.Learnt,
+  level-step-below t,
+  level-step.Post,
+  no-factors-reads.Asked,
+  no-factors-reads.Learnt,
+) (share-step-at t) share-step.Post
+share-step-no-factors-requires t c κs = tt
+
+share-step-mul-f : (t : ℕ) → share-step-lts.Need-mul-f (
+  running-below-reads.Asked,
+  running-below-reads.Learnt,
+  level-step-below t,
+  level-step.Post,
+  no-factors-reads.Asked,
+  no-factors-reads.Learnt,
+) (share-step-at t) share-step.Post
+share-step-mul-f t c = omega arith
+
+share-step-element-write-f : (t : ℕ) → share-step-lts.Need-element-write-f (
+  running-below-reads.Asked,
+  running-below-reads.Learnt,
+  level-step-below t,
+  level-step.Post,
+  no-factors-reads.Asked,
+  no-factors-reads.Learnt,
+) (share-step-at t) share-step.Post
+share-step-element-write-f t c = omega arith
+
+share-step-returns : (t : ℕ) → share-step-lts.Need-returns (
+  running-below-reads.Asked,
+  running-below-reads.Learnt,
+  level-step-below t,
+  level-step.Post,
+  no-factors-reads.Asked,
+  no-factors-reads.Learnt,
+) (share-step-at t) share-step.Post
+share-step-returns t c =
+    let s = c .before in
+    let v = s .args .columns .now in
+    let d = s .args .diagonals .now in
+    let t = s .args .corners .now in
+    ⊎-elim
+    (λ w.
+    share-next v d t (s .args .a) (s .args .k) (s .args .h) _ _ _ (w .0 .taken) (w .1 .ensures .0) (w .3 ∙ w .2 .ensures) (w .4))
+    (λ w. share-first v d t (s .args .a) (s .args .k) (s .args .h) _ _ (w .0 .left) (w .2 ∙ w .1 .ensures) (w .3))
+    (c .if1 .came)
 
 pub +level-step+share-step-spec : {M : Type 1} → statement M
 +level-step+share-step-spec = close μ-level-step μ-share-step (λ t. level-step-lts.spec (
   level-of-reads.Asked,
   level-of-reads.Learnt,
-  with-level-reads.Asked,
-  with-level-reads.Learnt,
   share-step-below t,
   share-step.Post,
 )
     (level-step-at t)
     level-step.Post
     (level-step-level-of-requires t)
-    (level-step-with-level-requires t)
     (level-step-share-step-requires t)
+    (level-step-mul-f t)
+    (level-step-element-write-f t)
     (level-step-returns t))
     λ t. share-step-lts.spec (
-      with-share-reads.Asked,
-      with-share-reads.Learnt,
       running-below-reads.Asked,
       running-below-reads.Learnt,
       level-step-below t,
       level-step.Post,
+      no-factors-reads.Asked,
+      no-factors-reads.Learnt,
     )
     (share-step-at t)
     share-step.Post
-    (share-step-with-share-requires t)
-    (share-step-returns t)
     (share-step-running-below-requires t)
-    (share-step-sub-with-share t)
-    (share-step-with-share-requires-2 t)
     (share-step-sub-level-step t)
     (share-step-level-step-requires t)
-    (share-step-returns-2 t)
+    (share-step-sub-share t)
+    (share-step-no-factors-requires t)
+    (share-step-mul-f t)
+    (share-step-element-write-f t)
+    (share-step-returns t)

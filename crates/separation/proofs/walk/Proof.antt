@@ -9,7 +9,7 @@ use native.Mathlib.Omega.{arith}
 use Rattle.rules.specs.Questions.{afterCall}
 use Rattle.rules.specs.Separation.{billion, noFactors}
 use Rattle.rules.specs.declared.Factors.{Factors}
-use Rattle.separation.specs.Walk.{cornersPass, cornersOf, levelWalk, walkFactors, walkAnswer, walked}
+use Rattle.separation.specs.Walk.{cornersPass, levelWalk, walkFactors, walkAnswer, walked}
 use Rattle.separation.proofs.Answers.{after-refusal, factorsAnswer, answer-eight, walk-k, answer-factors, ready}
 use Rattle.separation.proofs.walk.Statement.{statement}
 use Rattle.separation.proofs.walk.Tie as tie
@@ -39,9 +39,6 @@ returns c =
     let e = c .refused .ensures .0 ∙ sym (answer-eight v d (s .args .k) no) in
     (e, c .refused .ensures .1 ∙ no-factors-back v d (s .args .k) _ e (λ z. omega arith))
 
-no-factors-requires : tie.Need-no-factors-requires
-no-factors-requires c κs = search needs
-
 -- question 8 says yes
 yes-eight : (c : tie.Else1) →
     let s = c .before .before .before in
@@ -50,39 +47,37 @@ yes-eight c = sym (c .before .before .corners-of .ensures .0) ∙ not-false _ (c
 
 level-step-requires : tie.Need-level-step-requires
 level-step-requires c κs =
-    let at = c .before .before .before in
+    let at = c .before .before in
     let s = at .before .before .before in
     let totals = at .before .before .corners-of .ensures .1 (not-false _ (at .if1 .left)) in
     (rw totals (ready (s .args .columns .now) (s .args .diagonals .now) (s .args .k) (yes-eight at) (s .pre)), (omega arith, s .pre .few))
 
 -- the factors are those of the walk
 found : (c : tie.After-level-step) →
-    let s = c .before .before .before .before .before .before .before in
+    let s = c .before .before .before .before .before .before in
     c .level-step .result ≡ walkFactors (s .args .columns .now) (s .args .diagonals .now) (s .args .k)
 unfolding walkFactors
 found c =
-    let at = c .before .before .before .before in
+    let at = c .before .before .before in
     let s = at .before .before .before in
     let v = s .args .columns .now in
     let d = s .args .diagonals .now in
     let k = s .args .k in
     let totals = at .before .before .corners-of .ensures .1 (not-false _ (at .if1 .left)) in
-    c .level-step .ensures
-    ∙ ap (λ (t : List ℕ). levelWalk v d t billion (c .before .no-factors .result) k) totals
-    ∙ ap (λ (f : Factors). levelWalk v d (cornersOf v d k) billion f k) (c .before .no-factors .ensures)
+    c .level-step .ensures ∙ ap (λ (t : List ℕ). levelWalk v d t billion k k) totals
 
 factors-answer-requires : tie.Need-factors-answer-requires
 factors-answer-requires c κs =
-    let at = c .before .before .before .before in
+    let at = c .before .before .before in
     let s = at .before .before .before in
     rw (found c, walk-k (s .args .columns .now) (s .args .diagonals .now) (s .args .k)) (s .pre .few)
 
 -- the answer is the walk's
 answered : (c : tie.After-factors-answer) →
-    let s = c .before .before .before .before .before .before .before .before in
+    let s = c .before .before .before .before .before .before .before in
     c .factors-answer .result ≡ walkAnswer (s .args .columns .now) (s .args .diagonals .now) (s .args .k)
 answered c =
-    let at = c .before .before .before .before .before in
+    let at = c .before .before .before .before in
     let s = at .before .before .before in
     c .factors-answer .ensures
     ∙ ap factorsAnswer (found (c .before))
@@ -94,7 +89,7 @@ refused-requires-2 c κs = search needs
 returns-2 : tie.Need-returns-2
 returns-2 c =
     let at = c .before .before in
-    let s = at .before .before .before .before .before .before .before .before in (
+    let s = at .before .before .before .before .before .before .before in (
       c .refused2 .ensures .0 ∙ answered at,
       c .refused2 .ensures .1 ∙ no-factors-back (s .args .columns .now) (s .args .diagonals .now) (s .args .k) _ (answered at) (c .before .if2 .taken),
     )
@@ -102,7 +97,7 @@ returns-2 c =
 returns-3 : tie.Need-returns-3
 returns-3 c =
     let at = c .before in
-    let s = at .before .before .before .before .before .before .before .before in
+    let s = at .before .before .before .before .before .before .before in
     (answered at, factors-back (s .args .columns .now) (s .args .diagonals .now) (s .args .k) _ (answered at) _ (found (at .before)) (c .if2 .left))
 
 pub walk-spec : {M : Type 1} → statement M
@@ -112,7 +107,6 @@ walk-spec =
     corners-of-requires
     refused-requires
     returns
-    no-factors-requires
     level-step-requires
     factors-answer-requires
     refused-requires-2

@@ -1,22 +1,20 @@
 //! Times the proved engine beside document 01 in plain Rust (`paper.rs`) and in Python (`tests/model.py`), on the same records in one run.
 //!
-//! Each number is the median of many batches, in nanoseconds a record, where nothing else is said. The batches of all that is compared are taken in
-//! turn, so that other work on the machine meets them alike.
+//! Each number is the median of many batches, in nanoseconds a record, where nothing else is said. The batches of the engine and of Rust are taken in
+//! turn, so that other work on the machine meets them alike. Python is timed apart, before them, in a process of its own.
 
 use differential::random::Random;
 use differential::{generate, paper, records};
 use std::hint::black_box;
-use std::io::Write;
+use std::io::{ErrorKind, Write};
 use std::path::Path;
-use std::process::{Command, Stdio};
+use std::process::{Command, ExitCode, Stdio};
 use std::time::Instant;
 
 const BATCHES: usize = 61;
 const BATCH_NANOS: f64 = 300_000.0;
 const PYTHON_RUNS: u32 = 15;
 const MANY: usize = 100_000;
-const PART: usize = 250;
-const PASSES: usize = 8;
 
 struct Row {
     name: String,
@@ -54,6 +52,7 @@ fn measure(rows: &[Row], part: usize) -> Vec<Times> {
         .map(|row| {
             let once = batch(200, || {
                 black_box(doonamurk::run(black_box(&row.record), &mut list)).ok();
+                black_box(&list);
             });
             (BATCH_NANOS / once) as usize + 1
         })
@@ -64,15 +63,19 @@ fn measure(rows: &[Row], part: usize) -> Vec<Times> {
             let record = &row.record[..];
             taken[0].push(batch(calls, || {
                 black_box(doonamurk::run(black_box(record), &mut list)).ok();
+                black_box(&list);
             }));
             taken[1].push(batch(calls, || {
                 black_box(paper::run(black_box(record), &mut list)).ok();
+                black_box(&list);
             }));
             taken[2].push(batch(calls, || {
                 black_box(doonamurk::read(black_box(record), &mut list)).ok();
+                black_box(&list);
             }));
             taken[3].push(batch(calls, || {
                 black_box(paper::read(black_box(record), &mut list)).ok();
+                black_box(&list);
             }));
         }
     }
@@ -100,53 +103,89 @@ fn outcome(record: &[u8]) -> (u64, i64) {
     (answer.err().unwrap_or(0), ours.iter().sum())
 }
 
-/// Nanoseconds of tests/model.py for each record, or `None` where there is no python3.
-fn python(rows: &[Row]) -> Option<Vec<f64>> {
+/// Nanoseconds of tests/model.py for each record, `None` where there is no python3, or what went wrong with it.
+fn python(rows: &[Row]) -> Result<Option<Vec<f64>>, String> {
     let script = Path::new(env!("CARGO_MANIFEST_DIR")).join("time_model.py");
-    let mut child = Command::new("python3")
+    let child = Command::new("python3")
         .arg(script)
         .arg(PYTHON_RUNS.to_string())
         .stdin(Stdio::piped())
         .stdout(Stdio::piped())
-        .spawn()
-        .ok()?;
+        .spawn();
+    let mut child = match child {
+        Ok(child) => child,
+        Err(error) if error.kind() == ErrorKind::NotFound => return Ok(None),
+        Err(error) => return Err(format!("python3 does not start: {error}")),
+    };
     let mut lines = String::new();
     for row in rows {
         lines.extend(row.record.iter().map(|byte| format!("{byte:02x}")));
         lines.push('\n');
     }
-    child.stdin.take()?.write_all(lines.as_bytes()).ok()?;
-    let output = child.wait_with_output().ok()?;
-    let said = String::from_utf8(output.stdout).ok()?;
-    let times: Vec<f64> = rows
-        .iter()
-        .zip(said.lines())
-        .map(|(row, line)| {
-            let mut numbers = line.split(' ').map(|n| n.parse::<i64>().expect("a number"));
-            let mut next = || numbers.next().expect("three numbers a line");
-            let (answer, sum, nanos) = (next() as u64, next(), next());
-            assert_eq!((answer, sum), outcome(&row.record), "{}", row.name);
-            nanos as f64
-        })
+    // A script that has ended takes no more lines; its status below says so.
+    let mut input = child.stdin.take().expect("a pipe");
+    let sent = input.write_all(lines.as_bytes());
+    drop(input);
+    let output = child.wait_with_output().map_err(|e| e.to_string())?;
+    if sent.is_err() || !output.status.success() {
+        return Err(format!(
+            "the Python model failed ({}), see above",
+            output.status
+        ));
+    }
+    let said = String::from_utf8_lossy(&output.stdout);
+    let numbers: Vec<Vec<i64>> = said
+        .lines()
+        .map(|line| line.split(' ').filter_map(|n| n.parse().ok()).collect())
         .collect();
-    (times.len() == rows.len()).then_some(times)
+    if numbers.len() != rows.len() {
+        return Err(format!(
+            "the Python model gave {} of {} times",
+            numbers.len(),
+            rows.len()
+        ));
+    }
+    let mut times = Vec::new();
+    for (row, numbers) in rows.iter().zip(numbers) {
+        let (answer, sum) = outcome(&row.record);
+        match numbers[..] {
+            [number, total, nanos] if (number, total) == (answer as i64, sum) => {
+                times.push(nanos as f64);
+            }
+            _ => {
+                return Err(format!(
+                    "{}: the Python model gave {numbers:?}, the engine answers {answer} and its list sums to {sum}",
+                    row.name
+                ));
+            }
+        }
+    }
+    Ok(Some(times))
 }
 
-fn compared() -> Vec<Row> {
-    let accepted = [1, 4, 9, 15].map(|k| Row {
-        name: format!("k = {k}, accepted"),
-        record: records::pack(&records::account(k)),
-    });
-    let refused = [2, 4, 8, 14].map(|question| Row {
-        name: format!("k = 15, refused {question}"),
-        record: records::refused(question).expect("a record refused there"),
-    });
-    accepted.into_iter().chain(refused).collect()
+/// The records that are compared, and the names of those that no change of the account brings about.
+fn compared() -> (Vec<Row>, Vec<String>) {
+    let mut rows = Vec::new();
+    let mut left_out = Vec::new();
+    for k in [1, 4, 9, 15] {
+        rows.push(Row {
+            name: format!("k = {k}, accepted"),
+            record: records::pack(&records::account(k)),
+        });
+        for question in [2, 4, 8, 14] {
+            let name = format!("k = {k}, refused {question}");
+            match records::refused(k, question) {
+                Some(record) => rows.push(Row { name, record }),
+                None => left_out.push(name),
+            }
+        }
+    }
+    (rows, left_out)
 }
 
-fn compare() {
-    let rows = compared();
-    let python = python(&rows);
+fn compare() -> Result<(), String> {
+    let (rows, left_out) = compared();
+    let python = python(&rows)?;
     let times = measure(&rows, 5);
     println!("Nanoseconds a record\n");
     println!(
@@ -169,9 +208,14 @@ fn compare() {
             time.engine / time.paper
         );
     }
-    if python.is_none() {
-        println!("Python is left out: python3 did not run tests/model.py");
+    for name in left_out {
+        println!("{name}: left out, the account cannot be changed so that it is refused there");
     }
+    println!("A record refused 2 has a filling bit set; one without filling bits (k = 9) is a byte too long.");
+    if python.is_none() {
+        println!("Python is left out: python3 is not installed");
+    }
+    Ok(())
 }
 
 fn growth() {
@@ -220,7 +264,7 @@ fn stages() {
     let rows: Vec<Row> = STAGES
         .map(|(question, name)| Row {
             name: name.into(),
-            record: records::refused(question)
+            record: records::refused(15, question)
                 .unwrap_or_else(|| records::pack(&records::account(15))),
         })
         .into();
@@ -270,46 +314,43 @@ fn many() {
             ends.push(packed.len());
         }
     }
-    // Part by part, the median of each over several passes: a part is short enough to be left alone by other work in most of them.
-    let mut passes: Vec<[Vec<f64>; 2]> = ends.chunks(PART).map(|_| Default::default()).collect();
-    let calls: [Accepts; 2] = [
-        |record, list| doonamurk::run(record, list).is_ok(),
-        |record, list| paper::run(record, list).is_ok(),
-    ];
-    for pass in 0..PASSES {
-        let mut first = 0;
-        for (part, taken) in ends.chunks(PART).zip(&mut passes) {
-            let mut from = first;
-            // In turn, for the first to go finds the records out of the cache.
-            for which in [pass % 2, 1 - pass % 2] {
-                from = first;
-                taken[which].push(batch(1, || {
-                    for &end in part {
-                        assert!(calls[which](&packed[from..end], &mut list));
-                        from = end;
-                    }
-                }));
-            }
-            first = from;
-        }
-    }
-    let mut seconds = [0.0; 2];
-    for part in passes {
-        for (total, taken) in seconds.iter_mut().zip(part) {
-            *total += tenths(5, taken) / 1e9;
-        }
-    }
-    println!("\n{MANY} different accepted records of all k, one after another in one process\n");
+    println!("\n{MANY} different accepted records of all k, one after another in one process: the time of one whole pass\n");
     println!(
         "{:10}{:>12}{:>10}{:>14}",
         "", "seconds", "MB/s", "records/s"
     );
-    for (name, seconds) in ["engine", "Rust"].into_iter().zip(seconds) {
+    let calls: [(&str, Accepts); 2] = [
+        ("engine", |record, list| {
+            doonamurk::run(record, list).is_ok()
+        }),
+        ("Rust", |record, list| paper::run(record, list).is_ok()),
+    ];
+    for (name, accepts) in calls {
+        let start = Instant::now();
+        let mut from = 0;
+        for &end in &ends {
+            assert!(accepts(black_box(&packed[from..end]), &mut list));
+            black_box(&list);
+            from = end;
+        }
+        let seconds = start.elapsed().as_secs_f64();
         println!(
             "{name:10}{seconds:12.3}{:10.1}{:14.0}",
             packed.len() as f64 / 1e6 / seconds,
             MANY as f64 / seconds
         );
+    }
+}
+
+/// The first line that a command prints.
+fn said(command: &str, argument: &str) -> String {
+    let output = Command::new(command).arg(argument).output();
+    let said = output.map_or(String::new(), |output| {
+        String::from_utf8_lossy(&output.stdout).into_owned()
+    });
+    match said.lines().next() {
+        Some(line) => line.to_string(),
+        None => format!("{command} not known"),
     }
 }
 
@@ -320,25 +361,26 @@ fn machine() {
         .lines()
         .find_map(|line| line.strip_prefix("model name")?.split(": ").nth(1))
         .unwrap_or("not known");
-    let rustc = Command::new("rustc").arg("--version").output();
-    let rustc = rustc.map_or("not known".into(), |out| {
-        String::from_utf8_lossy(&out.stdout).trim().to_string()
-    });
     let cores = std::thread::available_parallelism().map_or(1, usize::from);
     println!(
-        "\nMachine: {model}, {cores} cores, kernel {}",
-        file("/proc/sys/kernel/osrelease").trim()
-    );
-    println!(
-        "{rustc}, release build; load at the end {}",
+        "\nMachine: {model}, {cores} cores, kernel {}; {}; {}, {} profile, opt-level {}; load at the end {}",
+        file("/proc/sys/kernel/osrelease").trim(),
+        said("rt", "version"),
+        said("rustc", "--version"),
+        env!("BUILT_PROFILE"),
+        env!("BUILT_OPT_LEVEL"),
         file("/proc/loadavg").trim()
     );
 }
 
-fn main() {
-    compare();
+fn main() -> ExitCode {
+    if let Err(what) = compare() {
+        eprintln!("benchmark: {what}");
+        return ExitCode::FAILURE;
+    }
     growth();
     stages();
     many();
     machine();
+    ExitCode::SUCCESS
 }

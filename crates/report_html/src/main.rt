@@ -1,0 +1,11 @@
+// Writes the report of the record on standard input as a page of HTML: tables and plots, or the question that said no in words.
+use printing::put_output;
+use reports::report_html;
+
+fn main() {
+    let mut record = io::buffer();
+    let n = io::read_full(0, &mut record);
+    let mut page = io::large_buffer();
+    let end = report_html(&record[..n], &mut page);
+    put_output(&page, end);
+}

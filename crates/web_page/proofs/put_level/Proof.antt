@@ -1,0 +1,28 @@
+-- The bar of the size in proportion (scaled_to). Assumes nothing.
+use mir.Facts.{toZ-ofZ}
+use borrow.Author.Needs.{needs}
+use Rattle.web_page.proofs.put_level.Statement.{statement}
+use Rattle.web_page.proofs.put_level.Tie as tie
+
+limited-size-requires : tie.Need-limited-size-requires
+limited-size-requires c κs = search needs
+
+scaled-to-requires : tie.Need-scaled-to-requires
+scaled-to-requires c κs = search needs
+
+put-bar-requires : tie.Need-put-bar-requires
+put-bar-requires c κs = search needs
+
+same-length : tie.Need-same-length
+same-length c = search needs
+
+returns : tie.Need-returns
+returns c =
+    let s = c .before .before .before .before .before .before .before in
+    let kept = toZ-ofZ (s .fits .level) in
+    rw (c .before .before .before .before .scaled-to .ensures .0, c .before .before .before .before .before .limited-size .ensures, kept) at (c .before .before .put-bar .ensures)
+
+pub put-level-spec : {M : Type 1} → statement M
+put-level-spec =
+    tie.close
+    (tie.spec limited-size-requires scaled-to-requires put-bar-requires same-length returns)

@@ -1,0 +1,79 @@
+-- The loop's invariant: the first j cells are put. Assumes nothing.
+use mathlib.Core.Path.{_≡_}
+use native.Mathlib.Omega.{arith}
+use Prim.Native.Nat.{_+_, _-_, _≤_}
+use Rattle.rules.specs.Lists.{upTo}
+use Rattle.rules.specs.Results.{joined}
+use Rattle.composing.specs.Text.{Put}
+use Rattle.composing.proofs.Puts.{put-first, put-more, put-length}
+use mir.Syntax.{w64}
+use mir.Facts.{toZ-ofZ}
+use lib.IntN.{pos}
+use lib.ListN.{getD}
+use Rattle.page.specs.Page.{entry}
+use Rattle.web_page.specs.Web.{shadedCell, shadedCells}
+use borrow.Author.Needs.{needs, sfits-of}
+use Rattle.web_page.proofs.put_shaded_cells.Statement.{statement}
+use Rattle.web_page.proofs.put_shaded_cells.Tie as tie
+
+abbrev Inv-loop : tie.InvT-loop
+Inv-loop out₀ at list largest p n end₀ j₀ out end j =
+    (j ≤ n) × Put out₀ out at end (joined (upTo (λ j. shadedCell largest (entry list p j)) j))
+
+abbrev μ-loop : tie.MeasureT-loop
+μ-loop out₀ at list largest p n end₀ j₀ out end j = n - j
+
+loop-holds : tie.Need-loop-holds Inv-loop μ-loop
+unfolding shadedCells
+loop-holds c = (omega arith, put-first _ _ _)
+
+add-put-shaded : tie.Need-add-put-shaded Inv-loop μ-loop
+add-put-shaded c = omega arith
+
+mul-put-shaded : tie.Need-mul-put-shaded Inv-loop μ-loop
+mul-put-shaded c = omega arith
+
+element-copy-out-put-shaded : tie.Need-element-copy-out-put-shaded Inv-loop μ-loop
+element-copy-out-put-shaded c = omega arith
+
+put-shaded-requires : tie.Need-put-shaded-requires Inv-loop μ-loop
+put-shaded-requires c κs = search needs
+
+add-j : tie.Need-add-j Inv-loop μ-loop
+add-j c = omega arith
+
+loop-less : tie.Need-loop-less Inv-loop μ-loop
+loop-less c = omega arith
+
+loop-again : tie.Need-loop-again Inv-loop μ-loop
+loop-again c =
+    let s = c .before .before .before .before .before .before .before .before in
+    let l = c .before .before .before .before .before .before .loop in
+    let kept = toZ-ofZ {w = w64} {z = getD (s .args .list .now) (s .args .p + l .j) (pos 0)} (sfits-of (c .before .before .before .put-shaded-arg2 .given)) in
+    (omega arith, put-more (λ j. shadedCell (s .args .largest) (entry (s .args .list .now) (s .args .p) j)) (l .j) (l .inv .1) (rw kept at (c .before .before .put-shaded .ensures)))
+
+same-length : tie.Need-same-length Inv-loop μ-loop
+same-length c = put-length (c .before .loop .inv .1)
+
+returns : tie.Need-returns Inv-loop μ-loop
+unfolding shadedCells
+returns c =
+    let e : c .before .loop .j ≡ c .before .before .before .args .n = omega arith in
+    rw e at (c .before .loop .inv .1)
+
+pub put-shaded-cells-spec : {M : Type 1} → statement M
+put-shaded-cells-spec =
+    tie.close
+    (tie.spec
+    Inv-loop
+    μ-loop
+    loop-holds
+    add-put-shaded
+    mul-put-shaded
+    element-copy-out-put-shaded
+    put-shaded-requires
+    add-j
+    loop-less
+    loop-again
+    same-length
+    returns)

@@ -1,0 +1,59 @@
+-- The loop's invariant: the cells of the years before j are put. Assumes nothing.
+use mathlib.Core.Path.{_≡_}
+use native.Mathlib.Omega.{arith}
+use Prim.Native.Nat.{_-_, _≤_}
+use Rattle.rules.specs.Lists.{upTo}
+use Rattle.rules.specs.Results.{joined}
+use Rattle.composing.specs.Text.{Put}
+use Rattle.composing.proofs.Puts.{put-first, put-more, put-length}
+use Rattle.web_page.specs.Web.{yearCell}
+use borrow.Author.Needs.{needs}
+use Rattle.web_page.proofs.put_years.Statement.{statement}
+use Rattle.web_page.proofs.put_years.Tie as tie
+
+abbrev Inv-loop : tie.InvT-loop
+Inv-loop out₀ at n end₀ j₀ out end j =
+    (j ≤ n) × Put out₀ out at end (joined (upTo (yearCell) j))
+
+abbrev μ-loop : tie.MeasureT-loop
+μ-loop out₀ at n end₀ j₀ out end j = n - j
+
+loop-holds : tie.Need-loop-holds Inv-loop μ-loop
+loop-holds c = (omega arith, put-first _ _ _)
+
+put-year-requires : tie.Need-put-year-requires Inv-loop μ-loop
+put-year-requires c κs = search needs
+
+add-j : tie.Need-add-j Inv-loop μ-loop
+add-j c = omega arith
+
+loop-less : tie.Need-loop-less Inv-loop μ-loop
+loop-less c = omega arith
+
+loop-again : tie.Need-loop-again Inv-loop μ-loop
+loop-again c =
+    let s = c .before .before .before .before .before .before .before in
+    let l = c .before .before .before .before .before .loop in
+    (omega arith, put-more (yearCell) (l .j) (l .inv .1) (c .before .before .put-year .ensures))
+
+same-length : tie.Need-same-length Inv-loop μ-loop
+same-length c = put-length (c .before .loop .inv .1)
+
+returns : tie.Need-returns Inv-loop μ-loop
+returns c =
+    let e : c .before .loop .j ≡ c .before .before .before .args .n = omega arith in
+    rw e at (c .before .loop .inv .1)
+
+pub put-years-spec : {M : Type 1} → statement M
+put-years-spec =
+    tie.close
+    (tie.spec
+    Inv-loop
+    μ-loop
+    loop-holds
+    put-year-requires
+    add-j
+    loop-less
+    loop-again
+    same-length
+    returns)

@@ -1,0 +1,103 @@
+"""The report of a record as a page of text, and the figures of a record as text, in plain Python.
+
+Written from the page in README.md, docs/SHEET.md and the definitions (crates/page/specs, crates/sheet/specs), and not from the Rattle code; the numbers
+come from model.py. make_cases.py makes of it what report and unpack are expected to write.
+"""
+
+import model
+
+# the widths of the columns: a year, a cell of a triangle, an amount
+YEAR, CELL, AMOUNT = 6, 14, 17
+
+
+def fixed(value, decimals):
+    """A number that counts units of 10^-decimals."""
+    if decimals == 0:
+        return str(value)
+    whole, part = divmod(abs(value), 10**decimals)
+    return f"{'-' if value < 0 else ''}{whole}.{part:0{decimals}d}"
+
+
+def line(first, columns, width):
+    """A line of a table; None is an empty column."""
+    return str(first).rjust(YEAR) + "".join(("" if text is None else str(text)).rjust(width) for text in columns) + "\n"
+
+
+def sections(k, results):
+    """The sections of the result list in their order; those that have rows by row, row i of the cells past the diagonal being i long."""
+    rest = iter(results)
+
+    def take(count):
+        return [next(rest) for _ in range(count)]
+
+    years = range(k + 1)
+    averages = [take(k + 1 - i) for i in years]
+    shares, levels, future = take(k + 1), take(k + 1), take(k)
+    payments = [take(i) for i in years]
+    provisions, provision_total = take(k + 1), take(1)[0]
+    unreported, reserves, reserve_total, ratio = take(k + 1), take(k + 1), take(1)[0], take(1)[0]
+    factors = take(k)
+    completed = [take(i) for i in years]
+    assert next(rest, None) is None
+    return averages, shares, levels, future, payments, provisions, provision_total, unreported, reserves, reserve_total, ratio, factors, completed
+
+
+def past_diagonal(k, rows):
+    """A table of the cells past the diagonal: those up to it are empty."""
+    return line("year", range(k + 1), CELL) + "".join(line(i, [None] * (k + 1 - i) + rows[i], CELL) for i in range(k + 1))
+
+
+def page(record):
+    """The page that report writes of a record that the engine accepts."""
+    k = record[0] >> 4
+    number, results = model.run(record, model.result_count(k))
+    assert number == 0
+    (averages, shares, levels, future, payments, provisions, provision_total, unreported, reserves, reserve_total, ratio, factors,
+     completed) = sections(k, results)
+    years = range(k + 1)
+    paid = [sum(row) for row in model.by_row(k, model.lists(model.read(record, model.field_count(k)))["P"])]
+    # nothing of year 0 is still to be completed
+    ladder = [completed[i][-1] if i else paid[0] for i in years]
+
+    text = "Averages paid a claim, by origin year and development year\n"
+    text += line("year", years, CELL)
+    for i in years:
+        text += line(i, [fixed(s, 2) for s in averages[i]], CELL)
+
+    text += "\nShares by development year, and levels a claim by payment year\n"
+    text += line("year", ["share", "level"], CELL)
+    for h in years:
+        text += line(h, [fixed(shares[h], 9), fixed(levels[h], 2)], CELL)
+    for t in range(k):
+        text += line(k + 1 + t, [None, fixed(future[t], 2)], CELL)
+
+    text += "\nCompleted payments, by origin year and development year\n"
+    text += past_diagonal(k, payments)
+
+    text += "\nProvisions and ULAE reserve by origin year, with the chain ladder beside them\n"
+    text += line("year", ["paid", "provision", "ultimate", "not reported", "ULAE reserve", "ladder ultimate", "ladder provision"], AMOUNT)
+    for i in years:
+        columns = [paid[i], provisions[i], paid[i] + provisions[i], unreported[i], reserves[i], ladder[i], ladder[i] - paid[i]]
+        text += line(i, columns, AMOUNT)
+    # the list has no total of what is not reported
+    columns = [sum(paid), provision_total, sum(paid) + provision_total, None, reserve_total, sum(ladder), sum(ladder) - sum(paid)]
+    text += line("total", columns, AMOUNT)
+
+    text += f"\nULAE ratio {fixed(ratio, 6)}\n"
+
+    text += "\nChain ladder: development factors, from each development year to the next\n"
+    text += line("year", ["factor"], CELL)
+    for h in range(k):
+        text += line(h, [fixed(factors[h], 6)], CELL)
+
+    text += "\nChain ladder: completed cumulatives, by origin year and development year\n"
+    return text + past_diagonal(k, completed)
+
+
+def sheet(fields):
+    """The text that unpack writes of a record's fields: a label and its numbers a line, the increments of each origin year on a line of their own."""
+    k, given = fields[0], model.lists(fields)
+    lines = [("k", given["k"]), ("exposures", given["n"])]
+    lines += [("paid", row) for row in model.by_row(k, given["P"])]
+    lines += [("indices", given["e"]), ("reporting", given["b"]), ("weight", given["w"]), ("ulae", given["U"])]
+    return "".join(" ".join([label] + [str(number) for number in numbers]) + "\n" for label, numbers in lines)
