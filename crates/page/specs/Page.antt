@@ -1,8 +1,7 @@
 -- The report of an accepted run as a page of text: tables with a line for each year. Numbers are entries of the result list, found by the places of its
 -- sections, and amounts paid. Assumes nothing.
 use Prim.Native.Nat.{ℕ, zero, suc, _+_, _-_, _*_}
-use Prim.Native.String.{String}
-use mathlib.Core.List.{List, [], _∷_, _++_}
+use mathlib.Core.List.{List, _++_}
 use lib.IntN.{ℤ, pos, natAbs, _-ℤ_}
 use lib.ListN.{getD}
 use Rattle.rules.specs.Lists.{total, upTo}

@@ -3,18 +3,18 @@ use Prim.Native.Nat.{ℕ, zero, suc, _+_, _-_, _≤_, _<_}
 use native.Mathlib.Numerals.{add-one}
 use native.Mathlib.Omega.{arith}
 use borrow.Author.Tests.{leb-true, ne-eqb}
-use mathlib.Core.Path.{_≡_, refl, sym, ap, _∙_}
+use mathlib.Core.Path.{_≡_, refl, ap, _∙_}
 use mathlib.Core.Bool.{Bool, true, false, cond}
-use mathlib.Core.List.{List, [], _++_, map}
+use mathlib.Core.List.{List, _++_, map}
 use lib.Dec.{eqb}
 use lib.IntN.{ℤ, pos, natAbs}
 use lib.ListN.{length, getD, drop, replicate, length-map, List·getD-append, List·getD-map}
-use lib.Seq.{sets, sets-eq}
+use lib.Seq.{sets-eq}
 use Rattle.rules.specs.Packing.{Fit}
 use Rattle.rules.specs.Lists.{upTo, padded, every}
 use Rattle.rules.specs.Questions.{afterCall}
 use Rattle.rules.specs.Record.{lastYearOf, figuresOf}
-use Rattle.rules.specs.Reading.{hasLastYear, hasLength, inRanges, sharesSum}
+use Rattle.rules.specs.Reading.{hasLastYear, hasLength}
 use Rattle.rules.specs.Triangle.{rowStart, cumulativesPass}
 use Rattle.rules.specs.Completion.{paidTo}
 use Rattle.rules.specs.Ladder.{givenCumulative, completedRow, completedPass}

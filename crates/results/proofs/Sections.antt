@@ -1,8 +1,7 @@
 -- The entries that the stages put are the sections of the result list. Assumes nothing.
-use Prim.Native.Nat.{ℕ, zero, suc, _+_, _-_}
-use native.Mathlib.Numerals.{add-one}
+use Prim.Native.Nat.{ℕ, suc, _+_, _-_}
 use native.Mathlib.Omega.{arith}
-use mathlib.Core.Path.{_≡_, refl, ap}
+use mathlib.Core.Path.{_≡_, ap}
 use mathlib.Core.List.{List, _++_, append-assoc, append-nil}
 use lib.ListN.{length, take, replicate}
 use lib.Seq.{take-at}
@@ -12,7 +11,6 @@ use Rattle.rules.specs.Completion.{futureLevel, paymentRow, provision}
 use Rattle.rules.specs.Expense.{ratioOf, notReported, reserve}
 use Rattle.rules.specs.Ladder.{developmentFactor, completedRow}
 use Rattle.rules.specs.Results.{squareOf, latestOf, factorsIn, joined, sections, resultsOf}
-use Rattle.rules.specs.Demand.{futureStart}
 use Rattle.rules.specs.declared.Figures.{Figures}
 use Rattle.laws.proofs.Lists.{length-upTo, upTo-ext}
 use Rattle.laws.proofs.Joined.{future-length, future-cells}

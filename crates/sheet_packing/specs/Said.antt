@@ -1,6 +1,6 @@
 -- What packing a text says. Assumes nothing.
 use Prim.Native.Nat.{ℕ}
-use mathlib.Core.Bool.{Bool, cond, _&&_}
+use mathlib.Core.Bool.{cond}
 use mathlib.Core.List.{List, []}
 use lib.Dec.{eqb}
 use Rattle.sheet.specs.Sheet.{Typed, lastYearIn, recordSize, packAnswer}

@@ -1,7 +1,6 @@
 -- The ultimate, the provision and the line end follow one another (put-three). Assumes nothing.
 use mir.Syntax.{w64}
 use mir.Facts.{toZ-ofZ}
-use native.Mathlib.Omega.{arith}
 use Rattle.composing.proofs.Puts.{put-three}
 use Rattle.page.specs.Page.{ladderAmounts}
 use borrow.Author.Needs.{needs, sfits-of}
