@@ -4,12 +4,13 @@ use mathlib.Core.Bool.{true, false}
 use Prim.Native.Nat.{ℕ, zero, suc, _<_, _^_}
 use native.Mathlib.Omega.{arith}
 use borrow.Author.Tests.{ltb-true}
-use lib.Dec.{lit<, T}
+use lib.Dec.{T}
 use lib.IntN.{ℤ, pos, negsuc, negℤ, sucℤ, _+ℤ_, _-ℤ_, +ℤ-idl, +ℤ-one, negℤ-negℤ}
 use lib.Signed.{ltZ}
 use mir.Facts.{toZ-ofZ}
 use mir.Syntax.{w64}
 use mir.Val.{SFits, toZ, ofZ}
+use Rattle.laws.proofs.Signed.{neg-fits}
 
 -- a number below 0 is −(n + 1)
 pub below : (x : ℤ) → SFits w64 x → ltZ (toZ w64 (ofZ w64 x)) (pos 0) ≡ true → (n : ℕ) × (x ≡ negsuc n) × (n < 2 ^ 63)
@@ -31,11 +32,6 @@ above x f h = go x f (rw (toZ-ofZ f) at h)
 suc-neg : (n : ℕ) → sucℤ (negsuc n) ≡ negℤ (pos n)
 suc-neg zero = refl
 suc-neg (suc n) = refl
-
--- −n fits 64 bits
-pub neg-fits : (n : ℕ) → n < 2 ^ 63 → SFits w64 (negℤ (pos n))
-neg-fits zero h = record { sfits = lit< tt }
-neg-fits (suc n) h = record { sfits = omega arith }
 
 -- a natural number at 64 bits
 pub natural : (n : ℕ) → n < 2 ^ 63 → toZ w64 (ofZ w64 (pos n)) ≡ pos n

@@ -1,15 +1,16 @@
 -- Signed numbers by their sizes: what fits 64 bits, and the sizes of sums, multiples and quotients. Assumes nothing.
-use mathlib.Core.Path.{_≡_, refl}
+use mathlib.Core.Path.{_≡_, refl, _∙_}
 use mathlib.Core.Bool.{Bool, true, false, cond}
 use Prim.Native.Nat.{ℕ, zero, suc, _+_, _-_, _*_, _/_, _^_, _≤_, _<_}
 use native.Mathlib.Nat.{zero-div, mul-le-mul-left, div-le-of-le-mul}
 use native.Mathlib.Omega.{arith}
 use borrow.Author.Tests.{leb-true}
 use lib.Dec.{ltb}
-use lib.IntN.{ℤ, pos, negsuc, natAbs, _+ℤ_, _*ℤ_}
+use lib.IntN.{ℤ, pos, negsuc, negℤ, natAbs, _+ℤ_, _-ℤ_, _*ℤ_, +ℤ-idl}
 use lib.Signed.{quotZ, leZ}
 use mir.Syntax.{w64}
 use mir.Val.{SFits, toZ, ofZ}
+use mir.ValLaws.{toZ-pos, toZ-ofZ}
 use Rattle.rules.specs.Record.{signedOf}
 
 -- what a local that was set to z is read as
@@ -42,6 +43,17 @@ pub signed-size : (b n : ℕ) → natAbs (signedOf b n) ≡ n
 signed-size zero n = refl
 signed-size (suc b) zero = refl
 signed-size (suc b) (suc n) = refl
+
+-- −n fits 64 bits
+pub neg-fits : (n : ℕ) → n < 2 ^ 63 → SFits w64 (negℤ (pos n))
+neg-fits n h = size-fits (negℤ (pos n)) (rw (signed-size 1 n) h)
+
+-- what the machine asks of `0 - (n as i64)`, and what it gives
+pub minus-fits : (n : ℕ) → n < 2 ^ 63 → SFits w64 (pos 0 -ℤ toZ w64 n)
+minus-fits n h = rw (toZ-pos w64 n h, +ℤ-idl (negℤ (pos n))) (neg-fits n h)
+
+pub minus : (n : ℕ) → n < 2 ^ 63 → toZ w64 (ofZ w64 (pos 0 -ℤ toZ w64 n)) ≡ negℤ (pos n)
+minus n h = toZ-ofZ w64 (pos 0 -ℤ toZ w64 n) (minus-fits n h) ∙ rw (toZ-pos w64 n h) (+ℤ-idl (negℤ (pos n)))
 
 -- the size of a multiple
 pub times-size : (k : ℕ) (z : ℤ) → natAbs (pos k *ℤ z) ≡ k * natAbs z

@@ -1,24 +1,19 @@
 -- Amounts of a table: sums and differences stay within 64 bits. Assumes nothing.
-use Prim.Native.Nat.{ℕ, zero, suc, _≤_}
+use Prim.Native.Nat.{ℕ, _≤_}
 use native.Mathlib.Omega.{arith}
-use mathlib.Core.Path.{_≡_, refl}
 use mathlib.Core.List.{List}
-use lib.IntN.{pos, negℤ, natAbs, _-ℤ_}
+use lib.IntN.{pos, negℤ, _-ℤ_}
 use lib.ListN.{take}
 use mir.Syntax.{w64}
 use mir.Val.{SFits}
 use Rattle.rules.specs.Lists.{total}
 use Rattle.laws.proofs.Lists.{total-most}
-use Rattle.laws.proofs.Signed.{size-fits, sum-size}
+use Rattle.laws.proofs.Signed.{size-fits, sum-size, signed-size}
 use Rattle.page.specs.Places.{Addable}
-
-turned-size : (n : ℕ) → natAbs (negℤ (pos n)) ≡ n
-turned-size zero = refl
-turned-size (suc n) = refl
 
 -- the difference of two amounts fits
 pub less-fits : (x y : ℕ) → x ≤ 20000000000000 → y ≤ 20000000000000 → SFits w64 (pos x -ℤ pos y)
-less-fits x y h k = size-fits (pos x -ℤ pos y) (omega (arith, sum-size (pos x) (negℤ (pos y)), turned-size y))
+less-fits x y h k = size-fits (pos x -ℤ pos y) (omega (arith, sum-size (pos x) (negℤ (pos y)), signed-size 1 y))
 
 -- sixteen amounts add up to at most 16 × 10^12
 pub sum-most : (xs : List ℕ) → Addable xs → total (take 16 xs) ≤ 20000000000000

@@ -2,19 +2,14 @@
 use mathlib.Core.Path.{_≡_, refl, sym, ap, _∙_}
 use mathlib.Core.Bool.{false}
 use mathlib.Core.List.{List, [], _∷_}
-use Prim.Native.Nat.{ℕ, _+_, _-_, _*_, _≤_, _<_, _^_}
+use Prim.Native.Nat.{ℕ, _+_, _-_, _*_, _≤_, _<_}
 use native.Mathlib.Numerals.{add-one}
 use native.Mathlib.Omega.{arith}
 use borrow.Author.Tests.{lt-ltb, le-ltb, eq-eqb, ne-eqb}
-use lib.IntN.{pos, negℤ, _-ℤ_, +ℤ-idl}
+use lib.IntN.{pos, negℤ}
 use lib.ListN.{length, getD, take, drop}
 use lib.Seq.{drop-cons, drop-length}
-use mir.Syntax.{w64}
-use mir.Val.{SFits, toZ, ofZ}
-use mir.Facts.{toZ-ofZ}
-use mir.ValLaws.{toZ-pos}
 use Rattle.rules.specs.Lists.{every}
-use Rattle.laws.proofs.Signed.{size-fits, signed-size}
 use Rattle.scanning.specs.Scan.{isDigit, isNatural, isNumber, ceiling, withDigit, sizeFrom, wholeOf}
 use Rattle.scanning.proofs.Parts.{from-place}
 
@@ -83,14 +78,3 @@ size-more xs i n m h e p = rw (p, add-one i) (e ∙ rw (drop-cons xs i 0 h))
 pub size-end : (xs : List ℕ) (i n : ℕ) → i ≡ length xs → sizeFrom 0 xs ≡ sizeFrom n (drop i xs) → n ≡ sizeFrom 0 xs
 unfolding sizeFrom
 size-end xs i n h e = sym (e ∙ rw (h, drop-length xs))
-
--- a size with a minus sign in front, at 64 bits
-module _ (n : ℕ) (h : n < 2 ^ 60) where
-  minus-is : pos 0 -ℤ toZ w64 n ≡ negℤ (pos n)
-  minus-is = rw (toZ-pos w64 n (omega arith)) (+ℤ-idl (negℤ (pos n)))
-
-  pub minus-fits : SFits w64 (pos 0 -ℤ toZ w64 n)
-  minus-fits = rw (minus-is) (size-fits (negℤ (pos n)) (rw (signed-size 1 n) (omega arith)))
-
-  pub minus-read : toZ w64 (ofZ w64 (pos 0 -ℤ toZ w64 n)) ≡ negℤ (pos n)
-  minus-read = toZ-ofZ minus-fits ∙ minus-is

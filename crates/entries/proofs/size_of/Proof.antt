@@ -4,7 +4,8 @@ use mathlib.Core.Path.{_≡_}
 use native.Mathlib.Omega.{arith}
 use borrow.Author.Needs.{needs}
 use lib.IntN.{negsuc}
-use Rattle.entries.proofs.Signs.{below, above, neg-fits, natural, plus-one, turned}
+use Rattle.laws.proofs.Signed.{neg-fits}
+use Rattle.entries.proofs.Signs.{below, above, natural, plus-one, turned}
 use Rattle.entries.proofs.size_of.Statement.{statement}
 use Rattle.entries.proofs.size_of.Tie as tie
 

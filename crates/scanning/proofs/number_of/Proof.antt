@@ -4,7 +4,8 @@ use native.Mathlib.Omega.{arith}
 use lib.IntN.{pos, negℤ}
 use mir.Syntax.{w64}
 use mir.ValLaws.{toZ-pos}
-use Rattle.scanning.proofs.Numbers.{whole-none, whole-minus, whole-plain, minus-fits, minus-read}
+use Rattle.laws.proofs.Signed.{minus-fits, minus}
+use Rattle.scanning.proofs.Numbers.{whole-none, whole-minus, whole-plain}
 use borrow.Author.Needs.{needs}
 use Rattle.scanning.proofs.number_of.Statement.{statement}
 use Rattle.scanning.proofs.number_of.Tie as tie
@@ -31,13 +32,13 @@ cast-result : tie.Need-cast-result
 cast-result c = search needs
 
 sub-result : tie.Need-sub-result
-sub-result c = minus-fits (c .size-of-digits .result) (c .size-of-digits .ensures .1)
+sub-result c = minus-fits (c .size-of-digits .result) (omega (arith, c .size-of-digits .ensures .1))
 
 returns-2 : tie.Need-returns-2
 returns-2 c =
     let d = c .before .before in
     let xs = d .before .before .before .before .args .word .now in
-    minus-read (c .size-of-digits .result) (c .size-of-digits .ensures .1)
+    minus (c .size-of-digits .result) (omega (arith, c .size-of-digits .ensures .1))
     ∙ (ap (λ n. negℤ (pos n)) (c .size-of-digits .ensures .0) ∙ sym (whole-minus xs (omega arith) (d .if2 .taken)))
 
 size-of-digits-requires-2 : tie.Need-size-of-digits-requires-2

@@ -4,7 +4,7 @@ use borrow.Author.Needs.{needs}
 use lib.IntN.{pos, negℤ, +ℤ-idl}
 use mir.Facts.{toZ-pos}
 use mir.Syntax.{w64}
-use Rattle.entries.proofs.Signs.{neg-fits}
+use Rattle.laws.proofs.Signed.{neg-fits}
 use Rattle.write_cases.proofs.signed.Statement.{statement}
 use Rattle.write_cases.proofs.signed.Tie as tie
 
