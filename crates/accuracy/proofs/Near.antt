@@ -7,10 +7,9 @@ use native.Mathlib.Nat.{le-refl, le-of-suc-le-suc}
 use native.Mathlib.Omega.{arith}
 use borrow.Author.Tests.{leb-true}
 use lib.Dec.{leb}
-use lib.IntN.{ℤ, pos, natAbs}
+use lib.IntN.{ℤ}
 use Rattle.rules.specs.Triangle.{columnTotal, diagonalTotal}
 use Rattle.rules.specs.Separation.{billion, columnOf, diagonalOf, cornerOf, runningDown, runningOf, shareOf, levelOf, totalsPass, restsPass, runningPass}
-use Rattle.rules.specs.Exact.{Solves}
 use Rattle.rules.specs.Accuracy.{fromTo, NearExact}
 use Rattle.laws.proofs.Diff.{is-pos, is-minus, is-mul, is-abs, le-is, lt-is}
 use Rattle.laws.proofs.Totals.{fromTo-all}
@@ -19,7 +18,7 @@ use Rattle.rules.specs.Triangle.{ZeroOutside}
 use Rattle.totals.proofs.Whole.{Totals, totals, column-is, diagonal-is}
 use Rattle.totals.proofs.Most.{running-most}
 use Rattle.accuracy.proofs.Rounding.{Running, shares-sum}
-use Rattle.accuracy.proofs.Solved.{solution-positive, solution-near}
+use Rattle.accuracy.proofs.Solved.{solution-near}
 use Rattle.accuracy.proofs.Existence.{exists}
 use Rattle.accuracy.proofs.Fitted as fitted
 use Rattle.accuracy.proofs.Fitted.{Levels}
@@ -51,11 +50,6 @@ module _ (s : List (List ℤ)) (k : ℕ) (out : ZeroOutside s k) (q7 : totalsPas
   -- the printed running share is the sum of the printed shares
   pub running-sum : (h : ℕ) → h ≤ k → fromTo (shareOf s k) 0 h ≡ runningOf s k h
   running-sum h le = fromTo-all (shareOf s k) h ∙ shares-sum _ _ _ _ _ _ _ tot (runs s k) h le
-
-  -- no share of an exact solution is negative
-  pub shares-positive : (D E : ℕ) (x y : ℕ → ℤ) → Solves k D E (columnTotal s) (diagonalTotal s) x y → (j : ℕ) → j ≤ k → x j ≡ pos (natAbs (x j))
-  shares-positive D E x y sol j le =
-      solution-positive _ _ _ _ _ _ _ _ _ (column-is s k q7) (diagonal-is s k q7) sol _ tot j le
 
   module _ (q9 : runningPass s k ≡ true) where
     levels : Levels k billion (diagonalOf s) (runningOf s k) (levelOf s k)

@@ -7,21 +7,21 @@ use native.Mathlib.Omega.{arith}
 use lib.IntN.{ℤ, pos, natAbs, _-ℤ_, _*ℤ_}
 use lib.ListN.{getD}
 use Rattle.rules.specs.Lists.{total, upTo}
-use Rattle.rules.specs.Record.{million}
-use Rattle.rules.specs.Triangle.{sumTo}
+use Rattle.rules.specs.Record.{Figures, million, mostIndex}
+use Rattle.rules.specs.Triangle.{sumTo, paidTo}
 use Rattle.rules.specs.Separation.{billion}
-use Rattle.rules.specs.Completion.{futureLevel, payment, paymentRow, provision, paidTo, ultimate}
-use Rattle.rules.specs.Expense.{ratioOf, reportedAfter, notReported, weighted, reserve}
+use Rattle.rules.specs.Completion.{futureLevel, paymentOf, payment, paymentRow, provision, provisions, ultimate}
+use Rattle.rules.specs.Expense.{reportedAfter, notReported, weighted, reserveOf, reserve}
 use Rattle.rules.specs.Demand.{Within, exactPayment, paymentOver, exactProvision, exactNotReported, exactWeighted, exactReserve, reserveOver, paymentAllowance, provisionAllowance, reserveAllowance}
-use Rattle.rules.specs.declared.Figures.{Figures}
 use Rattle.laws.proofs.Diff.{up, dn, is-pos, is-self, is-add, is-minus, is-mul}
 use Rattle.allowance.proofs.Rates.{Rates}
 use Rattle.allowance.proofs.Within.{is-size, Near, near-of, within-of, near-same, near-add, near-times, near-floor, near-finer, near-coarser, within-sum}
 
--- figures f, a latest diagonal d and printed shares r within the rules' limits, and near the exact shares x / D
-pub record Basis (f : Figures) (d : ℕ) (r : List ℕ) (D : ℕ) (x : ℕ → ℤ) : Type 0 where
+-- figures f, a latest diagonal d, printed shares r and future levels l within the rules' limits, the shares near the exact ones x / D
+pub record Basis (f : Figures) (d : ℕ) (r l : List ℕ) (D : ℕ) (x : ℕ → ℤ) : Type 0 where
   pub latest : d ≤ billion
-  pub indices : (t : ℕ) → t < f .k → getD (f .indices) t 0 ≤ 5000000
+  pub indices : (t : ℕ) → t < f .k → getD (f .indices) t 0 ≤ mostIndex
+  pub levels : (t : ℕ) → t < f .k → getD l t 0 ≡ futureLevel d (getD (f .indices) t 0)
   pub share-most : (j : ℕ) → j ≤ f .k → getD r j 0 ≤ billion
   pub share-near : (j : ℕ) → j ≤ f .k → natAbs ((pos billion *ℤ x j) -ℤ pos (getD r j 0 * D)) < (suc (f .k) - j) * D
 
@@ -56,10 +56,10 @@ reserve-step M P B w v p {R} {a} {b} {o} {c} mp bm wv pm n =
     = near-floor M (c + 200) mp (omega (arith, ap (λ (z : ℕ). (c + 100) * z) wv)) (near-add (near-times w rest) (near-times v (near-finer M n))) in
     near-floor M (c + 300) mp (omega (arith, mul-le-mul-left (c + 200) pm)) (near-times p mean)
 
-module _ (f : Figures) (d : ℕ) (r : List ℕ) (D : ℕ) (x : ℕ → ℤ) (basis : Basis f d r D x) where
+module _ (f : Figures) (d : ℕ) (r l : List ℕ) (D : ℕ) (x : ℕ → ℤ) (basis : Basis f d r l D x) where
   -- a payment
-  pub payment-near : (i j : ℕ) → i ≤ f .k → j ≤ f .k → f .k < i + j → Within (payment f d r i j) (exactPayment f d x i j) (paymentOver D) (paymentAllowance f i j)
-  unfolding payment futureLevel exactPayment paymentAllowance
+  pub payment-near : (i j : ℕ) → i ≤ f .k → j ≤ f .k → f .k < i + j → Within (payment (f .k) (f .exposures) r l i j) (exactPayment f d x i j) (paymentOver D) (paymentAllowance f i j)
+  unfolding payment paymentOf futureLevel exactPayment paymentAllowance
   payment-near i j il jl lt =
       let t : ℕ = i + j - f .k - 1 in
       let e : ℕ = getD (f .indices) t 0 in
@@ -70,36 +70,40 @@ module _ (f : Figures) (d : ℕ) (r : List ℕ) (D : ℕ) (x : ℕ → ℤ) (bas
       let n
       = payment-step billion million D (f .k + 1 - j) (d * e) (getD r j 0) (getD (f .exposures) i 0) (up (x j)) (dn (x j)) (omega arith) (omega arith) q
       (basis .share-most j jl) (omega arith) (omega arith) in
-      within-of _ (paymentOver D) _ (is-mul (is-pos _) (is-self (x j))) (near-same (omega arith) (omega arith) n)
+      rw (basis .levels t (omega arith)) (within-of _ (paymentOver D) _ (is-mul (is-pos _) (is-self (x j))) (near-same (omega arith) (omega arith) n))
 
   -- a provision
-  pub provision-near : (i : ℕ) → i ≤ f .k → Within (provision f d r i) (exactProvision f d x i) (paymentOver D) (provisionAllowance f i)
+  pub provision-near : (i : ℕ) → i ≤ f .k → Within (provision (f .k) (f .exposures) r l i) (exactProvision f d x i) (paymentOver D) (provisionAllowance f i)
   unfolding provision paymentRow exactProvision provisionAllowance
   provision-near i il =
-      within-sum (λ m. payment f d r i (f .k + 1 - i + m)) (λ m. exactPayment f d x i (f .k + 1 - i + m)) (λ m. paymentAllowance f i (f .k + 1 - i + m)) (paymentOver D) i
-      (λ m l. payment-near i (f .k + 1 - i + m) il (omega arith) (omega arith))
+      within-sum (λ m. payment (f .k) (f .exposures) r l i (f .k + 1 - i + m)) (λ m. exactPayment f d x i (f .k + 1 - i + m)) (λ m. paymentAllowance f i (f .k + 1 - i + m)) (paymentOver D) i
+      (λ m h. payment-near i (f .k + 1 - i + m) il (omega arith) (omega arith))
 
   -- the total of the provisions
-  pub provisions-near : Within (total (upTo (provision f d r) (f .k + 1))) (sumTo (exactProvision f d x) (f .k + 1)) (paymentOver D)
+  pub provisions-near : Within (total (provisions (f .k) (f .exposures) r l)) (sumTo (exactProvision f d x) (f .k + 1)) (paymentOver D)
       (total (upTo (provisionAllowance f) (f .k + 1)))
+  unfolding provisions
   provisions-near =
-      within-sum (provision f d r) (exactProvision f d x) (provisionAllowance f) (paymentOver D) (f .k + 1) (λ i l. provision-near i (omega arith))
+      within-sum (provision (f .k) (f .exposures) r l) (exactProvision f d x) (provisionAllowance f) (paymentOver D) (f .k + 1) (λ i h. provision-near i (omega arith))
 
-  module _ (rates : Rates f) where
+  module _ (c q : List ℕ) (paid : (i : ℕ) → i ≤ f .k → getD c i 0 ≡ paidTo (f .k) (f .increments) i)
+      (provided : (i : ℕ) → i ≤ f .k → getD q i 0 ≡ provision (f .k) (f .exposures) r l i) (ratio : ℕ) (rates : Rates f ratio) where
     -- a reserve
-    pub reserve-near : (i : ℕ) → i ≤ f .k → Within (reserve f d r i) (exactReserve f d D x (ratioOf f) i) (reserveOver D) (reserveAllowance f i)
-    unfolding reserve weighted notReported ultimate exactReserve exactWeighted exactNotReported reserveAllowance
+    pub reserve-near : (i : ℕ) → i ≤ f .k
+        → Within (reserve (f .k) ratio (f .weight) (f .reporting) c q i) (exactReserve f d D x ratio i) (reserveOver D) (reserveAllowance f i)
+    unfolding reserve reserveOf weighted notReported ultimate exactReserve exactWeighted exactNotReported reserveAllowance
     reserve-near i il =
         let z = is-self (exactProvision f d x i) in
         let n
-        = reserve-step million (paidTo f i) (reportedAfter f i) (f .weight) (million - f .weight) (ratioOf f) (omega arith) (rates .reporting i il)
+        = reserve-step million (paidTo (f .k) (f .increments) i) (reportedAfter (f .k) (f .reporting) i) (f .weight) (million - f .weight) ratio (omega arith) (rates .reporting i il)
         (omega (arith, rates .weight)) (rates .ratio) (near-of _ (paymentOver D) _ z (provision-near i il)) in
-        within-of _ (reserveOver D) _
+        rw (paid i il, provided i il)
+        (within-of _ (reserveOver D) _
         (is-mul (is-pos _) (is-add (is-mul (is-pos _) (is-mul (is-add (is-pos _) z) (is-pos _))) (is-mul (is-pos _) z)))
-        (near-same (omega arith) (omega arith) n)
+        (near-same (omega arith) (omega arith) n))
 
     -- the total of the reserves
-    pub reserves-near : Within (total (upTo (reserve f d r) (f .k + 1))) (sumTo (exactReserve f d D x (ratioOf f)) (f .k + 1)) (reserveOver D)
+    pub reserves-near : Within (total (upTo (reserve (f .k) ratio (f .weight) (f .reporting) c q) (f .k + 1))) (sumTo (exactReserve f d D x ratio) (f .k + 1)) (reserveOver D)
         (total (upTo (reserveAllowance f) (f .k + 1)))
     reserves-near =
-        within-sum (reserve f d r) (exactReserve f d D x (ratioOf f)) (reserveAllowance f) (reserveOver D) (f .k + 1) (λ i l. reserve-near i (omega arith))
+        within-sum (reserve (f .k) ratio (f .weight) (f .reporting) c q) (exactReserve f d D x ratio) (reserveAllowance f) (reserveOver D) (f .k + 1) (λ i h. reserve-near i (omega arith))

@@ -2,30 +2,30 @@
 use mathlib.Core.Path.{_≡_}
 use mathlib.Core.Bool.{true}
 use Prim.Native.Nat.{ℕ, _+_, _≤_}
+use mathlib.Core.List.{List}
 use native.Mathlib.Omega.{arith}
-use lib.IntN.{pos}
+use lib.IntN.{ℤ, pos}
 use lib.ListN.{take}
 use lib.Signed.{leZ}
 use Rattle.rules.specs.Lists.{total}
-use Rattle.rules.specs.Record.{million}
-use Rattle.rules.specs.Expense.{paidTotal, ulaeTotal, ratioPass, ratioOf, reportedAfter}
-use Rattle.rules.specs.declared.Figures.{Figures}
+use Rattle.rules.specs.Record.{Figures, million}
+use Rattle.rules.specs.Expense.{ratioPass, ratioOf, reportedAfter}
 use Rattle.laws.proofs.Signed.{part-most}
 use Rattle.laws.proofs.Totals.{rest-most}
 use Rattle.laws.proofs.Lists.{both-right}
 
 -- the three rates, as the reserve's law takes them
-pub record Rates (f : Figures) : Type 0 where
-  pub reporting : (i : ℕ) → i ≤ f .k → reportedAfter f i ≤ million
+pub record Rates (f : Figures) (p : ℕ) : Type 0 where
+  pub reporting : (i : ℕ) → i ≤ f .k → reportedAfter (f .k) (f .reporting) i ≤ million
   pub weight : f .weight ≤ million
-  pub ratio : ratioOf f ≤ million
+  pub ratio : p ≤ million
 
 -- the ratio, once question 12 has said yes
-pub ratio-most : (f : Figures) → ratioPass f ≡ true → ratioOf f ≤ million
+pub ratio-most : (paid : ℤ) (spent : ℕ) → ratioPass paid spent ≡ true → ratioOf paid spent ≤ million
 unfolding ratioPass ratioOf
-ratio-most f q12 = part-most million (ulaeTotal f) (paidTotal f) (both-right (leZ (pos 1) (paidTotal f)) (leZ (pos (ulaeTotal f)) (paidTotal f)) q12)
+ratio-most paid spent q12 = part-most million spent paid (both-right (leZ (pos 1) paid) (leZ (pos spent) paid) q12)
 
 -- what is reported after a year, where the reporting shares sum to M
-pub reported-most : (f : Figures) → total (take (f .k + 1) (f .reporting)) ≡ million → (i : ℕ) → i ≤ f .k → reportedAfter f i ≤ million
+pub reported-most : (k : ℕ) (b : List ℕ) → total (take (k + 1) b) ≡ million → (i : ℕ) → i ≤ k → reportedAfter k b i ≤ million
 unfolding reportedAfter
-reported-most f sum i le = rest-most (f .reporting) (f .k + 1) i million (omega arith) sum
+reported-most k b sum i le = rest-most b (k + 1) i million (omega arith) sum

@@ -7,8 +7,7 @@ use native.Mathlib.Numerals.{add-one}
 use native.Mathlib.Omega.{arith}
 use lib.ListN.{length, getD, set, take, drop, length-append}
 use lib.Seq.{sets, sets-eq, set-out, length-sets, take-suc, take-append-seam}
-use Rattle.rules.specs.Lists.{upTo}
-use Rattle.rules.specs.Results.{joined}
+use Rattle.rules.specs.Lists.{upTo, joined}
 use Rattle.laws.proofs.Joined.{sets-append, joined-more}
 use Rattle.composing.specs.Text.{Put}
 
@@ -21,10 +20,6 @@ sets-past (x ∷ xs) l i h = rw (set-out l i x h) (sets-past xs l (suc i) (omega
 pub put-none : (a : List ℕ) (i : ℕ) → Put a a i i []
 put-none a i = record { stored = refl; ended = omega arith }
 
--- one byte within the buffer, and one past its end
-pub put-one : (a : List ℕ) (i x : ℕ) → i < length a → Put a (set a i x) i (i + 1) (x ∷ [])
-put-one a i x h = record { stored = refl; ended = omega arith }
-
 pub put-past : (a : List ℕ) (i : ℕ) (xs : List ℕ) → length a ≤ i → Put a a i i xs
 put-past a i xs h = record { stored = sym (sets-past xs a i h); ended = omega arith }
 
@@ -35,14 +30,6 @@ put-same e p = rw e at p
 -- the buffer keeps its length
 pub put-length : {a b : List ℕ} {i j : ℕ} {xs : List ℕ} → Put a b i j xs → length b ≡ length a
 put-length {a} {b} {i} {j} {xs} p = ap length (p .stored) ∙ length-sets a i xs
-
--- the place after the text is within the buffer where the place that it starts from is
-pub put-within : {a b : List ℕ} {i j : ℕ} {xs : List ℕ} → Put a b i j xs → i ≤ length a → j ≤ length b
-put-within p h = omega (arith, p .ended, put-length p)
-
--- and not before the place that it starts from
-pub put-forward : {a b : List ℕ} {i j : ℕ} {xs : List ℕ} → Put a b i j xs → i ≤ j
-put-forward p = omega (arith, p .ended)
 
 -- where there is room for all of the text
 pub put-room : {a b : List ℕ} {i j : ℕ} {xs : List ℕ} → Put a b i j xs → i + length xs ≤ length a → j ≡ i + length xs
@@ -84,10 +71,6 @@ put-four p q r s = put-append p (put-three q r s)
 pub put-five : {a b c d e f : List ℕ} {h i j k l m : ℕ} {vs ws xs ys zs : List ℕ} → Put a b h i vs → Put b c i j ws → Put c d j k xs → Put d e k l ys
     → Put e f l m zs → Put a f h m (vs ++ (ws ++ (xs ++ (ys ++ zs))))
 put-five p q r s t = put-append p (put-four q r s t)
-
-pub put-six : {a b c d e f g : List ℕ} {h i j k l m n : ℕ} {us vs ws xs ys zs : List ℕ} → Put a b h i us → Put b c i j vs → Put c d j k ws
-    → Put d e k l xs → Put e f l m ys → Put f g m n zs → Put a g h n (us ++ (vs ++ (ws ++ (xs ++ (ys ++ zs)))))
-put-six p q r s t u = put-append p (put-five q r s t u)
 
 -- the turns of a loop: before the first, and one more
 pub put-first : (f : ℕ → List ℕ) (a : List ℕ) (i : ℕ) → Put a a i i (joined (upTo f 0))

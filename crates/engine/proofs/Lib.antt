@@ -1,4 +1,4 @@
 pub mod Questions
-pub mod Counts
-pub mod Figured
+pub mod Before
+pub mod Later
 pub mod Run

@@ -1,63 +1,56 @@
--- The questions of the figures: 6, then 7 to 10, the separation's, then 11 to 14. Assumes nothing.
-use Prim.Native.Nat.{ℕ}
-use mathlib.Core.Path.{_≡_, refl, sym}
+-- Questions asked one segment after another: what a function that asks them answers and leaves in the buffer. Assumes nothing.
+use Prim.Native.Nat.{ℕ, suc}
+use native.Mathlib.Omega.{arith}
+use mathlib.Core.Path.{_≡_, refl, sym, _∙_}
 use mathlib.Core.Bool.{Bool, true, false}
 use mathlib.Core.List.{List, [], _∷_, _++_}
+use lib.IntN.{ℤ}
+use lib.Seq.{sets}
 use Rattle.rules.specs.Lists.{every}
 use Rattle.rules.specs.Questions.{firstNo, afterCall}
-use Rattle.rules.specs.Triangle.{cumulativesPass}
-use Rattle.rules.specs.Separation.{totalsPass, restsPass, runningPass, levelsPass, separateAnswer}
-use Rattle.rules.specs.Results.{squareOf}
-use Rattle.rules.specs.Engine.{figureQuestions}
-use Rattle.rules.specs.declared.Figures.{Figures}
-use Rattle.laws.proofs.Questions.{yes-at, later-answer, first-answer}
-use Rattle.separation.proofs.Answers.{after-refusal}
-use Rattle.stages.specs.Stages.{laterQuestions}
+use Rattle.rules.specs.Record.{Figures}
+use Rattle.rules.specs.Results.{resultsOf}
+use Rattle.rules.specs.Separation.{separationQuestions}
+use Rattle.rules.specs.Engine.{completionQuestions, ratioQuestions, ladderQuestions, laterQuestions, figureQuestions}
+use Rattle.laws.proofs.Questions.{numbered, yes-said, later-answer, first-answer, after-refusal}
 use Rattle.results.proofs.Demanded.{Answered}
+use Rattle.engine.specs.Stages.{Answers}
 
--- a refusal by the number n, of a call whose answer is a
-pub refused : {A : Type 0} (a n : ℕ) (written held : A) → a ≡ n → (n ≡ 0 → ⊥) → (n ≡ a) × (held ≡ afterCall a written held)
-refused a n written held e h = (sym e, rw e (sym (after-refusal n written held h)))
+-- one question
+pub one-no : (n : ℕ) (b : Bool) → b ≡ false → firstNo ((n, b) ∷ []) ≡ n
+unfolding firstNo
+one-no n b e = rw e
 
--- an accepted call
-pub accepted : {A : Type 0} (a : ℕ) (written held : A) (left : A) → a ≡ 0 → left ≡ written → (0 ≡ a) × (left ≡ afterCall a written held)
-unfolding afterCall
-accepted a written held left e h = (sym e, rw e h)
+pub one-yes : (n : ℕ) (b : Bool) → b ≡ true → firstNo ((n, b) ∷ []) ≡ 0
+unfolding firstNo
+one-yes n b e = rw e
 
-module _ (f : Figures) where
-  -- questions 7 to 10
-  abbrev middle : List (ℕ × Bool)
-  middle =
-      (7, totalsPass (squareOf f) (f .k))
-      ∷ (8, restsPass (squareOf f) (f .k))
-      ∷ (9, runningPass (squareOf f) (f .k))
-      ∷ (10, levelsPass (squareOf f) (f .k))
-      ∷ []
+pub one-said : (n : ℕ) (b : Bool) → firstNo ((suc n, b) ∷ []) ≡ 0 → b ≡ true
+unfolding firstNo
+one-said n true h = refl
+one-said n false h = absurd (omega (arith, h))
 
-  -- question 6 says no
-  pub answer-six : cumulativesPass (f .k) (f .increments) ≡ false → firstNo (figureQuestions f) ≡ 6
-  unfolding figureQuestions firstNo
-  answer-six e = rw e
+module _ (f : Figures) (out : List ℤ) where
+  -- a refusal leaves the buffer
+  pub refused : (qs : List (ℕ × Bool)) (n : ℕ) → firstNo qs ≡ n → (n ≡ 0 → ⊥) → Answers qs f out out n
+  refused qs n e h = (sym e, rw e (sym (after-refusal n (sets out 0 (resultsOf f)) out h)))
 
-  module _ (six : cumulativesPass (f .k) (f .increments) ≡ true) where
-    -- question 6 says yes: the others give the answer
-    after-six : firstNo (figureQuestions f) ≡ firstNo (middle ++ laterQuestions f)
-    unfolding figureQuestions firstNo laterQuestions
-    after-six = rw six
+  -- an accepted run fills it
+  pub accepted : (qs : List (ℕ × Bool)) (left : List ℤ) → firstNo qs ≡ 0 → left ≡ sets out 0 (resultsOf f) → Answers qs f out left 0
+  unfolding afterCall
+  accepted qs left e h = (sym e, rw e h)
 
-    -- the separation is refused
-    pub answer-separation : (separateAnswer (squareOf f) (f .k) ≡ 0 → ⊥) → firstNo (figureQuestions f) ≡ separateAnswer (squareOf f) (f .k)
-    unfolding separateAnswer
-    answer-separation h = rw after-six (first-answer middle (laterQuestions f) h)
+  -- the first questions say no
+  pub first-refused : (qs rs : List (ℕ × Bool)) (n : ℕ) → firstNo qs ≡ n → (n ≡ 0 → ⊥) → Answers (qs ++ rs) f out out n
+  first-refused qs rs n e h = refused (qs ++ rs) n (first-answer qs rs (λ z. h (sym e ∙ z)) ∙ e) h
 
-    -- the separation is accepted
-    pub answer-later : separateAnswer (squareOf f) (f .k) ≡ 0 → firstNo (figureQuestions f) ≡ firstNo (laterQuestions f)
-    unfolding separateAnswer every
-    answer-later h = rw after-six (later-answer middle (laterQuestions f) refl h)
+  -- they say yes, and the others are asked
+  pub later : (qs rs : List (ℕ × Bool)) (left : List ℤ) (n : ℕ) → numbered qs ≡ true → firstNo qs ≡ 0 → Answers rs f out left n → Answers (qs ++ rs) f out left n
+  later qs rs left n k e h = rw (later-answer qs rs k e) h
 
-  -- what the third demand asks of an accepted run
-  pub answered : firstNo (figureQuestions f) ≡ 0 → Answered f
-  unfolding figureQuestions every
-  answered h =
-      let say = yes-at (figureQuestions f) refl h in
-      record { totals = say 1; rests = say 2; running = say 3; ratio = say 6 }
+-- what the third demand asks of an accepted run
+pub answered : (f : Figures) → firstNo (figureQuestions f) ≡ 0 → Answered f
+unfolding figureQuestions separationQuestions laterQuestions completionQuestions ratioQuestions ladderQuestions every
+answered f h =
+    let qs = figureQuestions f in
+    record { totals = yes-said 7 qs refl h; rests = yes-said 8 qs refl h; running = yes-said 9 qs refl h; ratio = yes-said 12 qs refl h }

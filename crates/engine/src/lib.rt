@@ -1,164 +1,214 @@
-// The engine: from a record to the result list, under questions 1 to 14.
-use entries::within;
-use layout::cells_of;
-use listing::put_development;
-use listing::put_projection;
-use listing::put_reserve;
+// The engine: from a record to the result list, under questions 1 to 14. It asks every question and works everything out before it writes.
+use completion::fill_levels;
+use entries::sum_of;
+use expense::put_reserves;
+use expense::ratio_of;
+use expense::ratio_passes;
+use ladder::development_factors;
+use listing::entries_of;
+use listing::put_completion;
+use listing::put_ladder;
 use listing::put_separation;
-use reading::has_last_year;
-use reading::has_length;
-use reading::in_ranges;
 use reading::last_year_of;
+use reading::opens;
 use reading::read;
-use reading::shares_sum;
-use rules::Factors;
-use rules::Figures;
+use rules::ACCEPTED;
 use separation::separate;
-use stages::Development;
-use stages::Projection;
-use stages::Reserve;
-use stages::develop;
-use stages::latest_of;
-use stages::project;
-use stages::reserve_of;
-use triangle::averages;
-use triangle::cumulatives;
-use triangle::cumulatives_pass;
+use triangle::fill_rows;
 ghost use mathlib.Core.Path.{_≡_};
-ghost use Prim.Native.Nat.{ℕ, _+_, _≤_, _<_};
+ghost use mathlib.Core.List.{_++_};
+ghost use Prim.Native.Nat.{_≤_};
 ghost use lib.ListN.{length};
 ghost use lib.Seq.{sets};
-ghost use Rattle.rules.specs.Questions.{firstNo, afterCall};
-ghost use Rattle.rules.specs.Record.{figuresOf};
-ghost use Rattle.rules.specs.Results.{resultsOf, resultCount};
-ghost use Rattle.rules.specs.Engine.{figureQuestions, holdsList, runAnswer, runInto};
+ghost use Rattle.rules.specs.Questions.{firstNo};
+ghost use Rattle.rules.specs.Record.{lastYearOf, figuresOf};
+ghost use Rattle.rules.specs.Reading.{openingQuestions, fieldQuestions};
+ghost use Rattle.rules.specs.Results.{resultCount};
+ghost use Rattle.rules.specs.Engine.{laterQuestions, figureQuestions, holdsList, runAnswer, runInto};
 ghost use Rattle.rules.specs.Demand.{ThirdDemand};
-ghost use Rattle.stages.specs.Stages.{Sound, laterQuestions, lastQuestions, Printable, allEntries, Settling, Separated};
-
-// The most of an ultimate.
-const MOST_ULTIMATE: u64 = 1_000_000_000_000;
+ghost use Rattle.reading.specs.Sound.{Sound};
+ghost use Rattle.engine.specs.Stages.{figures, Separated, Printable, printedList, Answers};
 
 // The whole list.
-fn put_results(
+fn put_results<'a>(
     out: &mut [i64],
+    k: usize,
     square: &[[i64; 16]; 16],
-    factors: Factors,
-    p: Projection,
-    e: Reserve,
-    d: Development,
+    shares: &'a [u64; 16],
+    levels: &'a [u64; 16],
+    ahead: &[u64; 16],
+    payments: &[u64; 120],
+    provisions: &[u64; 16],
+    paid: &[u64; 16],
+    reporting: &[u64; 16],
+    weight: u64,
+    ratio: u64,
+    factors: &[u64; 16],
+    completed: &[u64; 120],
 )
-    requires { ⌜ Printable factors p e d × (resultCount (factors .k) ≤ length (now out)) ⌝ }
-    ensures { λ _. ⌜ now (out .exit) ≡ sets (now (out .entry)) 0 (allEntries (now (square .entry)) factors p e d) ⌝ }
+    requires { ⌜ Printable k (now shares) (now levels) (now ahead) (now payments) (now provisions) (now paid) (now reporting) weight ratio (now factors) (now completed)
+        × (resultCount k ≤ length (now out)) ⌝ }
+    ensures { λ _. ⌜ now (out .exit)
+        ≡ sets (now (out .entry)) 0
+        (printedList k (now (square .entry)) (now (shares .entry)) (now (levels .entry)) (now (ahead .entry)) (now (payments .entry)) (now (provisions .entry)) (now (paid .entry))
+        (now (reporting .entry)) weight ratio (now (factors .entry)) (now (completed .entry))) ⌝ }
 {
-    let k = factors.k;
-    let shares = factors.shares;
-    let levels = factors.levels;
-    let ahead = p.levels;
-    let payments = p.payments;
-    let provisions = p.provisions;
-    let unreported = e.unreported;
-    let amounts = e.reserves;
-    let development = d.factors;
-    let completed = d.completed;
-    let a = put_separation(out, square, &shares, &levels, k);
-    let b = put_projection(out, a, &ahead, &payments, &provisions, k);
-    let c = put_reserve(out, b, &unreported, &amounts, e.ratio, k);
-    put_development(out, c, &development, &completed, k);
+    let a = put_separation(out, square, shares, levels, k);
+    let b = put_completion(out, a, ahead, payments, provisions, k);
+    let c = put_reserves(out, b, k, paid, provisions, reporting, weight, ratio);
+    put_ladder(out, c, factors, completed, k);
 }
 
-// Questions 12, 13 and 14, and the list where all say yes.
-fn settle(
-    f: Figures,
+// Questions 11 to 14 of figures whose separation was accepted, and the list where all say yes. The latest diagonal is the latest level.
+fn finish<'a>(
+    k: usize,
+    exposures: &[u64; 16],
+    increments: &[i64; 136],
+    indices: &[u64; 16],
+    reporting: &[u64; 16],
+    weight: u64,
+    ulae: &[u64; 16],
     square: &[[i64; 16]; 16],
-    factors: Factors,
-    p: Projection,
-    paid: &[u64; 136],
+    columns: &[u64; 16],
+    paid: &[u64; 16],
+    shares: &'a [u64; 16],
+    levels: &'a [u64; 16],
     out: &mut [i64],
 ) -> u64
-    requires { ⌜ Settling f (now square) factors p (now paid) × (resultCount (f .k) ≤ length (now out)) ⌝ }
-    ensures { λ r. ⌜ (r ≡ firstNo (lastQuestions f))
-        × (now (out .exit) ≡ afterCall (firstNo (lastQuestions f)) (sets (now (out .entry)) 0 (resultsOf f)) (now (out .entry))) ⌝ }
+    requires { ⌜ Separated (figures k (now exposures) (now increments) (now indices) (now reporting) weight (now ulae)) (now square) (now columns) (now paid) (now shares) (now levels)
+        × (resultCount k ≤ length (now out)) ⌝ }
+    ensures { λ r. ⌜ Answers (laterQuestions (figures k (now (exposures .entry)) (now (increments .entry)) (now (indices .entry)) (now (reporting .entry)) weight (now (ulae .entry))))
+        (figures k (now (exposures .entry)) (now (increments .entry)) (now (indices .entry)) (now (reporting .entry)) weight (now (ulae .entry))) (now (out .entry)) (now (out .exit)) r ⌝ }
 {
-    let k = f.k;
-    let increments = f.increments;
-    let reporting = f.reporting;
-    let ulae = f.ulae;
-    let sums = p.ultimates;
-    let provisions = p.provisions;
-    let e = reserve_of(
+    let n = k + 1;
+    let mut ahead = [0u64; 16];
+    let mut payments = [0u64; 120];
+    let mut provisions = [0u64; 16];
+    fill_levels(levels[k], indices, k, &mut ahead);
+    if !completion::complete(
         k,
-        &increments,
-        &reporting,
-        f.weight,
-        &ulae,
-        &sums,
-        &provisions,
-    );
-    if !e.pass {
-        return 12;
-    }
-    let d = develop(k, paid);
-    if d.answer != 0 {
-        return d.answer;
-    }
-    put_results(out, square, factors, p, e, d);
-    0
-}
-
-// Questions 11 to 14 of figures whose separation was accepted, and the list where all say yes.
-fn finish(f: Figures, square: &[[i64; 16]; 16], factors: Factors, out: &mut [i64]) -> u64
-    requires { ⌜ Separated f (now square) factors × (resultCount (f .k) ≤ length (now out)) ⌝ }
-    ensures { λ r. ⌜ (r ≡ firstNo (laterQuestions f))
-        × (now (out .exit) ≡ afterCall (firstNo (laterQuestions f)) (sets (now (out .entry)) 0 (resultsOf f)) (now (out .entry))) ⌝ }
-{
-    let k = f.k;
-    let exposures = f.exposures;
-    let indices = f.indices;
-    let increments = f.increments;
-    let shares = factors.shares;
-    let paid = cumulatives(k, &increments);
-    let p = project(
-        k,
-        &exposures,
-        &indices,
-        &paid,
-        &shares,
-        latest_of(square, k),
-    );
-    let sums = p.ultimates;
-    if !within(&sums, k + 1, 0, MOST_ULTIMATE) {
+        exposures,
+        shares,
+        &ahead,
+        paid,
+        &mut payments,
+        &mut provisions,
+    ) {
         return 11;
     }
-    settle(f, square, factors, p, &paid, out)
+    let total = sum_of(paid, n);
+    let spent = sum_of(ulae, n);
+    if !ratio_passes(total, spent) {
+        return 12;
+    }
+    let mut factors = [0u64; 16];
+    if !development_factors(k, columns, paid, &mut factors) {
+        return 13;
+    }
+    let mut completed = [0u64; 120];
+    if !ladder::complete(k, paid, &factors, &mut completed) {
+        return 14;
+    }
+    put_results(
+        out,
+        k,
+        square,
+        shares,
+        levels,
+        &ahead,
+        &payments,
+        &provisions,
+        paid,
+        reporting,
+        weight,
+        ratio_of(total, spent),
+        &factors,
+        &completed,
+    );
+    ACCEPTED
 }
 
 // Questions 6 to 14 of figures that have passed 4 and 5, and the list where all say yes.
-pub fn run_figures(f: Figures, out: &mut [i64]) -> u64
-    requires { ⌜ Sound f × (resultCount (f .k) ≤ length (now out)) ⌝ }
-    ensures { λ r. ⌜ (r ≡ firstNo (figureQuestions f))
-        × (now (out .exit) ≡ afterCall (firstNo (figureQuestions f)) (sets (now (out .entry)) 0 (resultsOf f)) (now (out .entry))) ⌝ }
+pub fn run_figures(
+    k: usize,
+    exposures: &[u64; 16],
+    increments: &[i64; 136],
+    indices: &[u64; 16],
+    reporting: &[u64; 16],
+    weight: u64,
+    ulae: &[u64; 16],
+    out: &mut [i64],
+) -> u64
+    requires { ⌜ Sound (figures k (now exposures) (now increments) (now indices) (now reporting) weight (now ulae)) × (resultCount k ≤ length (now out)) ⌝ }
+    ensures { λ r. ⌜ Answers (figureQuestions (figures k (now (exposures .entry)) (now (increments .entry)) (now (indices .entry)) (now (reporting .entry)) weight (now (ulae .entry))))
+        (figures k (now (exposures .entry)) (now (increments .entry)) (now (indices .entry)) (now (reporting .entry)) weight (now (ulae .entry))) (now (out .entry)) (now (out .exit)) r ⌝ }
 {
-    let k = f.k;
-    let exposures = f.exposures;
-    let increments = f.increments;
-    if !cumulatives_pass(k, &increments) {
+    let mut square = [[0i64; 16]; 16];
+    let mut columns = [0u64; 16];
+    let mut paid = [0u64; 16];
+    if !fill_rows(
+        k,
+        exposures,
+        increments,
+        &mut square,
+        &mut columns,
+        &mut paid,
+    ) {
         return 6;
     }
-    let square = averages(k, &exposures, &increments);
-    let s = separate(&square, k);
-    if s.answer != 0 {
-        return s.answer;
+    let separation = separate(&square, k);
+    if separation.answer != ACCEPTED {
+        return separation.answer;
     }
-    let factors = s.factors;
-    finish(f, &square, factors, out)
+    let factors = separation.factors;
+    finish(
+        k,
+        exposures,
+        increments,
+        indices,
+        reporting,
+        weight,
+        ulae,
+        &square,
+        &columns,
+        &paid,
+        &factors.shares,
+        &factors.levels,
+        out,
+    )
 }
 
-// How many entries the result list has.
-pub fn results_of(k: usize) -> usize
-    requires { ⌜ k < 16 ⌝ }
-    ensures { λ r. ⌜ r ≡ resultCount k ⌝ }
+// Questions 4 to 14 of a record that has passed 1, 2 and 3, and the list where all say yes.
+fn run_record(packed: &[u8], out: &mut [i64]) -> u64
+    requires { ⌜ (firstNo (openingQuestions (now packed)) ≡ 0) × (resultCount (lastYearOf (now packed)) ≤ length (now out)) ⌝ }
+    ensures { λ r. ⌜ Answers (fieldQuestions (now (packed .entry)) ++ figureQuestions (figuresOf (now (packed .entry)))) (figuresOf (now (packed .entry))) (now (out .entry)) (now (out .exit)) r ⌝ }
 {
-    3 * cells_of(k) + 5 * k + 6
+    let mut exposures = [0u64; 16];
+    let mut increments = [0i64; 136];
+    let mut indices = [0u64; 16];
+    let mut reporting = [0u64; 16];
+    let mut ulae = [0u64; 16];
+    let opened = read(
+        packed,
+        &mut exposures,
+        &mut increments,
+        &mut indices,
+        &mut reporting,
+        &mut ulae,
+    );
+    if opened.answer != ACCEPTED {
+        return opened.answer;
+    }
+    run_figures(
+        last_year_of(packed),
+        &exposures,
+        &increments,
+        &indices,
+        &reporting,
+        opened.weight,
+        &ulae,
+        out,
+    )
 }
 
 // Question 3.
@@ -166,7 +216,7 @@ fn holds_list(s: &[u8], m: usize) -> bool
     requires { ⌜ 1 ≤ length (now s) ⌝ }
     ensures { λ r. ⌜ r ≡ holdsList (now (s .entry)) m ⌝ }
 {
-    results_of(last_year_of(s)) <= m
+    entries_of(last_year_of(s)) <= m
 }
 
 // Fills the result list of the record and answers 0, or leaves the buffer and answers the number of the first of questions 1 to 14 that says no.
@@ -177,22 +227,12 @@ pub extern "C" fn doonamurk_run(packed: &[u8], results: &mut [i64]) -> u64
         × ((now (results .exit) ≡ runInto (now (packed .entry)) (now (results .entry)))
         × (r ≡ 0 → ThirdDemand (figuresOf (now (packed .entry))) (now (results .exit)))) ⌝ }
 {
-    if !has_last_year(packed) {
-        return 1;
-    }
-    if !has_length(packed) {
-        return 2;
+    let answer = opens(packed);
+    if answer != ACCEPTED {
+        return answer;
     }
     if !holds_list(packed, results.len()) {
         return 3;
     }
-    let r = read(packed);
-    if !in_ranges(r) {
-        return 4;
-    }
-    let f = r.figures;
-    if !shares_sum(f) {
-        return 5;
-    }
-    run_figures(f, results)
+    run_record(packed, results)
 }

@@ -1,86 +1,76 @@
-// The ULAE reserve by the New York method: the ratio, what is not yet reported, and the reserve.
+// The ULAE reserve by the New York method: the ratio under question 12, what is not yet reported, and the reserve.
+use entries::put_natural;
+use rules::MILLION;
 ghost use mathlib.Core.Path.{_≡_};
-ghost use Prim.Native.Nat.{ℕ, _+_, _-_, _*_, _/_, _≤_, _<_};
-ghost use lib.IntN.{pos, natAbs};
-ghost use lib.ListN.{getD};
+ghost use Prim.Native.Nat.{_+_, _*_, _≤_};
+ghost use lib.IntN.{pos};
+ghost use lib.ListN.{length};
+ghost use lib.Seq.{sets};
+ghost use Rattle.rules.specs.Lists.{upTo, joined};
 ghost use Rattle.rules.specs.Record.{million};
-ghost use Rattle.rules.specs.Triangle.{sumTo};
-ghost use Rattle.expense.specs.Rows.{reportedList, notReportedList, reserveList};
+ghost use Rattle.rules.specs.Completion.{mostUltimate};
+ghost use Rattle.rules.specs.Expense.{ratioPass, ratioOf, notReported, reserveOf, reserve};
+ghost use Rattle.rules.specs.Results.{reserveSections};
+ghost use Rattle.expense.specs.Reservable.{Reservable};
 
-// The total of the first `count` increments.
-pub fn paid_total(increments: &[i64; 136], count: usize) -> i64
-    requires { ⌜ (count ≤ 136) × ((i : ℕ) → natAbs (getD (now increments) i (pos 0)) ≤ 10000000000) ⌝ }
-    ensures { λ r. ⌜ (r ≡ sumTo (λ c. getD (now (increments .entry)) c (pos 0)) count) × (natAbs r ≤ 1360000000000) ⌝ }
+// Question 12, of the total paid and the total of the ULAE.
+pub fn ratio_passes(paid: u64, spent: u64) -> bool
+    ensures { λ r. ⌜ r ≡ ratioPass (pos paid) spent ⌝ }
 {
-    let mut sum: i64 = 0;
-    for c in 0..count {
-        sum += increments[c];
+    if paid < 1 {
+        return false;
     }
-    sum
+    spent <= paid
 }
 
 // The ratio p: the ULAE totals over the paid total, in millionths.
-pub fn ratio_of(ulae: u64, paid: u64) -> u64
-    requires { ⌜ (1 ≤ paid) × (ulae ≤ 160000000000) ⌝ }
-    ensures { λ r. ⌜ r ≡ million * ulae / paid ⌝ }
+pub fn ratio_of(paid: u64, spent: u64) -> u64
+    requires { ⌜ (1 ≤ paid) × (spent ≤ 160000000000) ⌝ }
+    ensures { λ r. ⌜ r ≡ ratioOf (pos paid) spent ⌝ }
 {
-    1_000_000 * ulae / paid
-}
-
-// B_0 to B_k, each from the one before it.
-pub fn reported_after(k: usize, reporting: &[u64; 16]) -> [u64; 16]
-    requires { ⌜ (k < 16) × ((i : ℕ) → getD (now reporting) i 0 ≤ 1000000) ⌝ }
-    ensures { λ r. ⌜ r ≡ reportedList k (now (reporting .entry)) ⌝ }
-{
-    let mut sums = [0u64; 16];
-    let mut sum: u64 = 0;
-    for i in 0..k {
-        sum += reporting[k - i];
-        sums[i + 1] = sum;
-    }
-    sums
-}
-
-// N_0 to N_k.
-pub fn not_reported(k: usize, ultimates: &[u64; 16], reported: &[u64; 16]) -> [u64; 16]
-    requires { ⌜ (k < 16) × (((i : ℕ) → getD (now ultimates) i 0 ≤ 1000000000000) × ((i : ℕ) → getD (now reported) i 0 ≤ 1000000)) ⌝ }
-    ensures { λ r. ⌜ r ≡ notReportedList k (now (ultimates .entry)) (now (reported .entry)) ⌝ }
-{
-    let mut amounts = [0u64; 16];
-    let n = k + 1;
-    for i in 0..n {
-        amounts[i] = ultimates[i] * reported[i] / 1_000_000;
-    }
-    amounts
+    MILLION * spent / paid
 }
 
 // The reserve of a row, from what is not yet reported and the provision.
 fn reserve_of(ratio: u64, weight: u64, not_reported: u64, provision: u64) -> u64
-    requires { ⌜ (ratio ≤ 1000000) × ((weight ≤ 1000000) × ((«not_reported» ≤ 1000000000000) × (provision ≤ 1000000000000))) ⌝ }
-    ensures { λ r. ⌜ r ≡ ratio * ((weight * «not_reported» + (million - weight) * provision) / million) / million ⌝ }
+    requires { ⌜ (ratio ≤ million) × ((weight ≤ million) × ((«not_reported» ≤ mostUltimate) × (provision ≤ mostUltimate))) ⌝ }
+    ensures { λ r. ⌜ (r ≡ reserveOf ratio weight «not_reported» provision) × (r ≤ mostUltimate) ⌝ }
 {
-    let weighted = (weight * not_reported + (1_000_000 - weight) * provision) / 1_000_000;
-    ratio * weighted / 1_000_000
+    let weighted = (weight * not_reported + (MILLION - weight) * provision) / MILLION;
+    ratio * weighted / MILLION
 }
 
-// Q_0 to Q_k.
-pub fn reserves(
+// What is not yet reported, the reserves, their total and the ratio go into the list from place `at` on; answers the place after them.
+pub fn put_reserves(
+    out: &mut [i64],
+    at: usize,
     k: usize,
-    ratio: u64,
-    weight: u64,
-    not_reported: &[u64; 16],
+    paid: &[u64; 16],
     provisions: &[u64; 16],
-) -> [u64; 16]
-    requires { ⌜ (k < 16)
-        × ((ratio ≤ 1000000)
-        × ((weight ≤ 1000000)
-        × (((i : ℕ) → getD (now «not_reported») i 0 ≤ 1000000000000) × ((i : ℕ) → getD (now provisions) i 0 ≤ 1000000000000)))) ⌝ }
-    ensures { λ r. ⌜ r ≡ reserveList k ratio weight (now («not_reported» .entry)) (now (provisions .entry)) ⌝ }
+    reporting: &[u64; 16],
+    weight: u64,
+    ratio: u64,
+) -> usize
+    requires { ⌜ Reservable k (now paid) (now provisions) (now reporting) weight ratio × (at + 2 * (k + 1) + 2 ≤ length (now out)) ⌝ }
+    ensures { λ r. ⌜ (r ≡ at + 2 * (k + 1) + 2)
+        × (now (out .exit)
+        ≡ sets (now (out .entry)) at
+        (joined
+        (reserveSections (upTo (notReported k (now (reporting .entry)) (now (paid .entry)) (now (provisions .entry))) (k + 1))
+        (upTo (reserve k ratio weight (now (reporting .entry)) (now (paid .entry)) (now (provisions .entry))) (k + 1)) ratio))) ⌝ }
 {
-    let mut amounts = [0u64; 16];
     let n = k + 1;
+    let mut after: u64 = 0;
+    let mut total: u64 = 0;
     for i in 0..n {
-        amounts[i] = reserve_of(ratio, weight, not_reported[i], provisions[i]);
+        let provision = provisions[i];
+        let open = (paid[i] + provision) * after / MILLION;
+        let amount = reserve_of(ratio, weight, open, provision);
+        out[at + i] = open as i64;
+        out[at + n + i] = amount as i64;
+        total += amount;
+        after += reporting[k - i];
     }
-    amounts
+    let end = put_natural(out, at + 2 * n, total);
+    put_natural(out, end, ratio)
 }

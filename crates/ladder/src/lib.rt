@@ -1,101 +1,68 @@
 // The chain ladder: development factors, and the cumulatives completed by them, under questions 13 and 14.
+use rules::MILLION;
+use rules::MOST_CUMULATIVE;
+use rules::MOST_FACTOR;
 ghost use mathlib.Core.Path.{_≡_};
-ghost use mathlib.Core.Bool.{true};
-ghost use Prim.Native.Nat.{ℕ, suc, _+_, _-_, _≤_, _<_};
+ghost use Prim.Native.Nat.{ℕ, _+_, _≤_, _<_};
 ghost use lib.Dec.{leb};
 ghost use lib.ListN.{getD};
 ghost use lib.Seq.{sets};
 ghost use Rattle.rules.specs.Lists.{upTo, every};
-ghost use Rattle.ladder.specs.Rows.{columnSum, ladderPass, ladderFactors, carriedOn, allPass, allCompleted};
+ghost use Rattle.rules.specs.Triangle.{mostCumulative};
+ghost use Rattle.rules.specs.Ladder.{developmentFactor, mostFactor, factorPasses, factorsPass, completedRow, completedAll, completedPass};
+ghost use Rattle.entries.specs.Leading.{leading, passing};
+ghost use Rattle.ladder.specs.Columns.{developedIn, baseIn, Ladderable};
 
-// The most of a cumulative, and of a development factor.
-const MOST_CUMULATIVE: u64 = 100_000_000_000;
-
-const MOST_FACTOR: u64 = 50_000_000;
-
-// The development factors m_0 to m_{k-1}, and whether question 13 says yes.
-pub struct Ladder {
-    pub pass: bool,
-    pub factors: [u64; 16],
-}
-
-// The completed cumulatives by row, and whether question 14 says yes.
-pub struct Completed {
-    pub pass: bool,
-    pub cumulatives: [u64; 120],
-}
-
-// The sum of a column over some rows, and over all of them but the last.
-pub struct Sums {
-    pub all: u64,
-    pub shorter: u64,
-}
-
-// The sums of column j of the cumulatives over the first rows.
-fn column_sums(k: usize, cumulatives: &[u64; 136], j: usize, rows: usize) -> Sums
-    requires { ⌜ (k < 16) × ((rows + j ≤ k + 1) × ((i : ℕ) → getD (now cumulatives) i 0 ≤ 100000000000)) ⌝ }
-    ensures { λ r. ⌜ (r .all ≡ columnSum k (now (cumulatives .entry)) j rows)
-        × ((r .all ≤ 1600000000000) × (r .shorter ≡ columnSum k (now (cumulatives .entry)) j (rows - 1))) ⌝ }
+// The development factors go into the list, as far as question 13 says yes. The sum of a column but for its latest cumulative is the base B of its year,
+// and the sum of the next column the sum A.
+pub fn development_factors(
+    k: usize,
+    columns: &[u64; 16],
+    paid: &[u64; 16],
+    factors: &mut [u64; 16],
+) -> bool
+    requires { ⌜ Ladderable k (now columns) (now paid) ⌝ }
+    ensures { λ r. ⌜ (r ≡ factorsPass k (developedIn (now (columns .entry))) (baseIn k (now (columns .entry)) (now (paid .entry))))
+        × (now (factors .exit)
+        ≡ sets (now (factors .entry)) 0
+        (upTo (λ h. developmentFactor (developedIn (now (columns .entry)) h) (baseIn k (now (columns .entry)) (now (paid .entry)) h))
+        (leading (λ h. factorPasses (developedIn (now (columns .entry)) h) (baseIn k (now (columns .entry)) (now (paid .entry)) h)) k))) ⌝ }
 {
-    let mut all: u64 = 0;
-    let mut shorter: u64 = 0;
-    let mut at: usize = 0;
-    for i in 0..rows {
-        shorter = all;
-        all += cumulatives[at + j];
-        at += k + 1 - i;
-    }
-    Sums { all, shorter }
-}
-
-// The development factors, as far as question 13 says yes. The rows of a year's base are those of the year before but the last.
-pub fn development_factors(k: usize, cumulatives: &[u64; 136]) -> Ladder
-    requires { ⌜ (k < 16) × ((i : ℕ) → getD (now cumulatives) i 0 ≤ 100000000000) ⌝ }
-    ensures { λ r. ⌜ (r .pass ≡ ladderPass k (now (cumulatives .entry))) × (r .pass ≡ true → r .factors ≡ ladderFactors k (now (cumulatives .entry))) ⌝ }
-{
-    let mut factors = [0u64; 16];
-    let mut base = column_sums(k, cumulatives, 0, k).all;
     for h in 0..k {
+        let base = columns[h] - paid[k - h];
         if base < 1 {
-            return Ladder {
-                pass: false,
-                factors,
-            };
+            return false;
         }
-        let next = column_sums(k, cumulatives, h + 1, k - h);
-        let factor = 1_000_000 * next.all / base;
+        let factor = MILLION * columns[h + 1] / base;
         if factor > MOST_FACTOR {
-            return Ladder {
-                pass: false,
-                factors,
-            };
+            return false;
         }
         factors[h] = factor;
-        base = next.shorter;
     }
-    Ladder {
-        pass: true,
-        factors,
-    }
+    true
 }
 
-// The cumulatives of a row past the diagonal go into the list from place `at` on, as far as each is within the most.
+// The cumulatives of row i past the diagonal go into the list from place `at` on, as far as each is within the most.
 fn put_row(
     all: &mut [u64; 120],
     at: usize,
-    latest: u64,
+    paid: &[u64; 16],
     factors: &[u64; 16],
-    first: usize,
-    count: usize,
+    k: usize,
+    i: usize,
 ) -> bool
-    requires { ⌜ (latest ≤ 100000000000)
-        × (((i : ℕ) → getD (now factors) i 0 ≤ 50000000) × ((first + count ≤ 16) × ((count ≤ 15) × (at + count ≤ 120)))) ⌝ }
-    ensures { λ r. ⌜ (r ≡ every (λ a. leb a 100000000000) (upTo (λ t. carriedOn (now (factors .entry)) latest first (suc t)) count))
-        × (r ≡ true → now (all .exit) ≡ sets (now (all .entry)) at (upTo (λ t. carriedOn (now (factors .entry)) latest first (suc t)) count)) ⌝ }
+    requires { ⌜ (k < 16)
+        × ((i ≤ k)
+        × ((at + i ≤ 120)
+        × (((i : ℕ) → getD (now paid) i 0 ≤ mostCumulative) × ((h : ℕ) → getD (now factors) h 0 ≤ mostFactor)))) ⌝ }
+    ensures { λ r. ⌜ (r ≡ every (λ x. leb x mostCumulative) (completedRow k (now (paid .entry)) (now (factors .entry)) i))
+        × (now (all .exit)
+        ≡ sets (now (all .entry)) at (passing (λ x. leb x mostCumulative) (completedRow k (now (paid .entry)) (now (factors .entry)) i))) ⌝ }
 {
-    let mut a = latest;
-    for t in 0..count {
-        a = a * factors[first + t] / 1_000_000;
+    let mut a = paid[i];
+    let first = k - i;
+    for t in 0..i {
+        a = a * factors[first + t] / MILLION;
         if a > MOST_CUMULATIVE {
             return false;
         }
@@ -104,30 +71,21 @@ fn put_row(
     true
 }
 
-// The completed cumulatives of all rows, as far as question 14 says yes.
-pub fn complete(k: usize, cumulatives: &[u64; 136], factors: &[u64; 16]) -> Completed
+// The completed cumulatives of all rows go into the list, as far as question 14 says yes.
+pub fn complete(k: usize, paid: &[u64; 16], factors: &[u64; 16], all: &mut [u64; 120]) -> bool
     requires { ⌜ (k < 16)
-        × (((i : ℕ) → getD (now cumulatives) i 0 ≤ 100000000000) × ((i : ℕ) → getD (now factors) i 0 ≤ 50000000)) ⌝ }
-    ensures { λ r. ⌜ (r .pass ≡ allPass k (now (cumulatives .entry)) (now (factors .entry)))
-        × (r .pass ≡ true → r .cumulatives ≡ allCompleted k (now (cumulatives .entry)) (now (factors .entry))) ⌝ }
+        × (((i : ℕ) → getD (now paid) i 0 ≤ mostCumulative) × ((h : ℕ) → getD (now factors) h 0 ≤ mostFactor)) ⌝ }
+    ensures { λ r. ⌜ (r ≡ completedPass (completedAll k (now (paid .entry)) (now (factors .entry))))
+        × (now (all .exit)
+        ≡ sets (now (all .entry)) 0 (passing (λ x. leb x mostCumulative) (completedAll k (now (paid .entry)) (now (factors .entry))))) ⌝ }
 {
-    let mut all = [0u64; 120];
-    let mut row: usize = 0;
     let mut at: usize = 0;
     let n = k + 1;
     for i in 0..n {
-        let latest = cumulatives[row + (k - i)];
-        if !put_row(&mut all, at, latest, factors, k - i, i) {
-            return Completed {
-                pass: false,
-                cumulatives: all,
-            };
+        if !put_row(all, at, paid, factors, k, i) {
+            return false;
         }
-        row += n - i;
         at += i;
     }
-    Completed {
-        pass: true,
-        cumulatives: all,
-    }
+    true
 }

@@ -1,19 +1,17 @@
 -- Rows one after another in a list: the runs of stores that put them into an array, where each row starts, and its entries. Assumes nothing.
-use mathlib.Core.Path.{_≡_, refl, sym, _∙_}
-use mathlib.Core.List.{List, [], _∷_, _++_, append-nil, append-assoc}
+use mathlib.Core.Path.{_≡_, refl, sym, _∙_, ap}
+use mathlib.Core.List.{List, [], _∷_, _++_, append-nil, append-assoc, map, map-append}
 use Prim.Native.Nat.{ℕ, zero, suc, _+_, _-_, _≤_, _<_}
 use native.Mathlib.Decide.{decLt, ℕ-discrete}
 use native.Mathlib.Nat.{not-suc-le-zero, sub-zero}
 use native.Mathlib.Numerals.{add-one}
 use native.Mathlib.Omega.{arith}
 use lib.Dec.{lit≤}
-use lib.ListN.{length, getD, set, replicate, length-append, List·getD-append, List·getD-eq-default}
-use lib.Seq.{sets, getD-append-add}
-use Rattle.rules.specs.Lists.{total, upTo, padded}
+use lib.ListN.{length, getD, set, replicate, length-append, List·getD-append, List·getD-eq-default, take, length-map, drop}
+use lib.Seq.{sets, getD-append-add, set-comm, sets-eq, take-at}
+use Rattle.rules.specs.Lists.{total, upTo, padded, joined}
 use Rattle.rules.specs.Record.{cells}
-use Rattle.rules.specs.Triangle.{rowStart}
-use Rattle.rules.specs.Results.{joined}
-use Rattle.rules.specs.Demand.{futureStart}
+use Rattle.rules.specs.Triangle.{rowStart, futureStart}
 use Rattle.laws.proofs.Lists.{length-upTo, getD-upTo, padded-more}
 use Rattle.laws.proofs.Padded.{same-all}
 use Rattle.laws.proofs.Totals.{total-more, total-part}
@@ -30,6 +28,35 @@ pub sets-more : {A : Type 0} (f : ℕ → A) (l : List A) (at n : ℕ) → set (
 unfolding upTo
 sets-more f l at n = rw (add-one n) (sets-append (upTo f n) (f n ∷ []) l at (at + n) (omega (arith, length-upTo f n)))
 
+-- one store more from the start of a list on
+pub first-more : {A : Type 0} (f : ℕ → A) (l : List A) (n : ℕ) → set (sets l 0 (upTo f n)) n (f n) ≡ sets l 0 (upTo f (n + 1))
+first-more f l n = let e : 0 + n ≡ n = omega arith in rw e at (sets-more f l 0 n)
+
+-- one store more of a function of each value
+pub sets-next : {A B : Type 0} (g : B → A) (f : ℕ → B) (l : List A) (i : ℕ) → set (sets l 0 (map g (upTo f i))) i (g (f i)) ≡ sets l 0 (map g (upTo f (i + 1)))
+unfolding upTo
+sets-next g f l i =
+    rw (add-one i, map-append g (upTo f i) (f i ∷ []))
+    (sets-append (map g (upTo f i)) (g (f i) ∷ []) l 0 i (omega (arith, length-map (upTo f i) g, length-upTo f i)))
+
+-- a store before a run of stores
+pub set-sets : {A : Type 0} (l : List A) (i : ℕ) (x : A) (b : ℕ) (ys : List A) → i < b → set (sets l b ys) i x ≡ sets (set l i x) b ys
+set-sets l i x b [] h = refl
+set-sets l i x b (y ∷ ys) h =
+    set-sets (set l b y) i x (suc b) ys (omega arith) ∙ rw (set-comm l b i y x (λ (e : b ≡ i). absurd (omega arith)))
+
+-- one store more in each of two runs of n
+pub both-more : {A : Type 0} (f g : ℕ → A) (l : List A) (at n i : ℕ) → i < n
+    → set (set (sets (sets l at (upTo f i)) (at + n) (upTo g i)) (at + i) (f i)) (at + n + i) (g i)
+    ≡ sets (sets l at (upTo f (i + 1))) (at + n) (upTo g (i + 1))
+both-more f g l at n i h =
+    rw (set-sets (sets l at (upTo f i)) (at + i) (f i) (at + n) (upTo g i) (omega arith), sets-more f l at i)
+    (sets-more g (sets l at (upTo f (i + 1))) (at + n) i)
+
+-- what was stored first in a list is found there again
+pub take-sets : {A : Type 0} (l xs : List A) (n : ℕ) → length xs ≡ n → n ≤ length l → take n (sets l 0 xs) ≡ xs
+take-sets l xs n e h = ap (take n) (sets-eq xs l 0 (omega arith)) ∙ take-at xs (drop (0 + length xs) l) n e
+
 -- a run of stores where a list in an array ends
 pub sets-padded : {A : Type 0} (m : ℕ) (z : A) (xs ys : List A) (n : ℕ) → length xs ≡ n → n + length ys ≤ m
     → sets (padded m z xs) n ys ≡ padded m z (xs ++ ys)
@@ -38,27 +65,31 @@ sets-padded m z xs (y ∷ ys) n e h =
     rw (padded-more m z xs y n e (omega arith), ← append-assoc xs (y ∷ []) ys)
     (sets-padded m z (xs ++ (y ∷ [])) ys (suc n) (omega (arith, length-append xs (y ∷ []))) (omega arith))
 
+-- an array of z holds nothing yet
+nothing-filled : {A : Type 0} (m : ℕ) (z : A) → padded m z [] ≡ replicate m z
+unfolding padded
+nothing-filled m z = rw sub-zero
+
+-- a run of stores into an array of z from its start on
+pub sets-filled : {A : Type 0} (m : ℕ) (z : A) (ys : List A) → length ys ≤ m → sets (replicate m z) 0 ys ≡ padded m z ys
+sets-filled m z ys h = rw (nothing-filled m z) at (sets-padded m z [] ys 0 refl (omega arith))
+
+-- rows, and then others
+pub joined-both : {A : Type 0} (xss yss : List (List A)) → joined (xss ++ yss) ≡ joined xss ++ joined yss
+unfolding joined
+joined-both [] yss = refl
+joined-both (xs ∷ xss) yss = rw (joined-both xss yss) (sym (append-assoc xs (joined xss) (joined yss)))
+
 -- one row more at the end
 pub joined-append : {A : Type 0} (xss : List (List A)) (xs : List A) → joined (xss ++ (xs ∷ [])) ≡ joined xss ++ xs
 unfolding joined
-joined-append [] xs = append-nil xs
-joined-append (ys ∷ xss) xs = rw (joined-append xss xs) (sym (append-assoc ys (joined xss) xs))
+joined-append xss xs = rw (joined-both xss (xs ∷ []), append-nil xs)
 
 module _ {A : Type 0} (f : ℕ → List A) where
   -- the rows 0 to n
   pub joined-more : (n : ℕ) → joined (upTo f (suc n)) ≡ joined (upTo f n) ++ f n
   unfolding upTo
   joined-more n = joined-append (upTo f n) (f n)
-
-  -- an array before the first row
-  pub rows-none : (m : ℕ) (z : A) → replicate m z ≡ padded m z (joined (upTo f 0))
-  unfolding padded upTo joined
-  rows-none m z = rw sub-zero
-
-  -- the stores of row n
-  pub rows-more : (m : ℕ) (z : A) (n at : ℕ) → length (joined (upTo f n)) ≡ at → at + length (f n) ≤ m
-      → sets (padded m z (joined (upTo f n))) at (f n) ≡ padded m z (joined (upTo f (n + 1)))
-  rows-more m z n at e h = rw (add-one n, joined-more n) (sets-padded m z (joined (upTo f n)) (f n) at e h)
 
   -- as many entries as the rows have together
   length-more : (n : ℕ) → length (joined (upTo f (suc n))) ≡ length (joined (upTo f n)) + length (f n)

@@ -1,16 +1,16 @@
 -- Laws of the rules' words for lists: `upTo`, `padded`, `total` and `every`. Assumes nothing.
 use mathlib.Core.Path.{_≡_, refl, sym, ap, ap₂, _∙_}
 use mathlib.Core.Bool.{Bool, true, false, _&&_, and-assoc, and-false}
-use mathlib.Core.List.{List, [], _∷_, _++_}
+use mathlib.Core.List.{List, [], _∷_, _++_, map, append-nil, map-append, append-assoc}
 use Prim.Native.Nat.{ℕ, zero, suc, _+_, _-_, _*_, _≤_, _<_, zero-le}
-use native.Mathlib.Decide.{decLt}
-use native.Mathlib.Nat.{not-suc-le-zero}
+use native.Mathlib.Decide.{decLt, ℕ-discrete}
+use native.Mathlib.Nat.{not-suc-le-zero, add-zero, add-suc}
 use native.Mathlib.Numerals.{add-one}
 use native.Mathlib.Omega.{arith}
 use borrow.Author.Tests.{leb-true}
 use lib.Dec.{leb}
-use lib.ListN.{length, getD, set, take, replicate, length-append, List·getD-append}
-use lib.Seq.{getD-at, set-at, append-snoc, take-nil, take-suc}
+use lib.ListN.{length, getD, set, take, replicate, length-append, List·getD-append, length-set}
+use lib.Seq.{getD-at, set-at, append-snoc, take-nil, take-suc, ext-getD, getD-set-same, take-at, getD-set-other}
 use Rattle.rules.specs.Lists.{total, upTo, below, padded, every, between}
 
 -- n values
@@ -114,17 +114,6 @@ at-most least most (x ∷ xs) h (suc i) = at-most least most xs (both-right (bet
 pub every-upTo : {A : Type 0} (p : A → Bool) (f : ℕ → A) (n i : ℕ) → every p (upTo f n) ≡ true → i < n → p (f i) ≡ true
 every-upTo p f n i e h = rw (getD-upTo f n i (f i) h) at (every-at p (upTo f n) i (f i) (rw (length-upTo f n) h) e)
 
--- the numbers below n, one by one
-module _ (p : ℕ → Bool) where
-  -- one number more
-  pub below-more : (n : ℕ) → every p (below n) ≡ true → p n ≡ true → every p (below (n + 1)) ≡ true
-  unfolding upTo every
-  below-more n h e = rw (add-one n, every-append p (upTo (λ i. i) n) (n ∷ []), h, e)
-
-  -- one number that fails
-  pub below-fails : (n i : ℕ) → i < n → p i ≡ false → every p (below n) ≡ false
-  below-fails n i l e = every-fails p (below n) i 0 (rw (length-upTo (λ (j : ℕ). j) n) l) (rw (getD-upTo (λ (j : ℕ). j) n i 0 l) e)
-
 -- two answers that are yes together
 pub same-answer : (a b : Bool) → (a ≡ true → b ≡ true) → (b ≡ true → a ≡ true) → a ≡ b
 same-answer true b f g = sym (f refl)
@@ -147,3 +136,60 @@ pub every-yes : {A : Type 0} (p : A → Bool) (f : ℕ → A) (n : ℕ) → ((i 
 unfolding every upTo
 every-yes p f zero e = refl
 every-yes p f (suc n) e = rw (every-append p (upTo f n) (f n ∷ []), every-yes p f n (λ i l. e i (omega arith)), e n (omega arith))
+
+-- the first n values, and the m after them
+pub upTo-both : {A : Type 0} (f : ℕ → A) (n m : ℕ) → upTo f (n + m) ≡ upTo f n ++ upTo (λ i. f (n + i)) m
+unfolding upTo
+upTo-both f n zero = rw (add-zero n) (sym (append-nil (upTo f n)))
+upTo-both f n (suc m) = rw (add-suc n m, upTo-both f n m) (append-assoc (upTo f n) (upTo (λ i. f (n + i)) m) (f (n + m) ∷ []))
+
+-- value i and those before it, and the others
+pub upTo-at : {A : Type 0} (f : ℕ → A) (n i : ℕ) → i < n → upTo f n ≡ upTo f (suc i) ++ upTo (λ j. f (suc i + j)) (n - suc i)
+upTo-at f n i h =
+    let e : n ≡ suc i + (n - suc i) = omega arith in
+    ap (upTo f) e ∙ upTo-both f (suc i) (n - suc i)
+
+-- a list is its entries
+pub upTo-self : {A : Type 0} (l : List A) (n : ℕ) (d : A) → length l ≡ n → upTo (λ i. getD l i d) n ≡ l
+upTo-self l n d e =
+    ext-getD d _ l (length-upTo _ n ∙ sym e) (λ i h. getD-upTo (λ i. getD l i d) n i d (omega (arith, length-upTo (λ i. getD l i d) n)))
+
+-- value i set anew, the others kept
+pub set-upTo : {A : Type 0} (f g : ℕ → A) (n i : ℕ) → i < n → ((j : ℕ) → (j ≡ i → ⊥) → f j ≡ g j) → set (upTo f n) i (g i) ≡ upTo g n
+set-upTo f g n i h same =
+    let long : length (set (upTo f n) i (g i)) ≡ n = length-set (upTo f n) i (g i) ∙ length-upTo f n in
+    ext-getD (g i) _ _ (long ∙ sym (length-upTo g n)) (λ j l. go j (omega arith) (ℕ-discrete j i))
+  where
+    go : (j : ℕ) → j < n → Dec (j ≡ i) → getD (set (upTo f n) i (g i)) j (g i) ≡ getD (upTo g n) j (g i)
+    go j l (yes e) = rw (e, getD-set-same (upTo f n) i (g i) (g i) (omega (arith, length-upTo f n))) (sym (getD-upTo g n i (g i) h))
+    go j l (no e) = getD-set-other (upTo f n) i j (g i) (g i) e ∙ getD-upTo f n j (g i) l ∙ same j e ∙ sym (getD-upTo g n j (g i) l)
+
+-- entry i is stored, and another entry j keeps its value
+pub stored : {A : Type 0} (l : List A) (i : ℕ) (x z : A) (f : ℕ → A) → i < length l → x ≡ f i
+    → (j : ℕ) → ((j ≡ i → ⊥) → getD l j z ≡ f j) → getD (set l i x) j z ≡ f j
+stored l i x z f h e j other = go (ℕ-discrete j i)
+  where
+    go : Dec (j ≡ i) → getD (set l i x) j z ≡ f j
+    go (yes q) = rw (q, getD-set-same l i x z h) e
+    go (no q) = getD-set-other l i j x z q ∙ other q
+
+-- a function of each value
+pub map-upTo : {A B : Type 0} (h : A → B) (f : ℕ → A) (n : ℕ) → map h (upTo f n) ≡ upTo (λ i. h (f i)) n
+unfolding upTo
+map-upTo h f zero = refl
+map-upTo h f (suc n) = rw (map-append h (upTo f n) (f n ∷ []), map-upTo h f n)
+
+-- a list is found again in its array
+pub take-padded : {A : Type 0} (m n : ℕ) (z : A) (xs : List A) → length xs ≡ n → take n (padded m z xs) ≡ xs
+unfolding padded
+take-padded m n z xs e = take-at xs (replicate (m - length xs) z) n e
+
+module _ {A : Type 0} (p : A → Bool) (f : ℕ → A) where
+  -- one value more that passes
+  pub every-next : (n : ℕ) → every p (upTo f n) ≡ true → p (f n) ≡ true → every p (upTo f (n + 1)) ≡ true
+  unfolding every upTo
+  every-next n h e = rw (add-one n, every-append p (upTo f n) (f n ∷ []), h, e)
+
+  -- one value that fails
+  pub fails-at : (n i : ℕ) → i < n → p (f i) ≡ false → every p (upTo f n) ≡ false
+  fails-at n i l e = every-fails p (upTo f n) i (f i) (rw (length-upTo f n) l) (rw (getD-upTo f n i (f i) l) e)

@@ -1,11 +1,10 @@
 -- A list in an array: filled one store a turn, and its entries. Assumes nothing.
 use mathlib.Core.Path.{_≡_, _∙_}
-use mathlib.Core.List.{append-nil}
 use Prim.Native.Nat.{ℕ, zero, suc, _+_, _-_, _≤_, _<_}
 use native.Mathlib.Nat.{sub-zero}
 use native.Mathlib.Numerals.{add-one}
 use native.Mathlib.Omega.{arith}
-use lib.ListN.{length, getD, set, replicate, List·getD-append}
+use lib.ListN.{length, getD, set, replicate, List·getD-append, getD-replicate}
 use lib.Seq.{getD-append-add}
 use Rattle.rules.specs.Lists.{upTo, padded}
 use Rattle.laws.proofs.Lists.{length-upTo, getD-upTo, padded-more}
@@ -27,13 +26,6 @@ module _ {A : Type 0} (m : ℕ) (z : A) (f : ℕ → A) where
   unfolding upTo
   filled-more n h = rw (add-one n) (padded-more m z (upTo f n) (f n) n (length-upTo f n) h)
 
-  -- after the last
-  pub filled-all : padded m z (upTo f m) ≡ upTo f m
-  unfolding padded
-  filled-all =
-      let e : m - m ≡ 0 = omega arith in
-      rw (length-upTo f m, e) (append-nil (upTo f m))
-
   -- value i
   pub filled-at : (n i : ℕ) (d : A) → i < n → getD (padded m z (upTo f n)) i d ≡ f i
   unfolding padded
@@ -45,3 +37,10 @@ module _ {A : Type 0} (m : ℕ) (z : A) (f : ℕ → A) where
   filled-past P d at-z at-d n i h =
       let e : i ≡ length (upTo f n) + (i - n) = omega (arith, length-upTo f n) in
       rw (e, getD-append-add (upTo f n)) (same-all P z d at-z at-d (m - length (upTo f n)) (i - n))
+
+-- an entry past the values in an array of z
+pub rest-at : {A : Type 0} (m : ℕ) (z : A) (f : ℕ → A) (n i : ℕ) (d : A) → n ≤ i → i < m → getD (padded m z (upTo f n)) i d ≡ z
+unfolding padded
+rest-at m z f n i d h l =
+    let e : i ≡ length (upTo f n) + (i - n) = omega (arith, length-upTo f n) in
+    rw (e, getD-append-add (upTo f n)) (getD-replicate (m - length (upTo f n)) (i - n) z d (omega (arith, length-upTo f n)))

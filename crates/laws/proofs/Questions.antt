@@ -5,10 +5,10 @@ use borrow.Author.Tests.{leb-true}
 use mathlib.Core.Path.{_≡_, refl}
 use mathlib.Core.Bool.{Bool, true, false, cond}
 use mathlib.Core.List.{List, [], _∷_, _++_}
-use lib.Dec.{leb}
+use lib.Dec.{eqb, leb}
 use lib.ListN.{getD}
 use Rattle.rules.specs.Lists.{every}
-use Rattle.rules.specs.Questions.{firstNo}
+use Rattle.rules.specs.Questions.{firstNo, afterCall}
 use Rattle.laws.proofs.Lists.{both-left, both-right}
 
 -- whether every question has a number from 1 on
@@ -49,3 +49,34 @@ first-answer (q ∷ qs) rs h = go (q .1) (firstNo qs) (firstNo (qs ++ rs)) (firs
     go : (b : Bool) (m m′ : ℕ) → ((m ≡ 0 → ⊥) → m′ ≡ m) → (cond b m (q .0) ≡ 0 → ⊥) → cond b m′ (q .0) ≡ cond b m (q .0)
     go true m m′ same h = same h
     go false m m′ same h = refl
+
+-- what question n says among the questions qs; yes where there is none of that number
+abbrev pub said : ℕ → List (ℕ × Bool) → Bool
+said n [] = true
+said n (q ∷ qs) = cond (eqb (q .0) n) (q .1) (said n qs)
+
+-- where the answer is 0, the question with that number says yes
+pub yes-said : (n : ℕ) (qs : List (ℕ × Bool)) → numbered qs ≡ true → firstNo qs ≡ 0 → said n qs ≡ true
+yes-said n [] a h = refl
+yes-said n (q ∷ qs) a h = let p = passed q qs a h in go (eqb (q .0) n) (p .0) (yes-said n qs (p .1 .0) (p .1 .1))
+  where
+    go : (b : Bool) → q .1 ≡ true → said n qs ≡ true → cond b (q .1) (said n qs) ≡ true
+    go true e f = e
+    go false e f = f
+
+-- where the answer of the first questions and the others is 0, both answers are
+pub both-zero : (qs rs : List (ℕ × Bool)) → numbered qs ≡ true → firstNo (qs ++ rs) ≡ 0 → (firstNo qs ≡ 0) × (firstNo rs ≡ 0)
+unfolding firstNo every
+both-zero [] rs n h = (refl, h)
+both-zero (q ∷ qs) rs n h = go (q .1) (leb-true 1 (q .0) (both-left (leb 1 (q .0)) (numbered qs) n)) h (both-zero qs rs (both-right (leb 1 (q .0)) (numbered qs) n))
+  where
+    go : (b : Bool) → 1 ≤ q .0 → cond b (firstNo (qs ++ rs)) (q .0) ≡ 0 → (firstNo (qs ++ rs) ≡ 0 → (firstNo qs ≡ 0) × (firstNo rs ≡ 0))
+        → (cond b (firstNo qs) (q .0) ≡ 0) × (firstNo rs ≡ 0)
+    go true l e after = after e
+    go false l e after = absurd (omega arith)
+
+-- what a call leaves that was refused
+pub after-refusal : {A : Type 0} (n : ℕ) (written held : A) → (n ≡ 0 → ⊥) → afterCall n written held ≡ held
+unfolding afterCall
+after-refusal zero written held h = absurd (h refl)
+after-refusal (suc n) written held h = refl

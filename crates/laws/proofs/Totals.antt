@@ -1,11 +1,11 @@
 -- Sums of whole numbers: of lists, of the first n of a sequence, and of the years from a first to a last. Assumes nothing.
 use mathlib.Core.Path.{_≡_, refl, sym, _∙_, ap, ap₂}
 use mathlib.Core.List.{List, [], _∷_, _++_}
-use Prim.Native.Nat.{ℕ, zero, suc, _+_, _-_, _≤_, _<_}
+use Prim.Native.Nat.{ℕ, zero, suc, _+_, _-_, _≤_, _<_, _*_}
 use native.Mathlib.Nat.{not-suc-le-zero, le-refl}
 use native.Mathlib.Omega.{arith}
 use native.Mathlib.Decide.{decLe, ℕ-discrete}
-use lib.IntN.{ℤ, pos, _+ℤ_}
+use lib.IntN.{ℤ, pos, _+ℤ_, +ℤ-idr, +ℤ-assoc}
 use lib.ListN.{getD, take}
 use Rattle.rules.specs.Lists.{total, upTo}
 use Rattle.rules.specs.Triangle.{sumTo}
@@ -106,3 +106,25 @@ rest-most xs n i m le sum =
     let e : n - i + i ≡ n = omega arith in
     let s = rw e at (total-after xs (n - i) i) in
     omega arith
+
+-- n numbers, each up to b
+pub total-each : (f : ℕ → ℕ) (b n : ℕ) → ((i : ℕ) → i < n → f i ≤ b) → total (upTo f n) ≤ n * b
+total-each f b zero h = omega (arith, total-none f)
+total-each f b (suc n) h = omega (arith, total-more f n, h n (omega arith), total-each f b n (λ i l. h i (omega arith)))
+
+-- numbers from m on that are zero may be left out
+pub total-cut : (f : ℕ → ℕ) (m n : ℕ) → m ≤ n → ((i : ℕ) → m ≤ i → f i ≡ 0) → total (upTo f n) ≡ total (upTo f m)
+total-cut f m zero le z = let e : m ≡ 0 = omega arith in rw e
+total-cut f m (suc n) le z = go (total-cut f m n) (decLe m n)
+  where
+    go : (m ≤ n → ((i : ℕ) → m ≤ i → f i ≡ 0) → total (upTo f n) ≡ total (upTo f m)) → Dec (m ≤ n) → total (upTo f (suc n)) ≡ total (upTo f m)
+    go before (yes l) = omega (arith, total-more f n, z n l, before l z)
+    go before (no l) = let e : m ≡ suc n = omega arith in rw e
+
+-- the first a terms and the n after them
+pub sumTo-parts : (f : ℕ → ℤ) (a n : ℕ) → sumTo f (a + n) ≡ sumTo f a +ℤ sumTo (λ c. f (a + c)) n
+unfolding sumTo
+sumTo-parts f a zero = let e : a + 0 ≡ a = omega arith in rw e (sym (+ℤ-idr (sumTo f a)))
+sumTo-parts f a (suc n) =
+    let e : a + suc n ≡ suc (a + n) = omega arith in
+    rw e (ap (λ (x : ℤ). x +ℤ f (a + n)) (sumTo-parts f a n) ∙ +ℤ-assoc (sumTo f a) (sumTo (λ c. f (a + c)) n) (f (a + n)))

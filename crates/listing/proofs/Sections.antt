@@ -9,18 +9,18 @@ use native.Mathlib.Omega.{arith}
 use lib.IntN.{ℤ, pos}
 use lib.ListN.{length, getD, take, length-append}
 use lib.Seq.{sets, take-suc}
-use Rattle.rules.specs.Lists.{total, upTo}
+use Rattle.rules.specs.Lists.{total, upTo, joined}
 use Rattle.rules.specs.Record.{cells}
 use Rattle.rules.specs.Triangle.{rowStart, cellOf}
-use Rattle.rules.specs.Results.{joined}
+use Rattle.rules.specs.Completion.{mostUltimate}
 use Rattle.laws.proofs.Lists.{length-upTo, total-most}
 use Rattle.laws.proofs.Rows.{cells-twice, rows-all}
 use Rattle.laws.proofs.Joined.{sets-append, joined-more, past-length}
-use Rattle.listing.specs.Entries.{averageEntries, Small}
+use Rattle.listing.specs.Starts.{averageRowOf, Addable}
 
 -- the sum of at most sixteen small numbers stands in a signed list
-pub small-total : (xs : List ℕ) → Small xs → (n : ℕ) → n ≤ 16 → total (take n xs) < 2 ^ 63
-small-total xs h n l = omega (arith, total-most 1000000000000 xs h n)
+pub small-total : (xs : List ℕ) → Addable xs → (n : ℕ) → n ≤ 16 → total (take n xs) < 2 ^ 63
+small-total xs h n l = omega (arith, total-most mostUltimate xs h n)
 
 -- the first n entries of a list, one by one
 take-upTo : {A : Type 0} (xs : List A) (d : A) (n : ℕ) → n ≤ length xs → take n xs ≡ upTo (λ j. getD xs j d) n
@@ -42,28 +42,23 @@ three-runs a b d l at {p} {q} i j = sets-append b d (sets l at a) p q j ∙ sets
 pub three-length : (a b d : List ℤ) (at : ℕ) {p q r : ℕ} → p ≡ at + length a → q ≡ p + length b → r ≡ q + length d → r ≡ at + length (a ++ (b ++ d))
 three-length a b d at i j h = omega (arith, length-append a (b ++ d), length-append b d)
 
--- row i of the averages, the first entries of row i of a square s
-abbrev pub rowEntries : ℕ → List (List ℤ) → ℕ → List ℤ
-rowEntries k s i = upTo (cellOf s i) (k + 1 - i)
-
 module _ (k : ℕ) (s : List (List ℤ)) where
   -- as the code reads them
-  row-is : (i : ℕ) → k + 1 - i ≤ length (getD s i []) → take (k + 1 - i) (getD s i []) ≡ rowEntries k s i
+  row-is : (i : ℕ) → k + 1 - i ≤ length (getD s i []) → take (k + 1 - i) (getD s i []) ≡ averageRowOf k s i
   unfolding cellOf
   row-is i h = take-upTo (getD s i []) (pos 0) (k + 1 - i) h
 
   -- the rows before row i
-  rows-length : (i : ℕ) → length (joined (upTo (rowEntries k s) i)) ≡ rowStart k i
-  rows-length = past-length (rowEntries k s) k (λ i. length-upTo (cellOf s i) (k + 1 - i))
+  rows-length : (i : ℕ) → length (joined (upTo (averageRowOf k s) i)) ≡ rowStart k i
+  rows-length = past-length (averageRowOf k s) k (λ i. length-upTo (cellOf s i) (k + 1 - i))
 
   -- the stores of row i
   pub rows-more : (l : List ℤ) (i at : ℕ) → at ≡ rowStart k i → k + 1 - i ≤ length (getD s i [])
-      → sets (sets l 0 (joined (upTo (rowEntries k s) i))) at (take (k + 1 - i) (getD s i [])) ≡ sets l 0 (joined (upTo (rowEntries k s) (i + 1)))
+      → sets (sets l 0 (joined (upTo (averageRowOf k s) i))) at (take (k + 1 - i) (getD s i [])) ≡ sets l 0 (joined (upTo (averageRowOf k s) (i + 1)))
   rows-more l i at e h =
-      rw (row-is i h, add-one i, joined-more (rowEntries k s) i)
-      (sets-append (joined (upTo (rowEntries k s) i)) (rowEntries k s i) l 0 at (omega (arith, rows-length i)))
+      rw (row-is i h, add-one i, joined-more (averageRowOf k s) i)
+      (sets-append (joined (upTo (averageRowOf k s) i)) (averageRowOf k s i) l 0 at (omega (arith, rows-length i)))
 
   -- the averages are as many as the triangle has cells
-  pub averages-length : length (averageEntries k s) ≡ cells k
-  unfolding averageEntries
+  pub averages-length : length (joined (upTo (averageRowOf k s) (k + 1))) ≡ cells k
   averages-length = rows-length (k + 1) ∙ rows-all k

@@ -1,4 +1,5 @@
-// The result list, stage by stage: each function puts the entries of a stage into the lent list from a place on, and answers the place after them.
+// The result list: where its sections start, and its groups of sections put into the lent list from a place on. Each function that puts answers the
+// place after what it put.
 use entries::put_integers;
 use entries::put_natural;
 use entries::put_naturals;
@@ -6,15 +7,75 @@ use entries::sum_of;
 use layout::cells_of;
 ghost use mathlib.Core.Path.{_≡_};
 ghost use Prim.Native.Nat.{_+_, _-_, _*_, _≤_, _<_};
-ghost use lib.ListN.{length};
+ghost use lib.ListN.{length, take};
 ghost use lib.Seq.{sets};
+ghost use Rattle.rules.specs.Lists.{joined, upTo};
 ghost use Rattle.rules.specs.Record.{cells};
-ghost use Rattle.listing.specs.Entries.{averageEntries, separationEntries, projectionEntries, reserveEntries, developmentEntries, Small};
+ghost use Rattle.rules.specs.Results.{resultCount, separationSections, completionSections, ladderSections};
+ghost use Rattle.listing.specs.Starts.{startsOf, averageRowOf, Addable};
+
+// Where the sections after the averages start.
+pub struct Starts {
+    pub shares: usize,
+    pub levels: usize,
+    pub ahead: usize,
+    pub payments: usize,
+    pub provisions: usize,
+    pub provision: usize,
+    pub unreported: usize,
+    pub reserves: usize,
+    pub reserve: usize,
+    pub ratio: usize,
+    pub factors: usize,
+    pub completed: usize,
+}
+
+pub fn starts_of(k: usize) -> Starts
+    requires { ⌜ k < 16 ⌝ }
+    ensures { λ r. ⌜ r ≡ startsOf k ⌝ }
+{
+    let n = k + 1;
+    let shares = cells_of(k);
+    let future = shares - n;
+    let levels = shares + n;
+    let ahead = levels + n;
+    let payments = ahead + k;
+    let provisions = payments + future;
+    let provision = provisions + n;
+    let unreported = provision + 1;
+    let reserves = unreported + n;
+    let reserve = reserves + n;
+    let ratio = reserve + 1;
+    let factors = ratio + 1;
+    let completed = factors + k;
+    Starts {
+        shares,
+        levels,
+        ahead,
+        payments,
+        provisions,
+        provision,
+        unreported,
+        reserves,
+        reserve,
+        ratio,
+        factors,
+        completed,
+    }
+}
+
+// How many entries the result list has.
+pub fn entries_of(k: usize) -> usize
+    requires { ⌜ k < 16 ⌝ }
+    ensures { λ r. ⌜ (r ≡ resultCount k) × (r ≤ 489) ⌝ }
+{
+    3 * cells_of(k) + 5 * k + 6
+}
 
 // The averages by row.
 fn put_averages(out: &mut [i64], square: &[[i64; 16]; 16], k: usize) -> usize
     requires { ⌜ (k < 16) × (cells k ≤ length (now out)) ⌝ }
-    ensures { λ r. ⌜ (r ≡ cells k) × (now (out .exit) ≡ sets (now (out .entry)) 0 (averageEntries k (now (square .entry)))) ⌝ }
+    ensures { λ r. ⌜ (r ≡ cells k) × (now (out .exit) ≡ sets (now (out .entry)) 0 (joined (upTo (averageRowOf k (now (square .entry))) (k + 1)))) ⌝ }
 {
     let mut at: usize = 0;
     let n = k + 1;
@@ -32,10 +93,12 @@ pub fn put_separation(
     levels: &[u64; 16],
     k: usize,
 ) -> usize
-    requires { ⌜ (k < 16) × ((cells k + 2 * (k + 1) ≤ length (now out)) × (Small (now shares) × Small (now levels))) ⌝ }
+    requires { ⌜ (k < 16) × ((cells k + 2 * (k + 1) ≤ length (now out)) × (Addable (now shares) × Addable (now levels))) ⌝ }
     ensures { λ r. ⌜ (r ≡ cells k + 2 * (k + 1))
-        × ((r ≡ length (separationEntries k (now (square .entry)) (now (shares .entry)) (now (levels .entry))))
-        × (now (out .exit) ≡ sets (now (out .entry)) 0 (separationEntries k (now (square .entry)) (now (shares .entry)) (now (levels .entry))))) ⌝ }
+        × ((r ≡ length (joined (separationSections k (now (square .entry)) (take (k + 1) (now (shares .entry))) (take (k + 1) (now (levels .entry))))))
+        × (now (out .exit)
+        ≡ sets (now (out .entry)) 0
+        (joined (separationSections k (now (square .entry)) (take (k + 1) (now (shares .entry))) (take (k + 1) (now (levels .entry))))))) ⌝ }
 {
     let n = k + 1;
     let a = put_averages(out, square, k);
@@ -44,7 +107,7 @@ pub fn put_separation(
 }
 
 // The future levels, the payments, the provisions and their total.
-pub fn put_projection(
+pub fn put_completion(
     out: &mut [i64],
     at: usize,
     levels: &[u64; 16],
@@ -53,11 +116,16 @@ pub fn put_projection(
     k: usize,
 ) -> usize
     requires { ⌜ (k < 16)
-        × ((at + cells k + k + 1 ≤ length (now out)) × (Small (now levels) × (Small (now payments) × Small (now provisions)))) ⌝ }
+        × ((at + cells k + k + 1 ≤ length (now out)) × (Addable (now levels) × (Addable (now payments) × Addable (now provisions)))) ⌝ }
     ensures { λ r. ⌜ (r ≡ at + cells k + k + 1)
-        × ((r ≡ at + length (projectionEntries k (now (levels .entry)) (now (payments .entry)) (now (provisions .entry))))
+        × ((r
+        ≡ at
+        + length (joined
+        (completionSections (take k (now (levels .entry))) (take (cells k - (k + 1)) (now (payments .entry))) (take (k + 1) (now (provisions .entry))))))
         × (now (out .exit)
-        ≡ sets (now (out .entry)) at (projectionEntries k (now (levels .entry)) (now (payments .entry)) (now (provisions .entry))))) ⌝ }
+        ≡ sets (now (out .entry)) at
+        (joined
+        (completionSections (take k (now (levels .entry))) (take (cells k - (k + 1)) (now (payments .entry))) (take (k + 1) (now (provisions .entry))))))) ⌝ }
 {
     let n = k + 1;
     let a = put_naturals(out, at, levels, k);
@@ -66,40 +134,18 @@ pub fn put_projection(
     put_natural(out, c, sum_of(provisions, n))
 }
 
-// What is not yet reported, the reserves, their total and the ratio.
-pub fn put_reserve(
-    out: &mut [i64],
-    at: usize,
-    not_reported: &[u64; 16],
-    reserves: &[u64; 16],
-    ratio: u64,
-    k: usize,
-) -> usize
-    requires { ⌜ (k < 16)
-        × ((at + 2 * (k + 1) + 2 ≤ length (now out)) × ((ratio ≤ 1000000) × (Small (now «not_reported») × Small (now reserves)))) ⌝ }
-    ensures { λ r. ⌜ (r ≡ at + 2 * (k + 1) + 2)
-        × ((r ≡ at + length (reserveEntries k (now («not_reported» .entry)) (now (reserves .entry)) ratio))
-        × (now (out .exit)
-        ≡ sets (now (out .entry)) at (reserveEntries k (now («not_reported» .entry)) (now (reserves .entry)) ratio))) ⌝ }
-{
-    let n = k + 1;
-    let a = put_naturals(out, at, not_reported, n);
-    let b = put_naturals(out, a, reserves, n);
-    let c = put_natural(out, b, sum_of(reserves, n));
-    put_natural(out, c, ratio)
-}
-
 // The development factors and the completed cumulatives.
-pub fn put_development(
+pub fn put_ladder(
     out: &mut [i64],
     at: usize,
     factors: &[u64; 16],
     completed: &[u64; 120],
     k: usize,
 ) -> usize
-    requires { ⌜ (k < 16) × ((at + cells k - 1 ≤ length (now out)) × (Small (now factors) × Small (now completed))) ⌝ }
+    requires { ⌜ (k < 16) × ((at + cells k - 1 ≤ length (now out)) × (Addable (now factors) × Addable (now completed))) ⌝ }
     ensures { λ r. ⌜ (r ≡ at + cells k - 1)
-        × (now (out .exit) ≡ sets (now (out .entry)) at (developmentEntries k (now (factors .entry)) (now (completed .entry)))) ⌝ }
+        × (now (out .exit)
+        ≡ sets (now (out .entry)) at (joined (ladderSections (take k (now (factors .entry))) (take (cells k - (k + 1)) (now (completed .entry)))))) ⌝ }
 {
     let a = put_naturals(out, at, factors, k);
     put_naturals(out, a, completed, cells_of(k) - (k + 1))

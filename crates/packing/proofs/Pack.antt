@@ -2,13 +2,12 @@
 use mathlib.Core.Path.{_≡_, refl, sym, ap, ap₂, _∙_}
 use mathlib.Core.List.{List, [], _∷_, _++_}
 use Prim.Native.Nat.{ℕ, zero, suc, _+_, _-_, _*_, _/_, _%_, _^_, _≤_, _<_}
-use native.Mathlib.Decide.{decLt}
 use native.Mathlib.Nat.{add-comm, add-zero, mod-eq-of-lt, mod-lt, mod-one, mul-add-div-right, mul-add-mod-self-right, mul-le-mul-left, sub-zero, suc-sub-suc}
 use native.Mathlib.Numerals.{add-one}
 use native.Mathlib.Omega.{arith}
 use lib.Arith.{digits-lt}
 use lib.Dec.{lit<}
-use lib.ListN.{length, getD, take, replicate, length-append, length-replicate, replicate-append-replicate, List·getD-eq-default}
+use lib.ListN.{length, getD, take, replicate, length-append, length-replicate, replicate-append-replicate}
 use lib.Pow.{pow-add, pow-pos, shr-shr, high, mod-pow-add}
 use lib.Seq.{length-take-le, take-suc}
 use Rattle.rules.specs.Packing.{pack, unpack, numberOf, bytesOf}
@@ -16,7 +15,7 @@ use Rattle.rules.specs.Lists.{total, upTo}
 use Rattle.packing.specs.Field.{fieldAt, rowAt}
 use Rattle.rules.specs.Packing.{Fit}
 use Rattle.laws.proofs.Totals.{total-append}
-use Rattle.laws.proofs.Lists.{length-upTo, getD-upTo, upTo-ext, upTo-cons}
+use Rattle.laws.proofs.Lists.{length-upTo, upTo-ext, upTo-cons}
 
 -- the widths of n fields of one width
 pub total-replicate : (n w : ℕ) → total (replicate n w) ≡ w * n
@@ -179,16 +178,6 @@ length-row s at w n = length-upTo (λ i. fieldAt s (at + w * i) w) n
 pub field-lt : (s : List ℕ) (at w : ℕ) → fieldAt s at w < 2 ^ w
 unfolding fieldAt
 field-lt s at w = mod-lt (numberOf s / 2 ^ (8 * length s - (at + w))) (pow-pos w)
-
--- each is below two to its width
-pub row-small : (s : List ℕ) (at w n : ℕ) → Fit w (rowAt s at w n)
-unfolding rowAt
-row-small s at w n i = go (decLt i n)
-  where
-    go : Dec (i < n) → getD (upTo (λ i. fieldAt s (at + w * i) w) n) i 0 < 2 ^ w
-    go (yes l) = rw (getD-upTo (λ i. fieldAt s (at + w * i) w) n i 0 l) (field-lt s (at + w * i) w)
-    go (no l) =
-        rw (List·getD-eq-default (upTo (λ i. fieldAt s (at + w * i) w) n) 0 {n = i} (omega (arith, length-upTo (λ i. fieldAt s (at + w * i) w) n))) (pow-pos w)
 
 -- there is room for field i of n
 pub room : (w i n : ℕ) → i < n → w * i + w ≤ w * n

@@ -1,16 +1,16 @@
 -- What a put does to the bits packed so far, a byte at a time, and puts one after another. Assumes nothing.
-use mathlib.Core.Path.{_≡_, ap, _∙_}
+use mathlib.Core.Path.{_≡_, refl, sym, ap, _∙_}
 use mathlib.Core.List.{List, [], _∷_, _++_}
 use Prim.Native.Nat.{ℕ, _+_, _-_, _*_, _/_, _%_, _^_, _≤_, _<_}
 use native.Mathlib.Numerals.{add-one}
 use native.Mathlib.Omega.{arith}
 use lib.Arith.{digits-lt}
-use lib.ListN.{length, take, set, length-append}
+use lib.ListN.{length, take, drop, set, length-append}
 use lib.Pow.{pow-add, shl-exact, recompose}
-use lib.Seq.{take-suc-set}
+use lib.Seq.{take-suc-set, drop-drop}
 use Rattle.rules.specs.Packing.{numberOf}
 use Rattle.packing.specs.declared.Pending.{Pending}
-use Rattle.packing.specs.Pending.{packedSo, Ready, Packed}
+use Rattle.packing.specs.Pending.{packedSo, placeOf, Ready, Packed}
 use Rattle.packing.proofs.Pack.{pack-more}
 
 -- one byte more
@@ -38,17 +38,25 @@ written s at count bits h k small =
     let r : bits / 2 ^ m % 256 * 2 ^ m + bits % 2 ^ m ≡ bits = recompose 8 m (rw (← e) small) in
     rw (add-one, take-suc-set s at (bits / 2 ^ m % 256) h, number-more (take at s) (bits / 2 ^ m % 256), p) (omega arith)
 
+-- lists that agree from one place on agree from a later one on
+pub drop-further : (m n : ℕ) (s t : List ℕ) → m ≤ n → drop m s ≡ drop m t → drop n s ≡ drop n t
+drop-further m n s t h e =
+    let k : m + (n - m) ≡ n = omega arith in
+    ap (λ (z : ℕ). drop z s) (sym k) ∙ sym (drop-drop (n - m) m s) ∙ ap (drop (n - m)) e ∙ drop-drop (n - m) m t ∙ ap (λ (z : ℕ). drop z t) k
+
 -- nothing packed
 pub packed-none : {s : List ℕ} {p : Pending} {w : ℕ} → Ready s p w → Packed s s p p 0 0
-packed-none r = record { few = r .few; small = r .small; place = omega arith; packed = omega arith }
+packed-none r = record { few = r .few; small = r .small; place = omega arith; packed = omega arith; after = refl }
 
 -- one put after another
 pub packed-then : {a b c : List ℕ} {p q r : Pending} {w v x y : ℕ} → Packed a b p q w x → Packed b c q r v y → Packed a c p r (w + v) (x * 2 ^ v + y)
-packed-then {w} {v} f g = record {
+unfolding placeOf
+packed-then {a} {b} {q} {r} {w} {v} f g = record {
   few = g .few;
   small = g .small;
   place = omega (arith, f .place, g .place);
   packed = g .packed ∙ rw (f .packed, pow-add 2 w v) (omega arith);
+  after = g .after ∙ drop-further (q .at) (r .at) b a (omega (arith, g .place, g .few)) (f .after);
 }
 
 -- what is left of the room

@@ -2,7 +2,7 @@
 use Prim.Native.Nat.{ℕ, _+_, _*_, _<_, _≤_, _^_}
 use mathlib.Core.Path.{_≡_}
 use mathlib.Core.List.{List}
-use lib.ListN.{length, take}
+use lib.ListN.{length, take, drop}
 use Rattle.rules.specs.Packing.{numberOf}
 use Rattle.packing.specs.declared.Pending.{Pending}
 
@@ -21,9 +21,10 @@ pub record Ready (s : List ℕ) (p : Pending) (w : ℕ) : Type 0 where
   pub room : placeOf p + w ≤ 8 * length s
   pub short : length s < 2 ^ 32
 
--- w bits more, those of x, have been packed
+-- w bits more, those of x, have been packed, and the bytes that do not hold a packed bit are what they were
 pub record Packed (s t : List ℕ) (p q : Pending) (w x : ℕ) : Type 0 where
   pub few : q .count < 8
   pub small : q .bits < 2 ^ q .count
   pub place : placeOf q ≡ placeOf p + w
   pub packed : packedSo t q ≡ packedSo s p * 2 ^ w + x
+  pub after : drop (q .at) t ≡ drop (q .at) s

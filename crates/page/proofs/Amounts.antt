@@ -9,7 +9,7 @@ use mir.Val.{SFits}
 use Rattle.rules.specs.Lists.{total}
 use Rattle.laws.proofs.Lists.{total-most}
 use Rattle.laws.proofs.Signed.{size-fits, sum-size, signed-size}
-use Rattle.page.specs.Places.{Addable}
+use Rattle.listing.specs.Starts.{Addable}
 
 -- the difference of two amounts fits
 pub less-fits : (x y : ℕ) → x ≤ 20000000000000 → y ≤ 20000000000000 → SFits w64 (pos x -ℤ pos y)

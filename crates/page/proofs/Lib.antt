@@ -1,2 +1,3 @@
 pub mod Amounts
-pub mod Sections
+pub mod Lines
+pub mod Places

@@ -25,7 +25,7 @@ amount-minus code l h =
     rw (e, f)
 
 -- the bits after the sign bit are the size of the increment
-pub amount-size : (code : ℕ) → natAbs (valueOf increment code) ≡ code % 2 ^ 34
+amount-size : (code : ℕ) → natAbs (valueOf increment code) ≡ code % 2 ^ 34
 unfolding valueOf
 amount-size code = signed-size (code / 2 ^ 34) (code % 2 ^ 34)
 

@@ -1,47 +1,85 @@
--- What was read of a record that has passed questions 1 and 2: questions 4 and 5 of it are those of the record, and its list is the record's.
--- Assumes nothing.
-use Prim.Native.Nat.{ℕ, _+_, _-_}
+-- What is answered of a record that has passed questions 1 and 2, and its fields in their order from the arrays that hold them. Assumes nothing.
+use Prim.Native.Nat.{ℕ, _+_, _-_, _≤_, _<_}
+use native.Mathlib.Nat.{zero-add}
 use native.Mathlib.Omega.{arith}
-use borrow.Author.Tests.{le-leb}
+use borrow.Author.Tests.{le-leb, lt-leb}
 use mathlib.Core.Path.{_≡_, refl, sym, ap, ap₂, _∙_}
-use mathlib.Core.Bool.{Bool, true, false, _&&_, and-true}
+use mathlib.Core.Bool.{true, false}
 use mathlib.Core.List.{List, [], _∷_, _++_, map, append-nil, append-assoc}
+use lib.Dec.{eqb}
 use lib.IntN.{ℤ, pos}
-use lib.ListN.{length, take, replicate, length-map}
-use lib.Seq.{take-at}
-use Rattle.rules.specs.Record.{layout, cells, lastYear, increment, reporting, weight, valueOf, bitsInRange, inRange, negativeZero, lastYearOf, fieldsOf, reportingIn, figuresOf}
-use Rattle.rules.specs.Lists.{padded, every, between}
-use Rattle.rules.specs.Reading.{inRanges, sharesSum}
+use lib.ListN.{length, getD, take, length-append, length-map}
+use lib.Seq.{sets, length-sets, getD-take}
+use Rattle.rules.specs.Lists.{total, padded, every, between}
+use Rattle.rules.specs.Questions.{firstNo}
+use Rattle.rules.specs.Record.{Figures, million, layout, cells, lastYear, increment, weight, valueOf, lastYearOf, fieldsOf, figuresOf}
+use Rattle.rules.specs.Reading.{inRanges, sharesSum, fieldQuestions}
+use Rattle.entries.specs.Leading.{passing}
+use Rattle.entries.proofs.Leading.{passing-all}
+use Rattle.laws.proofs.Lists.{at-most, take-padded}
+use Rattle.laws.proofs.Joined.{sets-append, take-sets}
+use Rattle.laws.proofs.Questions.{yes-said}
 use Rattle.packing.specs.Field.{fieldAt, rowAt}
 use Rattle.packing.proofs.Pack.{length-row}
-use Rattle.layout.specs.Places.{startOf}
+use Rattle.layout.specs.Places.{startOf, placesOf}
+use Rattle.layout.specs.declared.Places.{Places}
 use Rattle.layout.proofs.Sizes.{starts}
-use Rattle.reading.specs.Reading.{readingOf, rangesOf, sumOf, triangleOf, assumptionsOf, listOf}
-use Rattle.reading.proofs.Rows.{Whole, fields-are, ranges-are, years-field}
-use Rattle.reading.proofs.Lists.{lists, values, one-row, same-place}
+use Rattle.reading.specs.Reading.{triangleFields, assumptionFields}
+use Rattle.reading.proofs.Rows.{Whole, fields-are, years-field}
+use Rattle.reading.proofs.Lists.{lists, values, one-row}
 
--- a list is found again in its array
-pub take-padded : {A : Type 0} (m n : ℕ) (z : A) (xs : List A) → length xs ≡ n → take n (padded m z xs) ≡ xs
-unfolding padded
-take-padded m n z xs e = take-at xs (replicate (m - length xs) z) n e
+-- questions 4 and 5
+module _ (s : List ℕ) where
+  pub answer-4 : inRanges s ≡ false → 4 ≡ firstNo (fieldQuestions s)
+  unfolding firstNo fieldQuestions
+  answer-4 e = rw e
 
-every-same : {A : Type 0} (p q : A → Bool) → ((x : A) → p x ≡ q x) → (xs : List A) → every p xs ≡ every q xs
-unfolding every
-every-same p q e [] = refl
-every-same p q e (x ∷ xs) = ap₂ _&&_ (e x) (every-same p q e xs)
+  pub answer-5 : inRanges s ≡ true → sharesSum s ≡ false → 5 ≡ firstNo (fieldQuestions s)
+  unfolding firstNo fieldQuestions
+  answer-5 e f = rw (e, f)
 
--- the range of a kind without a sign bit
-plain : (w l m : ℕ) (x : ℕ) → bitsInRange (record { signed = false; width = w; least = l; most = m }) x ≡ between l m x
-unfolding bitsInRange inRange negativeZero valueOf
-plain w l m x = and-true (between l m x)
+  pub answer-0 : inRanges s ≡ true → sharesSum s ≡ true → 0 ≡ firstNo (fieldQuestions s)
+  unfolding firstNo fieldQuestions
+  answer-0 e f = rw (e, f)
 
-plain-row : (w l m : ℕ) (xs : List ℕ) → every (bitsInRange (record { signed = false; width = w; least = l; most = m })) xs ≡ every (between l m) xs
-plain-row w l m xs = every-same (bitsInRange (record { signed = false; width = w; least = l; most = m })) (between l m) (plain w l m) xs
+  pub fields-yes : firstNo (fieldQuestions s) ≡ 0 → (inRanges s ≡ true) × (sharesSum s ≡ true)
+  unfolding fieldQuestions every
+  fields-yes e = (yes-said 4 (fieldQuestions s) refl e, yes-said 5 (fieldQuestions s) refl e)
 
--- the range of a row in its array
-row-range : (s : List ℕ) (w l m n : ℕ) {a b : ℕ} → a ≡ b
-    → every (between l m) (take n (padded 16 0 (rowAt s a w n))) ≡ every (bitsInRange (record { signed = false; width = w; least = l; most = m })) (rowAt s b w n)
-row-range s w l m n {a} {b} e = rw (e, take-padded 16 n 0 (rowAt s b w n) (length-row s b w n)) (sym (plain-row w l m (rowAt s b w n)))
+-- a row of one field, in range and out of range
+pub one-in : (s : List ℕ) (at w most x : ℕ) → x ≡ fieldAt s at w → x ≤ most
+    → (every (between 0 most) (rowAt s at w 1) ≡ true) × (getD (passing (between 0 most) (rowAt s at w 1)) 0 0 ≡ x)
+unfolding every passing
+one-in s at w most x e h =
+    let yes : between 0 most x ≡ true = rw (le-leb 0 x (omega arith), le-leb x most h) in
+    rw (one-row s at w, ← e, yes) (refl, refl)
+
+pub one-out : (s : List ℕ) (at w most x : ℕ) → x ≡ fieldAt s at w → most < x
+    → (every (between 0 most) (rowAt s at w 1) ≡ false) × (getD (passing (between 0 most) (rowAt s at w 1)) 0 0 ≡ 0)
+unfolding every passing
+one-out s at w most x e h =
+    let no : between 0 most x ≡ false = rw (le-leb 0 x (omega arith), lt-leb x most h) in
+    rw (one-row s at w, ← e, no) (refl, refl)
+
+-- a row that is in range, stored first in an array, and its numbers there
+pub row-stored : (s : List ℕ) (at w n least most : ℕ) (l l′ : List ℕ) → l′ ≡ sets l 0 (passing (between least most) (rowAt s at w n)) → n ≤ length l′
+    → every (between least most) (rowAt s at w n) ≡ true → take n l′ ≡ rowAt s at w n
+row-stored s at w n least most l l′ e h a =
+    let row = rowAt s at w n in
+    let stored = e ∙ ap (sets l 0) (passing-all (between least most) row a) in
+    ap (take n) stored ∙ take-sets l row n (length-row s at w n) (omega (arith, ap length stored, length-sets l 0 row))
+
+pub stored-most : (least most n : ℕ) (l row : List ℕ) → take n l ≡ row → every (between least most) row ≡ true → (i : ℕ) → i < n → getD l i 0 ≤ most
+stored-most least most n l row e a i h = rw (sym (getD-take n l i 0 h) ∙ ap (λ (xs : List ℕ). getD xs i 0) e) (at-most least most row a i)
+
+-- question 5 by the reporting shares' place
+pub sum-at : {s : List ℕ} → Whole s → (k : ℕ) (p : Places) → k ≡ lastYearOf s → p ≡ placesOf k → sharesSum s ≡ eqb (total (rowAt s (p .reporting) 20 (k + 1))) million
+unfolding sharesSum placesOf
+sum-at {s} h k p e q = rw (q, e, lists s h .reporting)
+
+-- the fields of a set of figures in the record's order
+abbrev pub listOf : Figures → List ℤ
+listOf f = triangleFields (f .k) (f .exposures) (f .increments) ++ assumptionFields (f .k) (f .indices) (f .reporting) (f .weight) (f .ulae)
 
 -- a list read is found again
 row-list : (s : List ℕ) (w l m n : ℕ) {a b : ℕ} → a ≡ b
@@ -50,37 +88,6 @@ row-list s w l m n {a} {b} e =
     rw (e, take-padded 16 n 0 (rowAt s b w n) (length-row s b w n)) (sym (values (record { signed = false; width = w; least = l; most = m }) refl (rowAt s b w n)))
 
 module _ (s : List ℕ) (h : Whole s) where
-  years-row : every (bitsInRange lastYear) (rowAt s 0 4 1) ≡ true
-  unfolding every
-  years-row =
-      let k = lastYearOf s in
-      rw (one-row s 0 4, years-field s h, plain 4 1 15 k, le-leb 1 k (h .some), le-leb k 15 (omega (arith, h .few)))
-
-  weight-row : (b : ℕ) → startOf (lastYearOf s) 5 ≡ b → between 0 1000000 (fieldAt s (startOf (lastYearOf s) 5) 20) ≡ every (bitsInRange weight) (rowAt s b 20 1)
-  unfolding every
-  weight-row b e = rw (e, one-row s b 20, plain 20 0 1000000 (fieldAt s b 20)) (sym (and-true (between 0 1000000 (fieldAt s b 20))))
-
-  -- question 4 of what was read
-  pub ranges-same : rangesOf (readingOf s) ≡ inRanges s
-  unfolding rangesOf readingOf figuresOf layout
-  ranges-same =
-      let k = lastYearOf s in
-      let at = starts k in
-      let l = lists s h in
-      rw (ranges-are s h, years-row, l .exposures, l .codes, l .indices, l .reporting, l .weight, l .ulae)
-      (ap₂ _&&_ (row-range s 20 1 1000000 (k + 1) refl)
-      (ap₂ _&&_ (ap (every (bitsInRange increment)) (same-place s 35 (cells k) (omega arith)))
-      (ap₂ _&&_ (row-range s 23 1 5000000 k (omega arith))
-      (ap₂ _&&_ (row-range s 20 0 1000000 (k + 1) (omega arith))
-      (ap₂ _&&_ (weight-row _ (omega arith)) (row-range s 34 0 10000000000 (k + 1) (omega arith) ∙ sym (and-true _)))))))
-
-  -- question 5 of what was read
-  pub sum-same : sumOf (figuresOf s) ≡ sharesSum s
-  unfolding sumOf sharesSum figuresOf
-  sum-same =
-      let n = lastYearOf s + 1 in
-      rw (take-padded 16 n 0 (reportingIn (lastYearOf s) (fieldsOf s)) (rw (lists s h .reporting) (length-row s (startOf (lastYearOf s) 4) 20 n)))
-
   years-list : map (valueOf lastYear) (rowAt s 0 4 1) ≡ pos (lastYearOf s) ∷ []
   years-list = rw (values lastYear refl (rowAt s 0 4 1), one-row s 0 4, years-field s h)
 
@@ -94,9 +101,9 @@ module _ (s : List ℕ) (h : Whole s) where
       let row = rowAt s b 35 (cells (lastYearOf s)) in
       rw (e, take-padded 136 (cells (lastYearOf s)) (pos 0) (map (valueOf increment) row) (length-map row (valueOf increment) ∙ length-row s b 35 (cells (lastYearOf s))))
 
-  -- the list of what was read
+  -- the fields of the record's figures are the record's
   pub list-same : listOf (figuresOf s) ≡ fieldsOf s
-  unfolding listOf triangleOf assumptionsOf figuresOf layout
+  unfolding triangleFields assumptionFields figuresOf layout
   list-same =
       let k = lastYearOf s in
       let at = starts k in
@@ -109,3 +116,31 @@ module _ (s : List ℕ) (h : Whole s) where
       (ap₂ _++_ (row-list s 23 1 5000000 k (omega arith))
       (ap₂ _++_ (row-list s 20 0 1000000 (k + 1) (omega arith))
       (ap₂ _++_ (weight-list (omega arith)) (row-list s 34 0 10000000000 (k + 1) (omega arith) ∙ sym (append-nil _)))))))))
+
+  figures-years : figuresOf s .k ≡ lastYearOf s
+  unfolding figuresOf
+  figures-years = refl
+
+  -- the first of them, which put_triangle puts, are k + 2 and the cells
+  triangle-long : length (triangleFields (figuresOf s .k) (figuresOf s .exposures) (figuresOf s .increments)) ≡ figuresOf s .k + 2 + cells (figuresOf s .k)
+  unfolding triangleFields figuresOf
+  triangle-long =
+      let k = lastYearOf s in
+      let l = lists s h in
+      let n = rowAt s 4 20 (k + 1) in
+      let c = map (valueOf increment) (rowAt s (startOf k 2) 35 (cells k)) in
+      let cs : length c ≡ cells k = length-map (rowAt s (startOf k 2) 35 (cells k)) (valueOf increment) ∙ length-row s (startOf k 2) 35 (cells k) in
+      rw (l .exposures, l .increments, take-padded 16 (k + 1) 0 n (length-row s 4 20 (k + 1)), take-padded 136 (cells k) (pos 0) c cs)
+      (omega (arith, length-append (map pos n) c, length-map n pos, length-row s 4 20 (k + 1), cs))
+
+  -- the fields put into a list from arrays that hold the figures
+  pub fields-put : (list : List ℤ) {k at w : ℕ} {n e b u : List ℕ} {p : List ℤ} → k ≡ lastYearOf s → n ≡ figuresOf s .exposures → p ≡ figuresOf s .increments
+      → e ≡ figuresOf s .indices → b ≡ figuresOf s .reporting → w ≡ figuresOf s .weight → u ≡ figuresOf s .ulae → at ≡ k + 2 + cells k
+      → sets (sets list 0 (triangleFields k n p)) at (assumptionFields k e b w u) ≡ sets list 0 (fieldsOf s)
+  fields-put list {k} {at} years a2 a3 a4 a5 a6 a7 place =
+      let f = figuresOf s in
+      let a1 = years ∙ sym figures-years in
+      let long : at ≡ 0 + length (triangleFields (f .k) (f .exposures) (f .increments)) = place ∙ ap (λ (z : ℕ). z + 2 + cells z) a1 ∙ sym triangle-long ∙ sym (zero-add _) in
+      rw (a1, a2, a3, a4, a5, a6, a7)
+      (sets-append (triangleFields (f .k) (f .exposures) (f .increments)) (assumptionFields (f .k) (f .indices) (f .reporting) (f .weight) (f .ulae)) list 0 at long
+      ∙ ap (sets list 0) list-same)

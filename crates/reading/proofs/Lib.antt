@@ -1,7 +1,7 @@
-pub mod Padded
 pub mod Amounts
 pub mod Rows
 pub mod Lists
+pub mod Reached
+pub mod Ranges
 pub mod Answers
-pub mod Limits
-pub mod Made
+pub mod Accepted

@@ -34,21 +34,45 @@ pub one-row : (s : List ℕ) (at w : ℕ) → rowAt s at w 1 ≡ fieldAt s at w 
 unfolding rowAt upTo
 one-row s at w = let e : at + w * 0 ≡ at = omega arith in rw e
 
+-- the codes by their places, row by row
+pub record Codes (s : List ℕ) (k : ℕ) : Type 0 where
+  pub years : section (layout k) 0 (codesOf s) ≡ rowAt s 0 4 1
+  pub exposures : section (layout k) 1 (codesOf s) ≡ rowAt s 4 20 (k + 1)
+  pub increments : section (layout k) 2 (codesOf s) ≡ rowAt s (startOf k 2) 35 (cells k)
+  pub indices : section (layout k) 3 (codesOf s) ≡ rowAt s (startOf k 3) 23 k
+  pub reporting : section (layout k) 4 (codesOf s) ≡ rowAt s (startOf k 4) 20 (k + 1)
+  pub weight : section (layout k) 5 (codesOf s) ≡ rowAt s (startOf k 5) 20 1
+  pub ulae : section (layout k) 6 (codesOf s) ≡ rowAt s (startOf k 6) 34 (k + 1)
+
 -- the lists by their places
 pub record Lists (s : List ℕ) (k : ℕ) : Type 0 where
   pub exposures : exposuresIn k (fieldsOf s) ≡ rowAt s 4 20 (k + 1)
   pub increments : incrementsIn k (fieldsOf s) ≡ map (valueOf increment) (rowAt s (startOf k 2) 35 (cells k))
-  pub codes : section (layout k) 2 (codesOf s) ≡ rowAt s (startOf k 2) 35 (cells k)
   pub indices : indicesIn k (fieldsOf s) ≡ rowAt s (startOf k 3) 23 k
   pub reporting : reportingIn k (fieldsOf s) ≡ rowAt s (startOf k 4) 20 (k + 1)
   pub weight : weightIn k (fieldsOf s) ≡ fieldAt s (startOf k 5) 20
   pub ulae : ulaeIn k (fieldsOf s) ≡ rowAt s (startOf k 6) 34 (k + 1)
 
 -- a row that starts at the same place
-pub same-place : (s : List ℕ) {a b : ℕ} (w n : ℕ) → a ≡ b → rowAt s a w n ≡ rowAt s b w n
+same-place : (s : List ℕ) {a b : ℕ} (w n : ℕ) → a ≡ b → rowAt s a w n ≡ rowAt s b w n
 same-place s w n e = rw e
 
 module _ (s : List ℕ) (h : Whole s) where
+  pub codes : Codes s (lastYearOf s)
+  unfolding layout
+  codes =
+      let k = lastYearOf s in
+      let at = starts k in
+      record {
+        years = codes-row s h 0;
+        exposures = codes-row s h 1;
+        increments = codes-row s h 2 ∙ same-place s 35 (cells k) (omega arith);
+        indices = codes-row s h 3 ∙ same-place s 23 k (omega arith);
+        reporting = codes-row s h 4 ∙ same-place s 20 (k + 1) (omega arith);
+        weight = codes-row s h 5 ∙ same-place s 20 1 (omega arith);
+        ulae = codes-row s h 6 ∙ same-place s 34 (k + 1) (omega arith);
+      }
+
   pub lists : Lists s (lastYearOf s)
   unfolding layout exposuresIn incrementsIn indicesIn reportingIn weightIn ulaeIn
   lists =
@@ -57,7 +81,6 @@ module _ (s : List ℕ) (h : Whole s) where
       record {
         exposures = rw (fields-row s h 1) (unsigned exposure refl (rowAt s 4 20 (k + 1)));
         increments = rw (fields-row s h 2) (ap (map (valueOf increment)) (same-place s 35 (cells k) (omega arith)));
-        codes = codes-row s h 2 ∙ same-place s 35 (cells k) (omega arith);
         indices = rw (fields-row s h 3) (unsigned index refl (rowAt s _ 23 k) ∙ same-place s 23 k (omega arith));
         reporting = rw (fields-row s h 4) (unsigned reporting refl (rowAt s _ 20 (k + 1)) ∙ same-place s 20 (k + 1) (omega arith));
         weight = rw (fields-row s h 5) (ap (λ (l : List ℕ). getD l 0 0) (unsigned weight refl (rowAt s _ 20 1) ∙ same-place s 20 1 (omega arith) ∙ one-row s (startOf k 5) 20));

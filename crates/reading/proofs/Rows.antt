@@ -2,18 +2,21 @@
 use Prim.Native.Nat.{ℕ, _≤_, _<_}
 use native.Mathlib.Omega.{arith}
 use borrow.Author.Tests.{eqb-true, leb-true}
-use mathlib.Core.Path.{_≡_}
+use mathlib.Core.Path.{_≡_, refl}
 use mathlib.Core.Bool.{true}
 use mathlib.Core.List.{List, []}
 use lib.Dec.{eqb, leb}
 use lib.ListN.{length, getD}
 use Rattle.rules.specs.Record.{layout, section, widths, bitCount, byteCount, fillingCount, valueOf, bitsInRange, lastYearOf, codesOf, fillingOf, fieldsOf}
-use Rattle.rules.specs.Reading.{hasLastYear, hasLength, inRanges}
+use Rattle.rules.specs.Lists.{every}
+use Rattle.rules.specs.Questions.{firstNo}
+use Rattle.rules.specs.Reading.{hasLastYear, hasLength, inRanges, openingQuestions}
 use Rattle.packing.specs.Field.{fieldAt}
 use Rattle.rules.specs.Packing.{Fit}
 use Rattle.packing.proofs.Pack.{field-lt}
 use Rattle.packing.proofs.Places.{field-append, field-byte}
 use Rattle.laws.proofs.Lists.{both-left, both-right}
+use Rattle.laws.proofs.Questions.{yes-said}
 use Rattle.layout.proofs.Sections.{join, Shaped, mapRows, everyRow, section-join, zip-join, mapRows-shaped, every-join}
 use Rattle.layout.proofs.Codes.{rowsFrom, rows-shaped, unpack-rows}
 use Rattle.layout.proofs.Sizes.{bytes-room, bytes-least, years-lt}
@@ -33,21 +36,28 @@ years-known s h =
     let b = leb 1 (lastYearOf s) in
     (leb-true 1 (length s) (both-left a b h), leb-true 1 (lastYearOf s) (both-right a b h))
 
-pub whole : (s : List ℕ) → Fit 8 s → hasLastYear s ≡ true → hasLength s ≡ true → Whole s
+-- what an answer of 0 tells: each of the two says yes
+pub opening-yes : (s : List ℕ) → firstNo (openingQuestions s) ≡ 0 → (hasLastYear s ≡ true) × (hasLength s ≡ true)
+unfolding openingQuestions every
+opening-yes s e = (yes-said 1 (openingQuestions s) refl e, yes-said 2 (openingQuestions s) refl e)
+
+pub whole : (s : List ℕ) → Fit 8 s → firstNo (openingQuestions s) ≡ 0 → Whole s
 unfolding hasLength
-whole s h a b = record {
-  small = h;
-  some = years-known s a .1;
-  few = years-lt s h;
-  long = eqb-true (length s) (byteCount (lastYearOf s)) (both-left (eqb (length s) (byteCount (lastYearOf s))) (eqb (fillingOf s) 0) b);
-}
+whole s h e =
+    let both = opening-yes s e in
+    record {
+      small = h;
+      some = years-known s (both .0) .1;
+      few = years-lt s h;
+      long = eqb-true (length s) (byteCount (lastYearOf s)) (both-left (eqb (length s) (byteCount (lastYearOf s))) (eqb (fillingOf s) 0) (both .1));
+    }
 
 module _ (s : List ℕ) (h : Whole s) where
   -- the rows of the record
   abbrev pub rows : List (List ℕ)
   rows = rowsFrom s 0 (layout (lastYearOf s))
 
-  pub codes-are : codesOf s ≡ join rows
+  codes-are : codesOf s ≡ join rows
   unfolding codesOf widths bitCount
   codes-are =
       let room = bytes-room (lastYearOf s) in

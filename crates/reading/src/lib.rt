@@ -3,40 +3,35 @@ use entries::put_integers;
 use entries::put_natural;
 use entries::put_naturals;
 use entries::sum_of;
-use entries::within;
 use layout::cells_of;
 use layout::fields_of;
 use layout::places_of;
 use packing::field;
 use rules::ACCEPTED;
-use rules::Figures;
 use rules::MILLION;
 use rules::MOST_AMOUNT;
 use rules::MOST_INDEX;
 use rules::SIGN;
 ghost use mathlib.Core.Path.{_≡_};
-ghost use mathlib.Core.Bool.{true, _&&_};
+ghost use mathlib.Core.Bool.{true};
+ghost use mathlib.Core.List.{map};
 ghost use Prim.Native.Nat.{_+_, _-_, _*_, _<_, _≤_, _%_, _^_};
 ghost use lib.Dec.{eqb};
-ghost use lib.ListN.{length, take};
+ghost use lib.ListN.{length, getD};
 ghost use lib.Seq.{sets};
 ghost use Rattle.rules.specs.Packing.{numberOf};
-ghost use Rattle.rules.specs.Record.{lastYearOf, increment, valueOf, bitsInRange, fieldCount, cells};
-ghost use Rattle.rules.specs.Lists.{padded, every, between};
-ghost use Rattle.rules.specs.Reading.{hasLastYear, hasLength, hasRoom, readAnswer, readInto};
+ghost use Rattle.rules.specs.Record.{lastYearOf, increment, valueOf, bitsInRange, fieldCount, fieldsOf, cells};
+ghost use Rattle.rules.specs.Questions.{firstNo, afterCall};
+ghost use Rattle.rules.specs.Lists.{every, between};
+ghost use Rattle.rules.specs.Reading.{hasLastYear, hasLength, hasRoom, openingQuestions, fieldQuestions, readAnswer, readInto};
+ghost use Rattle.entries.specs.Leading.{passing};
 ghost use Rattle.packing.specs.Field.{rowAt};
-ghost use Rattle.reading.specs.Reading.{RowWithin, incrementsAt, readingOf, rangesOf, sumOf, triangleOf, assumptionsOf, listOf, Listable};
+ghost use Rattle.reading.specs.Reading.{RowWithin, rowRead, Signable, triangleFields, assumptionFields};
 
-// The increments of a record, and whether the bits of each are in range.
-pub struct Increments {
-    pub amounts: [i64; 136],
-    pub sound: bool,
-}
-
-// The figures of a record, and whether the bits of each increment are in range.
-pub struct Reading {
-    pub figures: Figures,
-    pub sound: bool,
+// The answer of questions 4 and 5, and the weight.
+pub struct Opened {
+    pub answer: u64,
+    pub weight: u64,
 }
 
 fn wide(x: u8) -> usize
@@ -54,7 +49,7 @@ pub fn last_year_of(s: &[u8]) -> usize
 }
 
 // Question 1.
-pub fn has_last_year(s: &[u8]) -> bool
+fn has_last_year(s: &[u8]) -> bool
     ensures { λ r. ⌜ r ≡ hasLastYear (now (s .entry)) ⌝ }
 {
     if s.len() < 1 {
@@ -76,7 +71,7 @@ fn zero_from(s: &[u8], end: usize) -> bool
 }
 
 // Question 2.
-pub fn has_length(s: &[u8]) -> bool
+fn has_length(s: &[u8]) -> bool
     requires { ⌜ hasLastYear (now s) ≡ true ⌝ }
     ensures { λ r. ⌜ r ≡ hasLength (now (s .entry)) ⌝ }
 {
@@ -95,16 +90,31 @@ fn has_room(s: &[u8], m: usize) -> bool
     fields_of(last_year_of(s)) <= m
 }
 
-// n fields of w bits from bit place `at` on.
-fn read_row(s: &[u8], at: usize, w: usize, n: usize) -> [u64; 16]
+// The n fields of w bits from bit place `at` on go into the row, as far as each is from least to most.
+fn fill_row(
+    s: &[u8],
+    at: usize,
+    w: usize,
+    n: usize,
+    least: u64,
+    most: u64,
+    row: &mut [u64; 16],
+) -> bool
     requires { ⌜ RowWithin (now s) at w n × (n ≤ 16) ⌝ }
-    ensures { λ r. ⌜ r ≡ padded 16 0 (rowAt (now (s .entry)) at w n) ⌝ }
+    ensures { λ r. ⌜ (r ≡ every (between least most) (rowAt (now (s .entry)) at w n))
+        × (now (row .exit) ≡ sets (now (row .entry)) 0 (passing (between least most) (rowAt (now (s .entry)) at w n))) ⌝ }
 {
-    let mut a = [0u64; 16];
     for i in 0..n {
-        a[i] = field(s, at + w * i, w);
+        let x = field(s, at + w * i, w);
+        if x < least {
+            return false;
+        }
+        if x > most {
+            return false;
+        }
+        row[i] = x;
     }
-    a
+    true
 }
 
 // The increment with these bits.
@@ -130,127 +140,155 @@ fn sound(code: u64) -> bool
     code % SIGN <= MOST_AMOUNT
 }
 
-fn both(a: bool, b: bool) -> bool
-    ensures { λ r. ⌜ r ≡ a && b ⌝ }
-{
-    if a { b } else { false }
-}
-
-// The n increments from bit place `at` on.
-fn read_increments(s: &[u8], at: usize, n: usize) -> Increments
+// The n increments from bit place `at` on go into the list, as far as each is in its range.
+fn fill_increments(s: &[u8], at: usize, n: usize, amounts: &mut [i64; 136]) -> bool
     requires { ⌜ RowWithin (now s) at 35 n × (n ≤ 136) ⌝ }
-    ensures { λ r. ⌜ r ≡ incrementsAt (now (s .entry)) at n ⌝ }
+    ensures { λ r. ⌜ (r ≡ every (bitsInRange increment) (rowAt (now (s .entry)) at 35 n))
+        × (now (amounts .exit) ≡ sets (now (amounts .entry)) 0 (map (valueOf increment) (passing (bitsInRange increment) (rowAt (now (s .entry)) at 35 n)))) ⌝ }
 {
-    let mut amounts = [0i64; 136];
-    let mut all = true;
     for i in 0..n {
         let code = field(s, at + 35 * i, 35);
+        if !sound(code) {
+            return false;
+        }
         amounts[i] = amount(code);
-        all = both(all, sound(code));
     }
-    Increments {
-        amounts,
-        sound: all,
-    }
+    true
 }
 
-// The figures of a record that has passed questions 1 and 2.
-pub fn read(s: &[u8]) -> Reading
-    requires { ⌜ (hasLastYear (now s) ≡ true) × (hasLength (now s) ≡ true) ⌝ }
-    ensures { λ r. ⌜ r ≡ readingOf (now (s .entry)) ⌝ }
+// Questions 1 and 2.
+pub fn opens(s: &[u8]) -> u64
+    ensures { λ r. ⌜ r ≡ firstNo (openingQuestions (now (s .entry))) ⌝ }
+{
+    if !has_last_year(s) {
+        return 1;
+    }
+    if !has_length(s) {
+        return 2;
+    }
+    ACCEPTED
+}
+
+// Questions 4 and 5 of a record that has passed 1 and 2, and its weight. The other fields go into their lists, as far as question 4 says yes.
+pub fn read(
+    s: &[u8],
+    exposures: &mut [u64; 16],
+    increments: &mut [i64; 136],
+    indices: &mut [u64; 16],
+    reporting: &mut [u64; 16],
+    ulae: &mut [u64; 16],
+) -> Opened
+    requires { ⌜ firstNo (openingQuestions (now s)) ≡ 0 ⌝ }
+    ensures { λ r. ⌜ (r .answer ≡ firstNo (fieldQuestions (now (s .entry))))
+        × ((r .weight ≡ getD (rowRead (now (s .entry)) 5) 0 0)
+        × ((now (exposures .exit) ≡ sets (now (exposures .entry)) 0 (rowRead (now (s .entry)) 1))
+        × ((now (increments .exit) ≡ sets (now (increments .entry)) 0 (map (valueOf increment) (rowRead (now (s .entry)) 2)))
+        × ((now (indices .exit) ≡ sets (now (indices .entry)) 0 (rowRead (now (s .entry)) 3))
+        × ((now (reporting .exit) ≡ sets (now (reporting .entry)) 0 (rowRead (now (s .entry)) 4))
+        × (now (ulae .exit) ≡ sets (now (ulae .entry)) 0 (rowRead (now (s .entry)) 6))))))) ⌝ }
 {
     let k = last_year_of(s);
     let at = places_of(k);
-    let exposures = read_row(s, 4, 20, k + 1);
-    let cells = read_increments(s, at.increments, at.cells);
-    let indices = read_row(s, at.indices, 23, k);
-    let reporting = read_row(s, at.reporting, 20, k + 1);
+    let n = k + 1;
+    if !fill_row(s, 4, 20, n, 1, MILLION, exposures) {
+        return Opened {
+            answer: 4,
+            weight: 0,
+        };
+    }
+    if !fill_increments(s, at.increments, at.cells, increments) {
+        return Opened {
+            answer: 4,
+            weight: 0,
+        };
+    }
+    if !fill_row(s, at.indices, 23, k, 1, MOST_INDEX, indices) {
+        return Opened {
+            answer: 4,
+            weight: 0,
+        };
+    }
+    if !fill_row(s, at.reporting, 20, n, 0, MILLION, reporting) {
+        return Opened {
+            answer: 4,
+            weight: 0,
+        };
+    }
     let weight = field(s, at.weight, 20);
-    let ulae = read_row(s, at.ulae, 34, k + 1);
-    let amounts = cells.amounts;
-    let figures = Figures {
-        k,
-        exposures,
-        increments: amounts,
-        indices,
-        reporting,
+    if weight > MILLION {
+        return Opened {
+            answer: 4,
+            weight: 0,
+        };
+    }
+    if !fill_row(s, at.ulae, 34, n, 0, MOST_AMOUNT, ulae) {
+        return Opened { answer: 4, weight };
+    }
+    if sum_of(reporting, n) != MILLION {
+        return Opened { answer: 5, weight };
+    }
+    Opened {
+        answer: ACCEPTED,
         weight,
-        ulae,
-    };
-    Reading {
-        figures,
-        sound: cells.sound,
     }
 }
 
-// Question 4.
-pub fn in_ranges(r: Reading) -> bool
-    requires { ⌜ r .figures .k < 16 ⌝ }
-    ensures { λ x. ⌜ x ≡ rangesOf r ⌝ }
+// k, the exposures and the increments go into the list; the place after them.
+fn put_triangle(k: usize, exposures: &[u64; 16], increments: &[i64; 136], list: &mut [i64]) -> usize
+    requires { ⌜ (k < 16) × (Signable (now exposures) × (k + 2 + cells k ≤ length (now list))) ⌝ }
+    ensures { λ r. ⌜ (r ≡ k + 2 + cells k)
+        × (now (list .exit) ≡ sets (now (list .entry)) 0 (triangleFields k (now (exposures .entry)) (now (increments .entry)))) ⌝ }
 {
-    let f = r.figures;
-    let n = f.k + 1;
-    let exposures = f.exposures;
-    let indices = f.indices;
-    let reporting = f.reporting;
-    let ulae = f.ulae;
-    let first = within(&exposures, n, 1, MILLION);
-    let third = within(&indices, f.k, 1, MOST_INDEX);
-    let fourth = within(&reporting, n, 0, MILLION);
-    let last = within(&ulae, n, 0, MOST_AMOUNT);
-    both(
-        first,
-        both(
-            r.sound,
-            both(third, both(fourth, both(f.weight <= MILLION, last))),
-        ),
-    )
-}
-
-// Question 5.
-pub fn shares_sum(f: Figures) -> bool
-    requires { ⌜ (f .k < 16) × (every (between 0 1000000) (take (f .k + 1) (f .reporting)) ≡ true) ⌝ }
-    ensures { λ x. ⌜ x ≡ sumOf f ⌝ }
-{
-    let reporting = f.reporting;
-    sum_of(&reporting, f.k + 1) == MILLION
-}
-
-// k, the exposures and the increments go into the list.
-fn put_triangle(f: Figures, list: &mut [i64]) -> usize
-    requires { ⌜ Listable f × (fieldCount (f .k) ≤ length (now list)) ⌝ }
-    ensures { λ r. ⌜ (r ≡ f .k + 2 + cells (f .k)) × (now (list .exit) ≡ sets (now (list .entry)) 0 (triangleOf f)) ⌝ }
-{
-    let k = f.k;
-    let exposures = f.exposures;
-    let increments = f.increments;
     let a = put_natural(list, 0, k as u64);
-    let b = put_naturals(list, a, &exposures, k + 1);
-    put_integers(list, b, &increments, cells_of(k))
+    let b = put_naturals(list, a, exposures, k + 1);
+    put_integers(list, b, increments, cells_of(k))
 }
 
 // The indices, the reporting shares, the weight and the ULAE totals go into the list from place `at` on.
-fn put_assumptions(f: Figures, list: &mut [i64], at: usize)
-    requires { ⌜ Listable f × (at + 3 * f .k + 3 ≤ length (now list)) ⌝ }
-    ensures { λ _. ⌜ now (list .exit) ≡ sets (now (list .entry)) at (assumptionsOf f) ⌝ }
+fn put_assumptions(
+    k: usize,
+    indices: &[u64; 16],
+    reporting: &[u64; 16],
+    weight: u64,
+    ulae: &[u64; 16],
+    list: &mut [i64],
+    at: usize,
+)
+    requires { ⌜ (k < 16) × (Signable (now indices) × (Signable (now reporting) × ((weight < 2 ^ 63) × (Signable (now ulae) × (at + 3 * k + 3 ≤ length (now list)))))) ⌝ }
+    ensures { λ _. ⌜ now (list .exit) ≡ sets (now (list .entry)) at (assumptionFields k (now (indices .entry)) (now (reporting .entry)) weight (now (ulae .entry))) ⌝ }
 {
-    let k = f.k;
-    let indices = f.indices;
-    let reporting = f.reporting;
-    let ulae = f.ulae;
-    let a = put_naturals(list, at, &indices, k);
-    let b = put_naturals(list, a, &reporting, k + 1);
-    let c = put_natural(list, b, f.weight);
-    put_naturals(list, c, &ulae, k + 1);
+    let a = put_naturals(list, at, indices, k);
+    let b = put_naturals(list, a, reporting, k + 1);
+    let c = put_natural(list, b, weight);
+    put_naturals(list, c, ulae, k + 1);
 }
 
-// The fields go into the list in the record's order.
-fn put_fields(f: Figures, list: &mut [i64])
-    requires { ⌜ Listable f × (fieldCount (f .k) ≤ length (now list)) ⌝ }
-    ensures { λ _. ⌜ now (list .exit) ≡ sets (now (list .entry)) 0 (listOf f) ⌝ }
+// Questions 4 and 5 of a record that has passed 1, 2 and 3, and its fields in their order where both say yes.
+fn read_into(packed: &[u8], list: &mut [i64]) -> u64
+    requires { ⌜ (firstNo (openingQuestions (now packed)) ≡ 0) × (fieldCount (lastYearOf (now packed)) ≤ length (now list)) ⌝ }
+    ensures { λ r. ⌜ (r ≡ firstNo (fieldQuestions (now (packed .entry))))
+        × (now (list .exit) ≡ afterCall (firstNo (fieldQuestions (now (packed .entry)))) (sets (now (list .entry)) 0 (fieldsOf (now (packed .entry)))) (now (list .entry))) ⌝ }
 {
-    let at = put_triangle(f, list);
-    put_assumptions(f, list, at);
+    let mut exposures = [0u64; 16];
+    let mut increments = [0i64; 136];
+    let mut indices = [0u64; 16];
+    let mut reporting = [0u64; 16];
+    let mut ulae = [0u64; 16];
+    let opened = read(
+        packed,
+        &mut exposures,
+        &mut increments,
+        &mut indices,
+        &mut reporting,
+        &mut ulae,
+    );
+    if opened.answer != ACCEPTED {
+        return opened.answer;
+    }
+    let k = last_year_of(packed);
+    let at = put_triangle(k, &exposures, &increments, list);
+    put_assumptions(k, &indices, &reporting, opened.weight, &ulae, list, at);
+    ACCEPTED
 }
 
 // Fills the list with the fields of the record in their order and answers 0, or leaves it and answers the number of the first of
@@ -259,23 +297,12 @@ fn put_fields(f: Figures, list: &mut [i64])
 pub extern "C" fn doonamurk_read(packed: &[u8], list: &mut [i64]) -> u64
     ensures { λ r. ⌜ (r ≡ readAnswer (now (packed .entry)) (length (now (list .entry)))) × (now (list .exit) ≡ readInto (now (packed .entry)) (now (list .entry))) ⌝ }
 {
-    if !has_last_year(packed) {
-        return 1;
-    }
-    if !has_length(packed) {
-        return 2;
+    let answer = opens(packed);
+    if answer != ACCEPTED {
+        return answer;
     }
     if !has_room(packed, list.len()) {
         return 3;
     }
-    let r = read(packed);
-    if !in_ranges(r) {
-        return 4;
-    }
-    let f = r.figures;
-    if !shares_sum(f) {
-        return 5;
-    }
-    put_fields(f, list);
-    ACCEPTED
+    read_into(packed, list)
 }

@@ -10,7 +10,7 @@ use borrow.Author.Tests.{leb-true, eqb-true, le-leb, eq-eqb}
 use Rattle.rules.specs.Lists.{total}
 use Rattle.rules.specs.Questions.{firstNo}
 use Rattle.rules.specs.Record.{million, layout, kindsOf, fieldCount, byteCount, cells, everyField, inRange, bitsInRange, lastYearOf, codesOf, fillingOf, fieldsOf, reportingIn}
-use Rattle.rules.specs.Reading.{hasLastYear, hasLength, hasRoom, inRanges, sharesSum, readAnswer}
+use Rattle.rules.specs.Reading.{hasLastYear, hasLength, hasRoom, inRanges, sharesSum, openingQuestions, fieldQuestions, readAnswer}
 use Rattle.rules.specs.Writing.{Given, givenFields, givenLastYear, givenLengths, givenRanges, givenSum, writeAnswer}
 use Rattle.laws.proofs.Lists.{both-left, both-right}
 use Rattle.layout.proofs.Sizes.{bytes-least}
@@ -32,7 +32,7 @@ pub record Accepted (s : List ℕ) (m : ℕ) : Type 0 where
 
 -- the answer 0 says that, and whatever is so is answered by 0
 pub reader-yes : (s : List ℕ) (m : ℕ) → readAnswer s m ≡ 0 → Accepted s m
-unfolding readAnswer hasLastYear hasLength hasRoom inRanges sharesSum
+unfolding readAnswer openingQuestions fieldQuestions hasLastYear hasLength hasRoom inRanges sharesSum
 reader-yes s m h =
     let q1 = first-yes 0 (hasLastYear s) _ h in
     let q2 = first-yes 1 (hasLength s) _ (q1 .1) in
@@ -49,7 +49,7 @@ reader-yes s m h =
     }
 
 pub yes-reader : (s : List ℕ) (m : ℕ) → Accepted s m → readAnswer s m ≡ 0
-unfolding readAnswer hasLastYear hasLength hasRoom inRanges sharesSum firstNo
+unfolding readAnswer openingQuestions fieldQuestions hasLastYear hasLength hasRoom inRanges sharesSum firstNo
 yes-reader s m a =
     let k = lastYearOf s in
     rw (

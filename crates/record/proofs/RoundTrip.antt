@@ -3,20 +3,24 @@
 use Prim.Native.Nat.{ℕ, zero, suc, _≤_}
 use native.Mathlib.Omega.{arith}
 use mathlib.Core.Path.{_≡_, refl, sym, ap, ap₂, _∙_}
-use mathlib.Core.List.{List}
+use mathlib.Core.List.{List, _∷_, [], _++_}
 use lib.IntN.{ℤ}
 use lib.ListN.{length}
 use lib.Seq.{sets}
-use Rattle.rules.specs.Questions.{afterCall}
+use Rattle.rules.specs.Questions.{afterCall, firstNo}
 use Rattle.rules.specs.Record.{fieldCount, byteCount, lastYearOf, fieldsOf, figuresOf, recordOf}
-use Rattle.rules.specs.Reading.{readAnswer, readInto}
+use Rattle.rules.specs.Reading.{readAnswer, readInto, hasRoom, openingQuestions, fieldQuestions}
 use Rattle.rules.specs.Writing.{Given, givenIn, givenFields, writeAnswer, writeInto}
 use Rattle.rules.specs.Packing.{Fit}
+use Rattle.rules.specs.Lists.{every}
+use Rattle.rules.specs.Engine.{figureQuestions, holdsList, questions, runAnswer}
 use Rattle.packing.proofs.Pack.{bytes-small}
 use Rattle.layout.proofs.Sizes.{years-lt}
-use Rattle.reading.specs.Reading.{listOf}
 use Rattle.reading.proofs.Rows.{Whole}
-use Rattle.reading.proofs.Answers.{list-same}
+use Rattle.reading.proofs.Answers.{listOf, list-same}
+use Rattle.laws.proofs.Questions.{both-zero, later-answer}
+use borrow.Author.Tests.{le-leb}
+use native.Mathlib.Nat.{le-refl}
 use Rattle.record.proofs.Answers.{Accepted, Taken, reader-yes, yes-reader, writer-yes, yes-writer}
 use Rattle.record.proofs.Cut.{cutBy, given-stored, given-cut, cut-taken, given-fields, given-again}
 use Rattle.record.proofs.Fields.{RecordFields}
@@ -120,3 +124,19 @@ pub written-bytes : (g : Given) (buffer : List ℕ) → Fit 8 buffer → Fit 8 (
 unfolding writeInto recordOf
 written-bytes g buffer h =
     after-either (Fit 8) (writeAnswer g (length buffer)) (recordOf (g .k) (givenFields g)) buffer (bytes-small (byteCount (g .k)) _) h
+
+-- what the engine accepts, a reader with room for the fields accepts
+pub run-read : (s : List ℕ) (m n : ℕ) → runAnswer s m ≡ 0 → fieldCount (lastYearOf s) ≤ n → readAnswer s n ≡ 0
+unfolding runAnswer questions readAnswer hasRoom openingQuestions fieldQuestions every firstNo
+run-read s m n ok room =
+    let first = both-zero (openingQuestions s) ((3, holdsList s m) ∷ (fieldQuestions s ++ figureQuestions (figuresOf s))) refl ok in
+    let rest = both-zero ((3, holdsList s m) ∷ []) (fieldQuestions s ++ figureQuestions (figuresOf s)) refl (first .1) in
+    let fields = both-zero (fieldQuestions s) (figureQuestions (figuresOf s)) refl (rest .1) in
+    later-answer (openingQuestions s) ((3, hasRoom s n) ∷ fieldQuestions s) refl (first .0) ∙ rw (le-leb (fieldCount (lastYearOf s)) n room) (fields .0)
+
+-- so two records that the engine accepts with the same figures are the same record
+pub same-run : (s t : List ℕ) (m n : ℕ) → Fit 8 s → Fit 8 t → runAnswer s m ≡ 0 → runAnswer t n ≡ 0 → figuresOf s ≡ figuresOf t → s ≡ t
+same-run s t m n hs ht rs rt e =
+    let a = fieldCount (lastYearOf s) in
+    let b = fieldCount (lastYearOf t) in
+    same-figures s t a b hs ht (run-read s m a rs (le-refl a)) (run-read t n b rt (le-refl b)) e

@@ -7,26 +7,26 @@ use lib.IntN.{ℤ, pos}
 use lib.ListN.{replicate}
 use Rattle.rules.specs.Lists.{upTo, padded}
 use Rattle.rules.specs.Record.{lastYearOf, figuresOf}
-use Rattle.rules.specs.Completion.{paidTo}
+use Rattle.rules.specs.Results.{mostEntries, paidIn}
 use Rattle.rules.specs.Engine.{runAnswer, runInto}
 use Rattle.wording.specs.Wording.{refusalText}
 use Rattle.page.specs.Page.{ladderUltimate, pageOf}
 use Rattle.web_page.specs.Web.{webStart, webText, webPageOf}
 
--- the list that the engine fills, of 489 entries, enough for every k; and in arrays of sixteen, zero past year k, what is paid and the chain
+-- the list that the engine fills, of as many entries as are enough for every k; and in arrays of sixteen, zero past year k, what is paid and the chain
 -- ladder's ultimates by origin year
 abbrev pub filledBy : List ℕ → List ℤ
-filledBy s = runInto s (replicate 489 (pos 0))
+filledBy s = runInto s (replicate mostEntries (pos 0))
 
 abbrev pub paidBy : List ℕ → List ℕ
-paidBy s = padded 16 0 (upTo (paidTo (figuresOf s)) (lastYearOf s + 1))
+paidBy s = paidIn (figuresOf s)
 
 abbrev pub ladderBy : List ℕ → List ℕ
 ladderBy s = padded 16 0 (upTo (ladderUltimate (lastYearOf s) (filledBy s) (paidBy s)) (lastYearOf s + 1))
 
 -- the report of the record s
 unfoldable pub reportOf : List ℕ → List ℕ
-reportOf s = cond (eqb (runAnswer s 489) 0) (pageOf (lastYearOf s) (filledBy s) (paidBy s) (ladderBy s)) (refusalText (runAnswer s 489))
+reportOf s = cond (eqb (runAnswer s mostEntries) 0) (pageOf (lastYearOf s) (filledBy s) (paidBy s) (ladderBy s)) (refusalText (runAnswer s mostEntries))
 
 -- the words of question n's refusal on a page of HTML
 unfoldable pub webRefusal : ℕ → List ℕ
@@ -34,7 +34,7 @@ webRefusal n = webStart ++ webText (refusalText n)
 
 -- the report of the record s as a page of HTML
 unfoldable pub htmlReportOf : List ℕ → List ℕ
-htmlReportOf s = cond (eqb (runAnswer s 489) 0) (webPageOf (lastYearOf s) (filledBy s) (paidBy s) (ladderBy s)) (webRefusal (runAnswer s 489))
+htmlReportOf s = cond (eqb (runAnswer s mostEntries) 0) (webPageOf (lastYearOf s) (filledBy s) (paidBy s) (ladderBy s)) (webRefusal (runAnswer s mostEntries))
 
 -- the report as HTML, or as text
 unfoldable pub reportIn : Bool → List ℕ → List ℕ

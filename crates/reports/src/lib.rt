@@ -1,48 +1,64 @@
 // The report of any record, as text or as HTML: the page of an accepted run, or the question that said no in words.
-use completion::ultimates;
 use engine::doonamurk_run;
 use entries::size_of;
+use listing::starts_of;
 use page::put_page;
-use page::starts_of;
+use reading::last_year_of;
 use reading::read;
-use rules::Figures;
-use triangle::cumulatives;
+use rules::MOST_ENTRIES;
+use triangle::fill_rows;
 use web_page::put_text_end;
 use web_page::put_text_start;
 use web_page::put_web_page;
 use web_page::put_web_start;
 use wording::put_refusal;
 ghost use mathlib.Core.Path.{_≡_};
-ghost use mathlib.Core.Bool.{true, cond};
+ghost use mathlib.Core.Bool.{cond};
 ghost use Prim.Native.Nat.{_+_, _<_};
+ghost use lib.ListN.{replicate};
 ghost use Rattle.rules.specs.Lists.{upTo, padded};
-ghost use Rattle.rules.specs.Triangle.{cumulativesPass};
-ghost use Rattle.rules.specs.Completion.{paidTo};
-ghost use Rattle.rules.specs.Results.{placeOf};
+ghost use Rattle.rules.specs.Results.{completedSection, sectionStart, mostEntries};
 ghost use Rattle.rules.specs.Engine.{runAnswer};
-ghost use Rattle.stages.specs.Stages.{Sound};
 ghost use Rattle.composing.specs.Text.{Put};
 ghost use Rattle.wording.specs.Wording.{refusalText};
+ghost use Rattle.listing.specs.Starts.{Addable};
 ghost use Rattle.page.specs.Page.{ladderUltimate, pageOf};
-ghost use Rattle.page.specs.Places.{Addable};
 ghost use Rattle.web_page.specs.Web.{webPageOf};
-ghost use Rattle.reports.specs.Report.{filledBy, webRefusal, reportOf, htmlReportOf, reportIn};
+ghost use Rattle.reports.specs.Report.{filledBy, paidBy, webRefusal, reportOf, htmlReportOf, reportIn};
 
-// What is paid by origin year: the ultimates of years without provisions.
-fn paid_of(f: Figures) -> [u64; 16]
-    requires { ⌜ Sound f × (cumulativesPass (f .k) (f .increments) ≡ true) ⌝ }
-    ensures { λ r. ⌜ (r ≡ padded 16 0 (upTo (paidTo f) (f .k + 1))) × Addable r ⌝ }
+// What is paid by origin year goes into the list, from the record of an accepted run.
+fn fill_paid(packed: &[u8], paid: &mut [u64; 16])
+    requires { ⌜ (runAnswer (now packed) mostEntries ≡ 0) × (now paid ≡ replicate 16 0) ⌝ }
+    ensures { λ _. ⌜ (now (paid .exit) ≡ paidBy (now (packed .entry))) × Addable (now (paid .exit)) ⌝ }
 {
-    let k = f.k;
-    let increments = f.increments;
-    let paid = cumulatives(k, &increments);
-    let none = [0u64; 16];
-    ultimates(k, &paid, &none)
+    let mut exposures = [0u64; 16];
+    let mut increments = [0i64; 136];
+    let mut indices = [0u64; 16];
+    let mut reporting = [0u64; 16];
+    let mut ulae = [0u64; 16];
+    read(
+        packed,
+        &mut exposures,
+        &mut increments,
+        &mut indices,
+        &mut reporting,
+        &mut ulae,
+    );
+    let mut square = [[0i64; 16]; 16];
+    let mut columns = [0u64; 16];
+    fill_rows(
+        last_year_of(packed),
+        &exposures,
+        &increments,
+        &mut square,
+        &mut columns,
+        paid,
+    );
 }
 
 // The chain ladder's ultimates by origin year, the last completed cumulative of each; p is where those cumulatives start in the list.
-fn ladder_of(list: &[i64; 489], paid: &[u64; 16], k: usize, p: usize) -> [u64; 16]
-    requires { ⌜ (k < 16) × (p ≡ placeOf k 12) ⌝ }
+fn ladder_of(list: &[i64; MOST_ENTRIES], paid: &[u64; 16], k: usize, p: usize) -> [u64; 16]
+    requires { ⌜ (k < 16) × (p ≡ sectionStart k completedSection) ⌝ }
     ensures { λ r. ⌜ r ≡ padded 16 0 (upTo (ladderUltimate k (now (list .entry)) (now (paid .entry))) (k + 1)) ⌝ }
 {
     let mut all = [0u64; 16];
@@ -58,7 +74,7 @@ fn ladder_of(list: &[i64; 489], paid: &[u64; 16], k: usize, p: usize) -> [u64; 1
 // The page of the years 0 to k, as HTML or as text.
 fn put_form(
     out: &mut [u8],
-    list: &[i64; 489],
+    list: &[i64; MOST_ENTRIES],
     paid: &[u64; 16],
     ladder: &[u64; 16],
     k: usize,
@@ -76,13 +92,13 @@ fn put_form(
 }
 
 // The page of an accepted run, from the record and the list that the engine filled.
-fn put_accepted(out: &mut [u8], packed: &[u8], list: &[i64; 489], html: bool) -> usize
-    requires { ⌜ (runAnswer (now packed) 489 ≡ 0) × (now list ≡ filledBy (now packed)) ⌝ }
+fn put_accepted(out: &mut [u8], packed: &[u8], list: &[i64; MOST_ENTRIES], html: bool) -> usize
+    requires { ⌜ (runAnswer (now packed) mostEntries ≡ 0) × (now list ≡ filledBy (now packed)) ⌝ }
     ensures { λ r. ⌜ Put (now (out .entry)) (now (out .exit)) 0 r (reportIn html (now (packed .entry))) ⌝ }
 {
-    let f = read(packed).figures;
-    let k = f.k;
-    let paid = paid_of(f);
+    let k = last_year_of(packed);
+    let mut paid = [0u64; 16];
+    fill_paid(packed, &mut paid);
     let ladder = ladder_of(list, &paid, k, starts_of(k).completed);
     put_form(out, list, &paid, &ladder, k, html)
 }
@@ -111,7 +127,7 @@ fn put_refused(out: &mut [u8], n: u64, html: bool) -> usize
 fn put_report(packed: &[u8], out: &mut [u8], html: bool) -> usize
     ensures { λ r. ⌜ Put (now (out .entry)) (now (out .exit)) 0 r (reportIn html (now (packed .entry))) ⌝ }
 {
-    let mut list = [0i64; 489];
+    let mut list = [0i64; MOST_ENTRIES];
     let answer = doonamurk_run(packed, &mut list);
     if answer != 0 {
         return put_refused(out, answer, html);

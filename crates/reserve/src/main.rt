@@ -1,9 +1,10 @@
 // Runs the engine on the record on standard input: prints the entries of its result list, one a line, or `refused` and the number.
 use engine::doonamurk_run;
-use engine::results_of;
+use listing::entries_of;
 use printing::put_lines;
 use printing::put_number;
 use printing::put_text;
+use rules::MOST_ENTRIES;
 ghost use Prim.Native.Nat.{_≤_, _<_};
 
 // k, the first four bits of a record's first byte.
@@ -17,13 +18,13 @@ fn last_year(first: u8) -> usize
 fn count_of(first: u8) -> usize
     ensures { λ r. ⌜ r ≤ 489 ⌝ }
 {
-    results_of(last_year(first))
+    entries_of(last_year(first))
 }
 
 fn main() {
     let mut buffer = io::buffer();
     let n = io::read_full(0, &mut buffer);
-    let mut list = [0i64; 489];
+    let mut list = [0i64; MOST_ENTRIES];
     let answer = doonamurk_run(&buffer[..n], &mut list);
     if answer == 0 {
         let count = count_of(buffer[0]);

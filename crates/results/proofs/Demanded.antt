@@ -1,27 +1,28 @@
 -- The third demand, of the list that an accepted run fills. Assumes nothing.
-use Prim.Native.Nat.{ℕ, suc, _+_, _-_, _≤_}
+use Prim.Native.Nat.{ℕ, suc, _+_, _-_, _≤_, _<_}
 use native.Mathlib.Omega.{arith}
 use mathlib.Core.Path.{_≡_, _∙_}
 use mathlib.Core.Bool.{true}
 use mathlib.Core.List.{List, _++_}
 use lib.IntN.{ℤ}
 use lib.ListN.{getD}
-use Rattle.rules.specs.Triangle.{ZeroOutside, columnTotal, diagonalTotal}
+use Rattle.rules.specs.Record.{Figures}
+use Rattle.rules.specs.Triangle.{ZeroOutside, columnTotal, diagonalTotal, paidTo}
 use Rattle.rules.specs.Separation.{shareOf, levelOf, factorsOf, totalsPass, restsPass, runningPass}
 use Rattle.rules.specs.Exact.{Solves}
 use Rattle.rules.specs.Accuracy.{NearExact, fromTo}
-use Rattle.rules.specs.Expense.{ratioPass}
-use Rattle.rules.specs.Results.{squareOf, latestOf, factorsIn, resultsOf}
-use Rattle.rules.specs.Demand.{sizeOf, printedSquare, Carried, ThirdDemand}
-use Rattle.rules.specs.declared.Figures.{Figures}
+use Rattle.rules.specs.Completion.{futureLevel, futureLevels, provision, provisions}
+use Rattle.rules.specs.Expense.{paidTotal, ulaeTotal, ratioPass}
+use Rattle.rules.specs.Results.{shareSection, levelSection, squareOf, latestOf, factorsIn, paidIn, levelsIn, provisionsIn, ratioIn, resultsOf}
+use Rattle.rules.specs.Demand.{printed, printedSquare, Carried, ThirdDemand}
 use Rattle.laws.proofs.Totals.{total-same}
 use Rattle.laws.proofs.Padded.{filled-at}
 use Rattle.totals.proofs.Most.{diagonal-most}
 use Rattle.accuracy.proofs.Near.{near-exact, share-most}
-use Rattle.triangle.proofs.Square.{zero-outside}
+use Rattle.totals.proofs.Square.{zero-outside}
 use Rattle.allowance.proofs.Carried.{Basis, payment-near, provision-near, provisions-near, reserve-near, reserves-near}
 use Rattle.allowance.proofs.Rates.{Rates, ratio-most, reported-most}
-use Rattle.stages.specs.Stages.{Sound}
+use Rattle.reading.specs.Sound.{Sound}
 use Rattle.results.proofs.Printed.{share-entry, level-entry, provision-entry, provisions-entry, reserve-entry, reserves-entry, ratio-entry, payment-entry, square-entry, nonnegative-entry}
 
 -- the same shares and levels up to year k are as near
@@ -43,7 +44,25 @@ pub record Answered (f : Figures) : Type 0 where
   pub totals : totalsPass (squareOf f) (f .k) ≡ true
   pub rests : restsPass (squareOf f) (f .k) ≡ true
   pub running : runningPass (squareOf f) (f .k) ≡ true
-  pub ratio : ratioPass f ≡ true
+  pub ratio : ratioPass (paidTotal (f .k) (f .increments)) (ulaeTotal (f .k) (f .ulae)) ≡ true
+
+-- the figures' arrays by place
+module _ (f : Figures) where
+  share-at : (j : ℕ) → j ≤ f .k → getD (factorsIn f .shares) j 0 ≡ shareOf (squareOf f) (f .k) j
+  unfolding factorsIn factorsOf
+  share-at j h = filled-at 16 0 (shareOf (squareOf f) (f .k)) (f .k + 1) j 0 (omega arith)
+
+  level-at : (t : ℕ) → t < f .k → getD (levelsIn f) t 0 ≡ futureLevel (latestOf f) (getD (f .indices) t 0)
+  unfolding levelsIn futureLevels
+  level-at t h = filled-at 16 0 (λ t. futureLevel (latestOf f) (getD (f .indices) t 0)) (f .k) t 0 h
+
+  pub paid-at : (i : ℕ) → i ≤ f .k → getD (paidIn f) i 0 ≡ paidTo (f .k) (f .increments) i
+  unfolding paidIn
+  paid-at i h = filled-at 16 0 (paidTo (f .k) (f .increments)) (f .k + 1) i 0 (omega arith)
+
+  pub provision-at : (i : ℕ) → i ≤ f .k → getD (provisionsIn f) i 0 ≡ provision (f .k) (f .exposures) (factorsIn f .shares) (levelsIn f) i
+  unfolding provisionsIn provisions
+  provision-at i h = filled-at 16 0 (provision (f .k) (f .exposures) (factorsIn f .shares) (levelsIn f)) (f .k + 1) i 0 (omega arith)
 
 module _ (f : Figures) (sound : Sound f) (yes : Answered f) where
   outside : ZeroOutside (squareOf f) (f .k)
@@ -53,21 +72,24 @@ module _ (f : Figures) (sound : Sound f) (yes : Answered f) where
   exact : NearExact (f .k) (columnTotal (squareOf f)) (diagonalTotal (squareOf f)) (shareOf (squareOf f) (f .k)) (levelOf (squareOf f) (f .k))
   exact = near-exact (squareOf f) (f .k) outside (yes .totals) (yes .rests) (yes .running)
 
-  share-at : (j : ℕ) → j ≤ f .k → getD (factorsIn f .shares) j 0 ≡ shareOf (squareOf f) (f .k) j
-  unfolding factorsIn factorsOf
-  share-at j h = filled-at 16 0 (shareOf (squareOf f) (f .k)) (f .k + 1) j 0 (omega arith)
-
-  basis : (D E : ℕ) (x y : ℕ → ℤ) → Solves (f .k) D E (columnTotal (squareOf f)) (diagonalTotal (squareOf f)) x y → Basis f (latestOf f) (factorsIn f .shares) D x
+  basis : (D E : ℕ) (x y : ℕ → ℤ) → Solves (f .k) D E (columnTotal (squareOf f)) (diagonalTotal (squareOf f)) x y
+      → Basis f (latestOf f) (factorsIn f .shares) (levelsIn f) D x
   unfolding latestOf
   basis D E x y s = record {
     latest = diagonal-most (squareOf f) (f .k) (sound .few) outside (yes .totals) (f .k) (omega arith);
     indices = λ t h. sound .indices t;
-    share-most = λ j h. rw (share-at j h) (share-most (squareOf f) (f .k) j);
-    share-near = λ j h. rw (share-at j h) (exact .share-near D E x y s j h);
+    levels = level-at f;
+    share-most = λ j h. rw (share-at f j h) (share-most (squareOf f) (f .k) j);
+    share-near = λ j h. rw (share-at f j h) (exact .share-near D E x y s j h);
   }
 
-  rates : Rates f
-  rates = record { reporting = reported-most f (sound .reporting-sum); weight = sound .weight; ratio = ratio-most f (yes .ratio) }
+  rates : Rates f (ratioIn f)
+  unfolding ratioIn
+  rates = record {
+    reporting = reported-most (f .k) (f .reporting) (sound .reporting-sum);
+    weight = sound .weight;
+    ratio = ratio-most (paidTotal (f .k) (f .increments)) (ulaeTotal (f .k) (f .ulae)) (yes .ratio);
+  }
 
   module _ (rest : List ℤ) where
     square : printedSquare (f .k) (resultsOf f ++ rest) ≡ squareOf f
@@ -77,13 +99,17 @@ module _ (f : Figures) (sound : Sound f) (yes : Answered f) where
     unfolding latestOf
     carried D E x y s =
         let b = basis D E x y s in
+        let d = latestOf f in
         let r = factorsIn f .shares in
+        let l = levelsIn f in
+        let c = paidIn f in
+        let q = provisionsIn f in
         record {
-          payments = λ i j hi hj l. rw (payment-entry f rest i j hi hj l, square) (payment-near f (latestOf f) r D x b i j hi hj l);
-          provisions = λ i h. rw (provision-entry f rest i h, square) (provision-near f (latestOf f) r D x b i h);
-          provision-total = rw (provisions-entry f rest, square) (provisions-near f (latestOf f) r D x b);
-          reserves = λ i h. rw (reserve-entry f rest i h, square, ratio-entry f rest) (reserve-near f (latestOf f) r D x b rates i h);
-          reserve-total = rw (reserves-entry f rest, square, ratio-entry f rest) (reserves-near f (latestOf f) r D x b rates);
+          payments = λ i j hi hj h. rw (payment-entry f rest i j hi hj h, square) (payment-near f d r l D x b i j hi hj h);
+          provisions = λ i h. rw (provision-entry f rest i h, square) (provision-near f d r l D x b i h);
+          provision-total = rw (provisions-entry f rest, square) (provisions-near f d r l D x b);
+          reserves = λ i h. rw (reserve-entry f rest i h, square, ratio-entry f rest) (reserve-near f d r l D x b c q (paid-at f) (provision-at f) (ratioIn f) rates i h);
+          reserve-total = rw (reserves-entry f rest, square, ratio-entry f rest) (reserves-near f d r l D x b c q (paid-at f) (provision-at f) (ratioIn f) rates);
         }
 
     -- the whole third demand
@@ -93,6 +119,6 @@ module _ (f : Figures) (sound : Sound f) (yes : Answered f) where
       near =
           rw square
           (near-same (f .k) (columnTotal (squareOf f)) (diagonalTotal (squareOf f)) (shareOf (squareOf f) (f .k)) (levelOf (squareOf f) (f .k))
-          (sizeOf (f .k) (resultsOf f ++ rest) 1) (sizeOf (f .k) (resultsOf f ++ rest) 2) (share-entry f rest) (level-entry f rest) exact);
+          (printed (f .k) (resultsOf f ++ rest) shareSection) (printed (f .k) (resultsOf f ++ rest) levelSection) (share-entry f rest) (level-entry f rest) exact);
       carried = λ D E x y s. carried D E x y (rw square at s);
     }

@@ -1,12 +1,4 @@
-pub mod Rows
-pub mod Expenses
-pub mod Ladders
-pub mod Sections
 pub mod Places
 pub mod Printed
 pub mod Demanded
-pub mod Accepted
-pub mod Small
-pub mod Finished
-pub mod Listed
-pub mod Settled
+pub mod Limits

@@ -1,27 +1,23 @@
 -- Entries of the result list by section and place. Assumes nothing.
 use Prim.Native.Nat.{ℕ, zero, suc, _+_, _-_, _<_}
 use native.Mathlib.Nat.{add-assoc, zero-add}
-use native.Mathlib.Numerals.{add-one}
 use native.Mathlib.Omega.{arith}
 use mathlib.Core.Path.{_≡_, refl, ap, _∙_}
 use mathlib.Core.List.{List, [], _∷_, _++_, map}
 use lib.IntN.{ℤ, pos}
 use lib.ListN.{length, getD, take, length-append, length-map, List·getD-append}
 use lib.Seq.{getD-append-add}
-use Rattle.rules.specs.Lists.{total, upTo}
-use Rattle.rules.specs.Record.{cells}
-use Rattle.rules.specs.Triangle.{rowStart, cellOf}
-use Rattle.rules.specs.Separation.{factorsOf, shareOf, levelOf}
-use Rattle.rules.specs.Completion.{futureLevel, paymentRow, provision}
+use Rattle.rules.specs.Lists.{total, upTo, joined}
+use Rattle.rules.specs.Record.{Figures, cells}
+use Rattle.rules.specs.Triangle.{cellOf}
+use Rattle.rules.specs.Separation.{shareOf, levelOf}
+use Rattle.rules.specs.Completion.{futureLevel, futureLevels, paymentRow, payments, provision, provisions}
 use Rattle.rules.specs.Expense.{notReported, reserve}
-use Rattle.rules.specs.Ladder.{developmentFactor, completedRow}
-use Rattle.rules.specs.Results.{squareOf, latestOf, factorsIn, joined, sections, resultsOf, sectionCounts, resultCount, placeOf}
-use Rattle.rules.specs.declared.Figures.{Figures}
+use Rattle.rules.specs.Ladder.{developed, base, developmentFactor, developmentFactors, completedRow, completedAll}
+use Rattle.rules.specs.Results.{sectionCounts, resultCount, sectionStart, separationSections, completionSections, reserveSections, ladderSections, squareOf, latestOf, factorsIn, paidIn, levelsIn, provisionsIn, developmentIn, ratioIn, sections, resultsOf}
 use Rattle.laws.proofs.Lists.{length-upTo}
+use Rattle.laws.proofs.Rows.{rows-all}
 use Rattle.laws.proofs.Joined.{past-length, future-length, future-cells}
-use Rattle.laws.proofs.Rows.{rows-from}
-use Rattle.results.proofs.Sections.{length-payments, length-completed}
-use Rattle.results.proofs.Rows.{take-filled}
 
 -- how long the lists are, list by list
 lengthsOf : {A : Type 0} → List (List A) → List ℕ
@@ -55,58 +51,49 @@ joined-inside [] i j h = absurd (none j h)
 joined-inside (xs ∷ xss) zero j h = omega (arith, length-append xs (joined xss))
 joined-inside (xs ∷ xss) (suc i) j h = omega (arith, length-append xs (joined xss), joined-inside xss i j h)
 
--- the row past the last would start where the triangle ends
-pub rows-end : (k : ℕ) → rowStart k (k + 1) ≡ cells k
-unfolding rowStart cells
-rows-end k =
-    let one : k + 1 - k ≡ 1 = omega arith in
-    let none : k - k ≡ 0 = omega arith in
-    let last : rowStart k k + cells 0 ≡ cells k = rw none at (rows-from k k (omega arith)) in
-    ap (rowStart k) (add-one k) ∙ omega arith
+-- rows of 0, 1, 2, .. numbers in the list
+rows-size : (k : ℕ) (g : ℕ → List ℕ) → ((i : ℕ) → length (g i) ≡ i) → length (map pos (joined (upTo g (k + 1)))) ≡ cells k - (k + 1)
+rows-size k g h = length-map (joined (upTo g (k + 1))) pos ∙ omega (arith, future-length g h (k + 1), future-cells k)
+
+-- numbers in the list
+pub numbers-size : (g : ℕ → ℕ) (n : ℕ) → length (map pos (upTo g n)) ≡ n
+numbers-size g n = length-map (upTo g n) pos ∙ length-upTo g n
+
+-- row i of the payments, and of the completed cumulatives, has i entries
+pub length-payments : (k : ℕ) (n r l : List ℕ) (i : ℕ) → length (paymentRow k n r l i) ≡ i
+unfolding paymentRow
+length-payments k n r l i = length-upTo _ i
+
+pub length-completed : (k : ℕ) (c m : List ℕ) (i : ℕ) → length (completedRow k c m i) ≡ i
+unfolding completedRow
+length-completed k c m i = length-upTo _ i
 
 module _ (f : Figures) where
+  abbrev k : ℕ
+  k = f .k
+
   abbrev s : List (List ℤ)
   s = squareOf f
-
-  abbrev d : ℕ
-  d = latestOf f
 
   abbrev r : List ℕ
   r = factorsIn f .shares
 
-  -- the shares and the levels in the list
-  pub shares-list : take (f .k + 1) (factorsIn f .shares) ≡ upTo (shareOf (squareOf f) (f .k)) (f .k + 1)
-  unfolding factorsIn factorsOf
-  shares-list = take-filled 16 (f .k + 1) 0 (shareOf (squareOf f) (f .k))
-
-  pub levels-list : take (f .k + 1) (factorsIn f .levels) ≡ upTo (levelOf (squareOf f) (f .k)) (f .k + 1)
-  unfolding factorsIn factorsOf
-  levels-list = take-filled 16 (f .k + 1) 0 (levelOf (squareOf f) (f .k))
-
-  numbers : (g : ℕ → ℕ) (n : ℕ) → length (map pos (upTo g n)) ≡ n
-  numbers g n = length-map (upTo g n) pos ∙ length-upTo g n
-
-  future : (g : ℕ → List ℕ) → ((i : ℕ) → length (g i) ≡ i) → length (map pos (joined (upTo g (f .k + 1)))) ≡ cells (f .k) - (f .k + 1)
-  future g h = length-map (joined (upTo g (f .k + 1))) pos ∙ omega (arith, future-length g h (f .k + 1), future-cells (f .k))
-
   -- the sections have the lengths that the list's table gives
   section-lengths : lengthsOf (sections f) ≡ sectionCounts (f .k)
-  unfolding lengthsOf sections sectionCounts
+  unfolding lengthsOf sections separationSections completionSections reserveSections ladderSections sectionCounts futureLevels payments provisions developmentFactors completedAll
   section-lengths =
       rw (
-        past-length (λ i. upTo (cellOf s i) (f .k + 1 - i)) (f .k) (λ i. length-upTo (cellOf s i) (f .k + 1 - i)) (f .k + 1),
-        rows-end (f .k),
-        shares-list,
-        numbers (shareOf s (f .k)) (f .k + 1),
-        levels-list,
-        numbers (levelOf s (f .k)) (f .k + 1),
-        numbers (λ t. futureLevel f d (suc t)) (f .k),
-        future (paymentRow f d r) (length-payments f),
-        numbers (provision f d r) (f .k + 1),
-        numbers (notReported f d r) (f .k + 1),
-        numbers (reserve f d r) (f .k + 1),
-        numbers (developmentFactor f) (f .k),
-        future (completedRow f) (length-completed f),
+        past-length (λ i. upTo (cellOf s i) (k + 1 - i)) k (λ i. length-upTo (cellOf s i) (k + 1 - i)) (k + 1),
+        rows-all k,
+        numbers-size (shareOf s k) (k + 1),
+        numbers-size (levelOf s k) (k + 1),
+        numbers-size (λ t. futureLevel (latestOf f) (getD (f .indices) t 0)) k,
+        rows-size k (paymentRow k (f .exposures) r (levelsIn f)) (length-payments k (f .exposures) r (levelsIn f)),
+        numbers-size (provision k (f .exposures) r (levelsIn f)) (k + 1),
+        numbers-size (notReported k (f .reporting) (paidIn f) (provisionsIn f)) (k + 1),
+        numbers-size (reserve k (ratioIn f) (f .weight) (f .reporting) (paidIn f) (provisionsIn f)) (k + 1),
+        numbers-size (λ h. developmentFactor (developed k (f .increments) h) (base k (f .increments) h)) k,
+        rows-size k (completedRow k (paidIn f) (developmentIn f)) (length-completed k (paidIn f) (developmentIn f)),
       )
 
   pub results-length : length (resultsOf f) ≡ resultCount (f .k)
@@ -114,10 +101,10 @@ module _ (f : Figures) where
   results-length = joined-length (sections f) ∙ ap total section-lengths
 
   -- entry j of section i
-  pub section-entry : (i j : ℕ) → j < length (getD (sections f) i []) → getD (resultsOf f) (placeOf (f .k) i + j) (pos 0) ≡ getD (getD (sections f) i []) j (pos 0)
-  unfolding resultsOf placeOf
+  pub section-entry : (i j : ℕ) → j < length (getD (sections f) i []) → getD (resultsOf f) (sectionStart (f .k) i + j) (pos 0) ≡ getD (getD (sections f) i []) j (pos 0)
+  unfolding resultsOf sectionStart
   section-entry i j h = rw (← section-lengths) (joined-entry (sections f) i j (pos 0) h)
 
-  pub section-inside : (i j : ℕ) → j < length (getD (sections f) i []) → placeOf (f .k) i + j < length (resultsOf f)
-  unfolding resultsOf placeOf
+  pub section-inside : (i j : ℕ) → j < length (getD (sections f) i []) → sectionStart (f .k) i + j < length (resultsOf f)
+  unfolding resultsOf sectionStart
   section-inside i j h = rw (← section-lengths) (joined-inside (sections f) i j h)

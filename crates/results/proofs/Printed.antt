@@ -1,197 +1,182 @@
 -- What stands at each place of a list that begins with the results of the figures f. Assumes nothing.
-use Prim.Native.Nat.{ℕ, zero, suc, _+_, _-_, _≤_, _<_}
+use Prim.Native.Nat.{ℕ, _+_, _-_, _≤_, _<_}
 use native.Mathlib.Omega.{arith}
 use mathlib.Core.Path.{_≡_, refl, sym, ap, _∙_}
 use mathlib.Core.List.{List, [], _∷_, _++_, map}
 use lib.IntN.{ℤ, pos, natAbs}
-use lib.ListN.{length, getD, take, drop, replicate, length-map, List·getD-append, List·getD-map}
+use lib.ListN.{length, getD, drop, replicate, length-map, List·getD-append, List·getD-map}
 use lib.Seq.{getD-append-add}
-use Rattle.rules.specs.Lists.{total, upTo, padded}
-use Rattle.rules.specs.Triangle.{rowStart, cellOf, averageRow, averagesOf}
+use Rattle.rules.specs.Lists.{total, upTo, padded, joined}
+use Rattle.rules.specs.Record.{Figures}
+use Rattle.rules.specs.Triangle.{rowStart, futureStart, averageRow, averagesOf, cellOf}
 use Rattle.rules.specs.Separation.{shareOf, levelOf}
-use Rattle.rules.specs.Completion.{futureLevel, payment, paymentRow, provision}
-use Rattle.rules.specs.Expense.{notReported, reserve, ratioOf}
-use Rattle.rules.specs.Ladder.{developmentFactor, completedRow}
-use Rattle.rules.specs.Results.{squareOf, latestOf, factorsIn, joined, sections, resultsOf, sectionCounts, resultCount, placeOf}
-use Rattle.rules.specs.Demand.{entryOf, sizeOf, futureStart, printedSquare}
-use Rattle.rules.specs.declared.Figures.{Figures}
+use Rattle.rules.specs.Completion.{futureLevels, payment, paymentRow, payments, provision, provisions}
+use Rattle.rules.specs.Expense.{notReported, reserve}
+use Rattle.rules.specs.Ladder.{developed, base, developmentFactors, completedAll}
+use Rattle.rules.specs.Results.{averageSection, shareSection, levelSection, paymentSection, provisionSection, provisionTotalSection, reserveSection, reserveTotalSection, ratioSection, sectionCount, sectionCounts, resultCount, sectionStart, separationSections, completionSections, reserveSections, ladderSections, squareOf, latestOf, factorsIn, paidIn, levelsIn, provisionsIn, developmentIn, ratioIn, sections, resultsOf}
+use Rattle.rules.specs.Demand.{entryOf, printed, printedSquare}
 use Rattle.laws.proofs.Lists.{length-upTo, getD-upTo, upTo-ext}
+use Rattle.laws.proofs.Rows.{rows-all}
 use Rattle.laws.proofs.Joined.{past-length, past-at, future-length, joined-at, row-inside, append-all}
-use Rattle.triangle.proofs.Square.{cell-inside}
-use Rattle.results.proofs.Places.{shares-list, levels-list, rows-end, section-entry, section-inside, results-length}
-use Rattle.results.proofs.Sections.{length-payments}
+use Rattle.totals.proofs.Square.{cell-inside}
+use Rattle.results.proofs.Places.{numbers-size, length-payments, section-entry, section-inside, results-length}
 
 -- an entry of a list of numbers
 number-at : (g : ℕ → ℕ) (n j : ℕ) → j < n → getD (map pos (upTo g n)) j (pos 0) ≡ pos (g j)
 number-at g n j h = List·getD-map pos (upTo g n) j 0 ∙ ap pos (getD-upTo g n j 0 h)
 
-number-size : (g : ℕ → ℕ) (n : ℕ) → length (map pos (upTo g n)) ≡ n
-number-size g n = length-map (upTo g n) pos ∙ length-upTo g n
-
 module _ (f : Figures) (rest : List ℤ) where
-  abbrev list : List ℤ
-  list = resultsOf f ++ rest
+  abbrev k : ℕ
+  k = f .k
+
+  abbrev row : ℕ → List ℕ
+  row = paymentRow (f .k) (f .exposures) (factorsIn f .shares) (levelsIn f)
 
   entry : (i j : ℕ) → j < length (getD (sections f) i []) → entryOf (f .k) (resultsOf f ++ rest) i j ≡ getD (getD (sections f) i []) j (pos 0)
   unfolding entryOf
-  entry i j h = List·getD-append (resultsOf f) rest (pos 0) (placeOf (f .k) i + j) (section-inside f i j h) ∙ section-entry f i j h
+  entry i j h = List·getD-append (resultsOf f) rest (pos 0) (sectionStart (f .k) i + j) (section-inside f i j h) ∙ section-entry f i j h
 
   -- an entry of a section of numbers
-  numbers-entry : (i : ℕ) (g : ℕ → ℕ) (n : ℕ) → getD (sections f) i [] ≡ map pos (upTo g n) → (j : ℕ) → j < n → sizeOf (f .k) (resultsOf f ++ rest) i j ≡ g j
-  unfolding sizeOf
+  numbers-entry : (i : ℕ) (g : ℕ → ℕ) (n : ℕ) → getD (sections f) i [] ≡ map pos (upTo g n) → (j : ℕ) → j < n → printed (f .k) (resultsOf f ++ rest) i j ≡ g j
+  unfolding printed
   numbers-entry i g n e j h =
-      let inside : j < length (getD (sections f) i []) = rw (e, number-size g n) h in
+      let inside : j < length (getD (sections f) i []) = rw (e, numbers-size g n) h in
       ap natAbs (entry i j inside ∙ ap (λ (xs : List ℤ). getD xs j (pos 0)) e ∙ number-at g n j h)
 
-  single-entry : (i x : ℕ) → getD (sections f) i [] ≡ pos x ∷ [] → sizeOf (f .k) (resultsOf f ++ rest) i 0 ≡ x
-  unfolding sizeOf
+  single-entry : (i x : ℕ) → getD (sections f) i [] ≡ pos x ∷ [] → printed (f .k) (resultsOf f ++ rest) i 0 ≡ x
+  unfolding printed
   single-entry i x e =
       let inside : 0 < length (getD (sections f) i []) = rw e (omega arith) in
       ap natAbs (entry i 0 inside ∙ ap (λ (xs : List ℤ). getD xs 0 (pos 0)) e)
 
   -- each printed figure by its place
-  pub share-entry : (j : ℕ) → j ≤ f .k → sizeOf (f .k) (resultsOf f ++ rest) 1 j ≡ shareOf (squareOf f) (f .k) j
-  unfolding sections
-  share-entry j h = numbers-entry 1 (shareOf (squareOf f) (f .k)) (f .k + 1) (ap (map pos) (shares-list f)) j (omega arith)
+  pub share-entry : (j : ℕ) → j ≤ f .k → printed (f .k) (resultsOf f ++ rest) shareSection j ≡ shareOf (squareOf f) (f .k) j
+  unfolding sections separationSections
+  share-entry j h = numbers-entry shareSection (shareOf (squareOf f) k) (k + 1) refl j (omega arith)
 
-  pub level-entry : (j : ℕ) → j ≤ f .k → sizeOf (f .k) (resultsOf f ++ rest) 2 j ≡ levelOf (squareOf f) (f .k) j
-  unfolding sections
-  level-entry j h = numbers-entry 2 (levelOf (squareOf f) (f .k)) (f .k + 1) (ap (map pos) (levels-list f)) j (omega arith)
+  pub level-entry : (j : ℕ) → j ≤ f .k → printed (f .k) (resultsOf f ++ rest) levelSection j ≡ levelOf (squareOf f) (f .k) j
+  unfolding sections separationSections
+  level-entry j h = numbers-entry levelSection (levelOf (squareOf f) k) (k + 1) refl j (omega arith)
 
-  pub provision-entry : (i : ℕ) → i ≤ f .k → sizeOf (f .k) (resultsOf f ++ rest) 5 i ≡ provision f (latestOf f) (factorsIn f .shares) i
-  unfolding sections
-  provision-entry i h = numbers-entry 5 (provision f (latestOf f) (factorsIn f .shares)) (f .k + 1) refl i (omega arith)
+  pub provision-entry : (i : ℕ) → i ≤ f .k
+      → printed (f .k) (resultsOf f ++ rest) provisionSection i ≡ provision (f .k) (f .exposures) (factorsIn f .shares) (levelsIn f) i
+  unfolding sections separationSections completionSections provisions
+  provision-entry i h = numbers-entry provisionSection (provision k (f .exposures) (factorsIn f .shares) (levelsIn f)) (k + 1) refl i (omega arith)
 
-  pub provisions-entry : sizeOf (f .k) (resultsOf f ++ rest) 6 0 ≡ total (upTo (provision f (latestOf f) (factorsIn f .shares)) (f .k + 1))
-  unfolding sections
-  provisions-entry = single-entry 6 (total (upTo (provision f (latestOf f) (factorsIn f .shares)) (f .k + 1))) refl
+  pub provisions-entry : printed (f .k) (resultsOf f ++ rest) provisionTotalSection 0 ≡ total (provisions (f .k) (f .exposures) (factorsIn f .shares) (levelsIn f))
+  unfolding sections separationSections completionSections
+  provisions-entry = single-entry provisionTotalSection (total (provisions k (f .exposures) (factorsIn f .shares) (levelsIn f))) refl
 
-  pub reserve-entry : (i : ℕ) → i ≤ f .k → sizeOf (f .k) (resultsOf f ++ rest) 8 i ≡ reserve f (latestOf f) (factorsIn f .shares) i
-  unfolding sections
-  reserve-entry i h = numbers-entry 8 (reserve f (latestOf f) (factorsIn f .shares)) (f .k + 1) refl i (omega arith)
+  pub reserve-entry : (i : ℕ) → i ≤ f .k
+      → printed (f .k) (resultsOf f ++ rest) reserveSection i ≡ reserve (f .k) (ratioIn f) (f .weight) (f .reporting) (paidIn f) (provisionsIn f) i
+  unfolding sections separationSections completionSections reserveSections
+  reserve-entry i h = numbers-entry reserveSection (reserve k (ratioIn f) (f .weight) (f .reporting) (paidIn f) (provisionsIn f)) (k + 1) refl i (omega arith)
 
-  pub reserves-entry : sizeOf (f .k) (resultsOf f ++ rest) 9 0 ≡ total (upTo (reserve f (latestOf f) (factorsIn f .shares)) (f .k + 1))
-  unfolding sections
-  reserves-entry = single-entry 9 (total (upTo (reserve f (latestOf f) (factorsIn f .shares)) (f .k + 1))) refl
+  pub reserves-entry : printed (f .k) (resultsOf f ++ rest) reserveTotalSection 0
+      ≡ total (upTo (reserve (f .k) (ratioIn f) (f .weight) (f .reporting) (paidIn f) (provisionsIn f)) (f .k + 1))
+  unfolding sections separationSections completionSections reserveSections
+  reserves-entry = single-entry reserveTotalSection (total (upTo (reserve k (ratioIn f) (f .weight) (f .reporting) (paidIn f) (provisionsIn f)) (k + 1))) refl
 
-  pub ratio-entry : sizeOf (f .k) (resultsOf f ++ rest) 10 0 ≡ ratioOf f
-  unfolding sections
-  ratio-entry = single-entry 10 (ratioOf f) refl
+  pub ratio-entry : printed (f .k) (resultsOf f ++ rest) ratioSection 0 ≡ ratioIn f
+  unfolding sections separationSections completionSections reserveSections
+  ratio-entry = single-entry ratioSection (ratioIn f) refl
 
-  paid-at : (i j m : ℕ) → m < i → f .k + 1 - i + m ≡ j → getD (paymentRow f (latestOf f) (factorsIn f .shares) i) m 0 ≡ payment f (latestOf f) (factorsIn f .shares) i j
+  paid-at : (i j m : ℕ) → m < i → f .k + 1 - i + m ≡ j
+      → getD (paymentRow (f .k) (f .exposures) (factorsIn f .shares) (levelsIn f) i) m 0 ≡ payment (f .k) (f .exposures) (factorsIn f .shares) (levelsIn f) i j
   unfolding paymentRow
   paid-at i j m h e =
-      getD-upTo (λ m. payment f (latestOf f) (factorsIn f .shares) i (f .k + 1 - i + m)) i m 0 h ∙ ap (payment f (latestOf f) (factorsIn f .shares) i) e
+      let y = payment k (f .exposures) (factorsIn f .shares) (levelsIn f) i in
+      getD-upTo (λ m. y (k + 1 - i + m)) i m 0 h ∙ ap y e
 
   -- the payment of a future cell
   pub payment-entry : (i j : ℕ) → i ≤ f .k → j ≤ f .k → f .k < i + j
-      → sizeOf (f .k) (resultsOf f ++ rest) 4 (futureStart i + (i + j - f .k - 1)) ≡ payment f (latestOf f) (factorsIn f .shares) i j
-  unfolding sizeOf sections
+      → printed (f .k) (resultsOf f ++ rest) paymentSection (futureStart i + (i + j - f .k - 1)) ≡ payment (f .k) (f .exposures) (factorsIn f .shares) (levelsIn f) i j
+  unfolding printed sections separationSections completionSections payments
   payment-entry i j hi hj l =
-      let row = paymentRow f (latestOf f) (factorsIn f .shares) in
-      let m = i + j - f .k - 1 in
-      let all = joined (upTo row (f .k + 1)) in
-      let start : length (joined (upTo row i)) ≡ futureStart i = future-length row (length-payments f) i in
-      let fits : m < length (row i) = omega (arith, length-payments f i) in
-      let within = row-inside row (f .k + 1) i (omega arith) in
-      let inside : futureStart i + m < length (map pos all) = rw (length-map all pos) (omega (arith, start, length-payments f i)) in
-      let at = rw start at (joined-at row (f .k + 1) i m 0 (omega arith) fits) in
-      ap natAbs (entry 4 (futureStart i + m) inside ∙ List·getD-map pos all (futureStart i + m) 0 ∙ ap pos (at ∙ paid-at i j m (omega arith) (omega arith)))
+      let m = i + j - k - 1 in
+      let all = joined (upTo row (k + 1)) in
+      let size = length-payments k (f .exposures) (factorsIn f .shares) (levelsIn f) in
+      let start : length (joined (upTo row i)) ≡ futureStart i = future-length row size i in
+      let fits : m < length (row i) = omega (arith, size i) in
+      let within = row-inside row (k + 1) i (omega arith) in
+      let inside : futureStart i + m < length (map pos all) = rw (length-map all pos) (omega (arith, start, size i)) in
+      let at = rw start at (joined-at row (k + 1) i m 0 (omega arith) fits) in
+      ap natAbs (entry paymentSection (futureStart i + m) inside ∙ List·getD-map pos all (futureStart i + m) 0 ∙ ap pos (at ∙ paid-at i j m (omega arith) (omega arith)))
 
   -- a printed average
-  average-entry : (i j : ℕ) → i + j ≤ f .k → entryOf (f .k) (resultsOf f ++ rest) 0 (rowStart (f .k) i + j) ≡ cellOf (squareOf f) i j
-  unfolding sections
+  average-entry : (i j : ℕ) → i + j ≤ f .k → entryOf (f .k) (resultsOf f ++ rest) averageSection (rowStart (f .k) i + j) ≡ cellOf (squareOf f) i j
+  unfolding sections separationSections
   average-entry i j h =
-      let row : ℕ → List ℤ = λ i. upTo (cellOf (squareOf f) i) (f .k + 1 - i) in
-      let size : (i : ℕ) → length (row i) ≡ f .k + 1 - i = λ i. length-upTo (cellOf (squareOf f) i) (f .k + 1 - i) in
-      let inside : rowStart (f .k) i + j < length (joined (upTo row (f .k + 1))) =
-      omega (arith, row-inside row (f .k + 1) i (omega arith), past-length row (f .k) size i, size i) in
-      entry 0 (rowStart (f .k) i + j) inside
-      ∙ past-at row (f .k) size (f .k + 1) i j (pos 0) (omega arith) h
-      ∙ getD-upTo (cellOf (squareOf f) i) (f .k + 1 - i) j (pos 0) (omega arith)
+      let cells : ℕ → List ℤ = λ i. upTo (cellOf (squareOf f) i) (k + 1 - i) in
+      let size : (i : ℕ) → length (cells i) ≡ k + 1 - i = λ i. length-upTo (cellOf (squareOf f) i) (k + 1 - i) in
+      let inside : rowStart k i + j < length (joined (upTo cells (k + 1))) =
+      omega (arith, row-inside cells (k + 1) i (omega arith), past-length cells k size i, size i) in
+      entry averageSection (rowStart k i + j) inside
+      ∙ past-at cells k size (k + 1) i j (pos 0) (omega arith) h
+      ∙ getD-upTo (cellOf (squareOf f) i) (k + 1 - i) j (pos 0) (omega arith)
 
   -- the printed averages as a square
   pub square-entry : f .k < 16 → printedSquare (f .k) (resultsOf f ++ rest) ≡ squareOf f
   unfolding printedSquare squareOf averagesOf averageRow
   square-entry few =
       ap (padded 16 (replicate 16 (pos 0)))
-      (upTo-ext _ _ (f .k + 1)
+      (upTo-ext _ _ (k + 1)
       (λ i h.
       ap (padded 16 (pos 0))
-      (upTo-ext _ _ (f .k + 1 - i)
-      (λ j l. average-entry i j (omega arith) ∙ cell-inside (f .k) (f .exposures) (f .increments) i j (omega arith) few))))
+      (upTo-ext _ _ (k + 1 - i)
+      (λ j l. average-entry i j (omega arith) ∙ cell-inside k (f .exposures) (f .increments) i j (omega arith) few))))
 
 -- a number that is not below zero
-abbrev Whole : ℤ → Type 0
-Whole z = z ≡ pos (natAbs z)
+abbrev Above : ℤ → Type 0
+Above z = z ≡ pos (natAbs z)
 
--- every entry of every list is such a number
-abbrev AllWhole : List (List ℤ) → Type 0
-AllWhole [] = Unit {0}
-AllWhole (xs ∷ xss) = ((i : ℕ) → Whole (getD xs i (pos 0))) × AllWhole xss
-
-numbers-whole : (xs : List ℕ) (i : ℕ) → Whole (getD (map pos xs) i (pos 0))
-numbers-whole xs i = rw (List·getD-map pos xs i 0)
-
-single-whole : (n i : ℕ) → Whole (getD (pos n ∷ []) i (pos 0))
-single-whole n zero = refl
-single-whole n (suc i) = refl
-
-joined-whole : (xss : List (List ℤ)) → AllWhole xss → (i : ℕ) → Whole (getD (joined xss) i (pos 0))
+-- every entry of lists of numbers, one after another, is such a number
+numbers-above : (xss : List (List ℕ)) (i : ℕ) → Above (getD (joined (map (map pos) xss)) i (pos 0))
 unfolding joined
-joined-whole [] h i = refl
-joined-whole (xs ∷ xss) h i = append-all Whole (pos 0) refl xs (joined xss) (h .0) (joined-whole xss (h .1)) i
+numbers-above [] i = refl
+numbers-above (xs ∷ xss) i =
+    append-all Above (pos 0) refl (map pos xs) (joined (map (map pos) xss)) (λ j. rw (List·getD-map pos xs j 0)) (numbers-above xss) i
 
--- the sections after the averages
-after-averages : (f : Figures) → AllWhole (drop 1 (sections f))
-unfolding sections
-after-averages f =
-    let n = f .k + 1 in
-    let d = latestOf f in
-    let r = factorsIn f .shares in (
-      numbers-whole (take n r),
-      (
-        numbers-whole (take n (factorsIn f .levels)),
-        (
-          numbers-whole (upTo (λ t. futureLevel f d (suc t)) (f .k)),
-          (
-            numbers-whole (joined (upTo (paymentRow f d r) n)),
-            (
-              numbers-whole (upTo (provision f d r) n),
-              (
-                single-whole (total (upTo (provision f d r) n)),
-                (
-                  numbers-whole (upTo (notReported f d r) n),
-                  (
-                    numbers-whole (upTo (reserve f d r) n),
-                    (
-                      single-whole (total (upTo (reserve f d r) n)),
-                      (
-                        single-whole (ratioOf f),
-                        (numbers-whole (upTo (developmentFactor f) (f .k)), (numbers-whole (joined (upTo (completedRow f) n)), tt)),
-                      ),
-                    ),
-                  ),
-                ),
-              ),
-            ),
-          ),
-        ),
-      ),
-    )
+-- the sections after the averages, as numbers
+abbrev after : Figures → List (List ℕ)
+after f =
+    let k = f .k in
+    let r = factorsIn f .shares in
+    let c = paidIn f in
+    let q = provisionsIn f in
+    upTo (shareOf (squareOf f) k) (k + 1)
+    ∷ upTo (levelOf (squareOf f) k) (k + 1)
+    ∷ futureLevels k (latestOf f) (f .indices)
+    ∷ payments k (f .exposures) r (levelsIn f)
+    ∷ provisions k (f .exposures) r (levelsIn f)
+    ∷ (total (provisions k (f .exposures) r (levelsIn f)) ∷ [])
+    ∷ upTo (notReported k (f .reporting) c q) (k + 1)
+    ∷ upTo (reserve k (ratioIn f) (f .weight) (f .reporting) c q) (k + 1)
+    ∷ (total (upTo (reserve k (ratioIn f) (f .weight) (f .reporting) c q) (k + 1)) ∷ [])
+    ∷ (ratioIn f ∷ [])
+    ∷ developmentFactors k (developed k (f .increments)) (base k (f .increments))
+    ∷ completedAll k c (developmentIn f)
+    ∷ []
 
-counts-all : (f : Figures) → placeOf (f .k) 13 ≡ length (resultsOf f)
-unfolding placeOf resultCount sectionCounts
+after-averages : (f : Figures) → drop 1 (sections f) ≡ map (map pos) (after f)
+unfolding sections separationSections completionSections reserveSections ladderSections
+after-averages f = refl
+
+after-above : (f : Figures) (i : ℕ) → Above (getD (joined (drop 1 (sections f))) i (pos 0))
+after-above f i = rw (after-averages f) (numbers-above (after f) i)
+
+counts-all : (f : Figures) → sectionStart (f .k) sectionCount ≡ length (resultsOf f)
+unfolding sectionStart resultCount sectionCounts
 counts-all f = sym (results-length f)
 
-counts-first : (f : Figures) → placeOf (f .k) 1 ≡ length (joined (upTo (λ i. upTo (cellOf (squareOf f) i) (f .k + 1 - i)) (f .k + 1)))
-unfolding placeOf sectionCounts total
+counts-first : (f : Figures) → sectionStart (f .k) shareSection ≡ length (joined (upTo (λ i. upTo (cellOf (squareOf f) i) (f .k + 1 - i)) (f .k + 1)))
+unfolding sectionStart sectionCounts total
 counts-first f =
-    omega (arith, past-length (λ i. upTo (cellOf (squareOf f) i) (f .k + 1 - i)) (f .k) (λ i. length-upTo (cellOf (squareOf f) i) (f .k + 1 - i)) (f .k + 1), rows-end (f .k))
+    omega (arith, past-length (λ i. upTo (cellOf (squareOf f) i) (f .k + 1 - i)) (f .k) (λ i. length-upTo (cellOf (squareOf f) i) (f .k + 1 - i)) (f .k + 1), rows-all (f .k))
 
 -- no entry after the averages is below zero
-pub nonnegative-entry : (f : Figures) (rest : List ℤ) (i : ℕ) → placeOf (f .k) 1 ≤ i → i < placeOf (f .k) 13 → Whole (getD (resultsOf f ++ rest) i (pos 0))
-unfolding resultsOf sections joined
+pub nonnegative-entry : (f : Figures) (rest : List ℤ) (i : ℕ) → sectionStart (f .k) shareSection ≤ i → i < sectionStart (f .k) sectionCount → Above (getD (resultsOf f ++ rest) i (pos 0))
+unfolding resultsOf sections separationSections joined
 nonnegative-entry f rest i a b =
     let first = joined (upTo (λ i. upTo (cellOf (squareOf f) i) (f .k + 1 - i)) (f .k + 1)) in
     let others = joined (drop 1 (sections f)) in
@@ -199,4 +184,4 @@ nonnegative-entry f rest i a b =
     let start = counts-first f in
     let e : i ≡ length first + (i - length first) = omega arith in
     rw (List·getD-append (resultsOf f) rest (pos 0) i (omega arith), e, getD-append-add first others (i - length first) (pos 0))
-    (joined-whole (drop 1 (sections f)) (after-averages f) (i - length first))
+    (after-above f (i - length first))

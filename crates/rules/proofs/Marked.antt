@@ -2,22 +2,24 @@
 -- Assumes nothing.
 use Prim.Native.Nat.{ℕ}
 use mathlib.Core.Path.{_≡_, refl}
+use mathlib.Core.Bool.{true}
 use mathlib.Core.List.{List, [], _∷_, map, zipWith}
+use lib.Dec.{ltb}
 use lib.IntN.{ℤ, pos, negsuc}
 use lib.ListN.{getD, take, replicate}
-use Rattle.rules.specs.Lists.{total, upTo, padded, every}
+use Rattle.rules.specs.Lists.{total, upTo, padded, joined, every}
 use Rattle.rules.specs.Packing.{pack, unpack, numberOf, bytesOf}
 use Rattle.rules.specs.Questions.{firstNo, afterCall}
 use Rattle.rules.specs.Record.{cells, layout, kindsOf, section, widths, bitCount, byteCount, fillingCount, valueOf, codeOf, inRange, negativeZero, bitsInRange, everyField, lastYearOf, codesOf, fillingOf, fieldsOf, recordOf, exposuresIn, incrementsIn, indicesIn, reportingIn, weightIn, ulaeIn, figuresOf}
-use Rattle.rules.specs.Reading.{hasLastYear, hasLength, inRanges, sharesSum}
+use Rattle.rules.specs.Reading.{hasLastYear, hasLength, inRanges, sharesSum, openingQuestions, fieldQuestions}
 use Rattle.rules.specs.Writing.{given, givenFields}
-use Rattle.rules.specs.Triangle.{rowStart, paidOf, sumTo, cumulativeOf, everyCell, cumulativesPass, nearest, averageOf, averageRow, averagesOf, cellOf, cellsTotal, columnTotal, diagonalTotal, cornerTotal, allTotal}
-use Rattle.rules.specs.Separation.{columnOf, diagonalOf, cornerOf, runningDown, runningOf, shareOf, levelOf, totalsPass, restsPass, runningPass, levelsPass, factorsOf, separateAnswer, separated}
-use Rattle.rules.specs.Completion.{futureLevel, payment, paymentRow, provision, paidTo, ultimate, ultimatesPass}
-use Rattle.rules.specs.Expense.{paidTotal, ulaeTotal, ratioPass, ratioOf, reportedAfter, notReported, weighted, reserve}
-use Rattle.rules.specs.Ladder.{givenCumulative, developed, base, developmentFactor, completed, completedRow, factorsPass, completedPass}
-use Rattle.rules.specs.Results.{squareOf, latestOf, factorsIn, joined, sections, resultsOf, sectionCounts, resultCount, placeOf}
-use Rattle.rules.specs.Engine.{figureQuestions, holdsList, questions, runAnswer, runInto}
+use Rattle.rules.specs.Triangle.{rowStart, paidOf, sumTo, cumulativeOf, rowPasses, cumulativesPass, givenCumulative, paidTo, nearest, averageOf, averageRow, averagesOf, cellOf, cellsTotal, columnTotal, diagonalTotal, cornerTotal, allTotal}
+use Rattle.rules.specs.Separation.{billion, columnOf, diagonalOf, cornerOf, runningDown, runningOf, shareOf, levelOf, totalsPass, restsPass, runningPass, levelsPass, factorsOf, separationQuestions, separateAnswer, separated}
+use Rattle.rules.specs.Completion.{futureLevel, futureLevels, paymentOf, payment, paymentRow, payments, provision, provisions, ultimate, ultimatesPass}
+use Rattle.rules.specs.Expense.{paidTotal, ulaeTotal, ratioPass, ratioOf, reportedAfter, notReported, weighted, reserveOf, reserve}
+use Rattle.rules.specs.Ladder.{developed, base, developmentFactor, developmentFactors, factorPasses, factorsPass, completed, completedRow, completedAll, completedPass}
+use Rattle.rules.specs.Results.{ratioSection, mostEntries, sectionCounts, resultCount, sectionStart, separationSections, completionSections, reserveSections, ladderSections, squareOf, latestOf, factorsIn, paidIn, levelsIn, provisionsIn, developmentIn, ratioIn, sections, resultsOf}
+use Rattle.rules.specs.Engine.{completionQuestions, ratioQuestions, ladderQuestions, laterQuestions, figureQuestions, holdsList, questions, runAnswer, runInto}
 
 -- the record of two years, n 1, 1; e 1,100,000; b 800,000, 200,000; w 500,000, with these cells and ULAE totals
 abbrev twoYears : List ℤ → List ℕ → List ℕ
@@ -53,17 +55,26 @@ marked = (
     ∷ (answer (pos 0 ∷ pos 40 ∷ pos 66 ∷ []) (6 ∷ 10 ∷ []) ∷ [], pos 13 ∷ [])
     ∷ (answer (pos 60 ∷ pos 40 ∷ pos 66 ∷ []) (6 ∷ 161 ∷ []) ∷ [], pos 12 ∷ [])
     ∷ (
-      answer (pos 60 ∷ pos 40 ∷ pos 66 ∷ []) (6 ∷ 160 ∷ []) ∷ getD (list (pos 60 ∷ pos 40 ∷ pos 66 ∷ []) (6 ∷ 160 ∷ [])) (placeOf 1 10) (pos 0) ∷ [],
+      answer (pos 60 ∷ pos 40 ∷ pos 66 ∷ []) (6 ∷ 160 ∷ []) ∷ getD (list (pos 60 ∷ pos 40 ∷ pos 66 ∷ []) (6 ∷ 160 ∷ [])) (sectionStart 1 ratioSection) (pos 0) ∷ [],
       pos 0 ∷ pos 1000000 ∷ [],
     )
     ∷ []
 
 -- the rules give what is printed, in every row
 pub marked-hold : map (λ row. row .0) marked ≡ map (λ row. row .1) marked
-unfolding total upTo padded every pack unpack numberOf bytesOf firstNo afterCall cells layout kindsOf section widths bitCount byteCount fillingCount valueOf codeOf inRange negativeZero bitsInRange everyField lastYearOf codesOf fillingOf fieldsOf recordOf exposuresIn incrementsIn indicesIn reportingIn weightIn ulaeIn figuresOf hasLastYear hasLength inRanges sharesSum givenFields rowStart paidOf sumTo cumulativeOf everyCell cumulativesPass nearest averageOf averageRow averagesOf cellOf cellsTotal columnTotal diagonalTotal cornerTotal allTotal columnOf diagonalOf cornerOf runningDown runningOf shareOf levelOf totalsPass restsPass runningPass levelsPass factorsOf separateAnswer separated futureLevel payment paymentRow provision paidTo ultimate ultimatesPass paidTotal ulaeTotal ratioPass ratioOf reportedAfter notReported weighted reserve givenCumulative developed base developmentFactor completed completedRow factorsPass completedPass squareOf latestOf factorsIn joined sections resultsOf sectionCounts resultCount placeOf figureQuestions holdsList questions runAnswer runInto zipWith
+unfolding total upTo padded every pack unpack numberOf bytesOf firstNo afterCall cells layout kindsOf section widths bitCount byteCount fillingCount valueOf codeOf inRange negativeZero bitsInRange everyField lastYearOf codesOf fillingOf fieldsOf recordOf exposuresIn incrementsIn indicesIn reportingIn weightIn ulaeIn figuresOf hasLastYear hasLength inRanges sharesSum givenFields rowStart paidOf sumTo cumulativeOf cumulativesPass nearest averageOf averageRow averagesOf cellOf cellsTotal columnTotal diagonalTotal cornerTotal allTotal columnOf diagonalOf cornerOf runningDown runningOf shareOf levelOf totalsPass restsPass runningPass levelsPass factorsOf separateAnswer separated futureLevel payment paymentRow provision paidTo ultimate ultimatesPass paidTotal ulaeTotal ratioPass ratioOf reportedAfter notReported weighted reserve givenCumulative developed base developmentFactor completed completedRow factorsPass completedPass squareOf latestOf factorsIn joined sections resultsOf sectionCounts resultCount figureQuestions holdsList questions runAnswer runInto zipWith rowPasses futureLevels paymentOf payments provisions reserveOf developmentFactors factorPasses completedAll paidIn levelsIn provisionsIn developmentIn ratioIn separationSections completionSections reserveSections ladderSections openingQuestions fieldQuestions separationQuestions completionQuestions ratioQuestions ladderQuestions sectionStart laterQuestions
 marked-hold = refl
 
+-- the square of document 01's case with k = 2: n 100 each, cells 0, 5000, 999999 / 0, 0 / 1
+abbrev steep : List (List ℤ)
+steep = averagesOf 2 (100 ∷ 100 ∷ 100 ∷ []) (pos 0 ∷ pos 5000 ∷ pos 999999 ∷ pos 0 ∷ pos 0 ∷ pos 1 ∷ [])
+
+-- A_1 = 1000 and A_0 = 0, so it is refused 9, though l_1 would be too large too
+pub steep-refused : (runningOf steep 2 1 ≡ 1000) × ((runningOf steep 2 0 ≡ 0) × ((separateAnswer steep 2 ≡ 9) × (ltb billion (levelOf steep 2 1) ≡ true)))
+unfolding total upTo padded every firstNo rowStart paidOf sumTo nearest averageOf averageRow averagesOf cellOf cellsTotal columnTotal diagonalTotal cornerTotal allTotal columnOf diagonalOf cornerOf runningDown runningOf shareOf levelOf totalsPass restsPass runningPass levelsPass separationQuestions separateAnswer
+steep-refused = (refl, (refl, (refl, refl)))
+
 -- the lengths of the result list that document 01 names
-pub result-counts : (resultCount 1 ≡ 20) × (resultCount 15 ≡ 489)
+pub result-counts : (resultCount 1 ≡ 20) × (resultCount 15 ≡ mostEntries)
 unfolding resultCount sectionCounts total cells
 result-counts = (refl, refl)

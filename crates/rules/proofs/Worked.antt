@@ -8,7 +8,7 @@ use Rattle.rules.specs.Lists.{total}
 use Rattle.rules.specs.Packing.{pack, unpack, numberOf, bytesOf}
 use Rattle.rules.specs.Questions.{firstNo}
 use Rattle.rules.specs.Record.{cells, layout, kindsOf, section, fieldCount, widths, bitCount, byteCount, fillingCount, valueOf, codeOf, inRange, negativeZero, bitsInRange, everyField, lastYearOf, codesOf, fillingOf, fieldsOf, recordOf, reportingIn}
-use Rattle.rules.specs.Reading.{hasLastYear, hasLength, hasRoom, inRanges, sharesSum, readAnswer}
+use Rattle.rules.specs.Reading.{hasLastYear, hasLength, hasRoom, inRanges, sharesSum, openingQuestions, fieldQuestions, readAnswer}
 use Rattle.rules.specs.Writing.{Given, given, givenFields, givenLastYear, givenLengths, givenRanges, givenSum, writeAnswer}
 
 -- k = 1; exposures 1, 1; increments 60, 40, 66; index 1,100,000; reporting shares 800,000, 200,000; weight 500,000; ULAE totals 6, 10
@@ -51,7 +51,7 @@ record-fields = refl
 
 -- the reader accepts it with room for its 12 fields, and asks for room where there is less
 pub record-read : (readAnswer bytes 12 ≡ 0) × (readAnswer bytes 11 ≡ 3)
-unfolding readAnswer firstNo hasLastYear hasLength hasRoom inRanges sharesSum fieldsOf codesOf lastYearOf fillingOf numberOf fieldCount byteCount bitCount fillingCount widths layout kindsOf section reportingIn cells total pack unpack valueOf inRange negativeZero bitsInRange everyField zipWith
+unfolding readAnswer openingQuestions fieldQuestions firstNo hasLastYear hasLength hasRoom inRanges sharesSum fieldsOf codesOf lastYearOf fillingOf numberOf fieldCount byteCount bitCount fillingCount widths layout kindsOf section reportingIn cells total pack unpack valueOf inRange negativeZero bitsInRange everyField zipWith
 record-read = (refl, refl)
 
 -- the lists have the fields, and the writer accepts them with a buffer of 38 bytes

@@ -1,37 +1,30 @@
 -- The third demand (document 01), of the one list that an accepted run fills, and of every exact solution carried on unrounded. Entries are found by
 -- their places in the list. Assumes nothing.
-use Prim.Native.Nat.{ℕ, zero, suc, _+_, _-_, _*_, _≤_, _<_}
+use Prim.Native.Nat.{ℕ, _+_, _-_, _*_, _≤_, _<_}
 use mathlib.Core.Path.{_≡_}
 use mathlib.Core.List.{List}
 use lib.IntN.{ℤ, pos, natAbs, _+ℤ_, _-ℤ_, _*ℤ_}
 use lib.ListN.{getD, replicate}
 use Rattle.rules.specs.Lists.{total, upTo, padded}
-use Rattle.rules.specs.Record.{million}
-use Rattle.rules.specs.Triangle.{rowStart, sumTo, columnTotal, diagonalTotal}
+use Rattle.rules.specs.Record.{Figures, million}
+use Rattle.rules.specs.Triangle.{rowStart, futureStart, paidTo, sumTo, columnTotal, diagonalTotal}
 use Rattle.rules.specs.Separation.{diagonalOf}
 use Rattle.rules.specs.Exact.{Solves}
 use Rattle.rules.specs.Accuracy.{NearExact}
-use Rattle.rules.specs.Completion.{paidTo}
 use Rattle.rules.specs.Expense.{reportedAfter}
-use Rattle.rules.specs.Results.{placeOf}
-use Rattle.rules.specs.declared.Figures.{Figures}
+use Rattle.rules.specs.Results.{averageSection, shareSection, levelSection, paymentSection, provisionSection, provisionTotalSection, reserveSection, reserveTotalSection, ratioSection, sectionCount, sectionStart}
 
 -- entry j of section i of a result list of the years 0 to k, and its size
 unfoldable pub entryOf : ℕ → List ℤ → ℕ → ℕ → ℤ
-entryOf k list i j = getD list (placeOf k i + j) (pos 0)
+entryOf k list i j = getD list (sectionStart k i + j) (pos 0)
 
-unfoldable pub sizeOf : ℕ → List ℤ → ℕ → ℕ → ℕ
-sizeOf k list i j = natAbs (entryOf k list i j)
+unfoldable pub printed : ℕ → List ℤ → ℕ → ℕ → ℕ
+printed k list i j = natAbs (entryOf k list i j)
 
 -- the printed averages as a square, section 0 of the list by row
 unfoldable pub printedSquare : ℕ → List ℤ → List (List ℤ)
 printedSquare k list =
-    padded 16 (replicate 16 (pos 0)) (upTo (λ i. padded 16 (pos 0) (upTo (λ j. entryOf k list 0 (rowStart k i + j)) (k + 1 - i))) (k + 1))
-
--- where row i starts among the cells past the diagonal by row: row h has h of them
-unfoldable pub futureStart : ℕ → ℕ
-futureStart zero = 0
-futureStart (suc i) = futureStart i + i
+    padded 16 (replicate 16 (pos 0)) (upTo (λ i. padded 16 (pos 0) (upTo (λ j. entryOf k list averageSection (rowStart k i + j)) (k + 1 - i))) (k + 1))
 
 -- the exact solution's payment of a future cell, i + j = k + t: n_i × (x_j / D × d_k × e_t / M) / 100, as a numerator over D × M × 100
 unfoldable pub exactPayment : Figures → ℕ → (ℕ → ℤ) → ℕ → ℕ → ℤ
@@ -46,7 +39,7 @@ exactProvision f d x i = sumTo (λ m. exactPayment f d x i (f .k + 1 - i + m)) i
 
 -- not yet reported, X_i × B_i / M, over D × M × 100 × M
 unfoldable pub exactNotReported : Figures → ℕ → ℕ → (ℕ → ℤ) → ℕ → ℤ
-exactNotReported f d D x i = (pos (paidTo f i * paymentOver D) +ℤ exactProvision f d x i) *ℤ pos (reportedAfter f i)
+exactNotReported f d D x i = (pos (paidTo (f .k) (f .increments) i * paymentOver D) +ℤ exactProvision f d x i) *ℤ pos (reportedAfter (f .k) (f .reporting) i)
 
 -- (w × N_i + (M − w) × R_i) / M, over D × M × 100 × M × M
 unfoldable pub exactWeighted : Figures → ℕ → ℕ → (ℕ → ℤ) → ℕ → ℤ
@@ -72,31 +65,31 @@ reserveAllowance f i = provisionAllowance f i + 300
 
 -- a printed number is within an allowance, in hundredths, of the fraction z / over
 abbrev pub Within : ℕ → ℤ → ℕ → ℕ → Type 0
-Within printed z over allowance = 100 * natAbs (pos (printed * over) -ℤ z) ≤ allowance * over
+Within x z over allowance = 100 * natAbs (pos (x * over) -ℤ z) ≤ allowance * over
 
 -- the list against one exact solution with the shares x / D, carried on unrounded
 pub record Carried (f : Figures) (list : List ℤ) (D : ℕ) (x : ℕ → ℤ) : Type 0 where
   pub payments : (i j : ℕ) → i ≤ f .k → j ≤ f .k → f .k < i + j
-      → Within (sizeOf (f .k) list 4 (futureStart i + (i + j - f .k - 1))) (exactPayment f (diagonalOf (printedSquare (f .k) list) (f .k)) x i j) (paymentOver D)
+      → Within (printed (f .k) list paymentSection (futureStart i + (i + j - f .k - 1))) (exactPayment f (diagonalOf (printedSquare (f .k) list) (f .k)) x i j) (paymentOver D)
       (paymentAllowance f i j)
   pub provisions : (i : ℕ) → i ≤ f .k
-      → Within (sizeOf (f .k) list 5 i) (exactProvision f (diagonalOf (printedSquare (f .k) list) (f .k)) x i) (paymentOver D) (provisionAllowance f i)
-  pub provision-total : Within (sizeOf (f .k) list 6 0) (sumTo (exactProvision f (diagonalOf (printedSquare (f .k) list) (f .k)) x) (f .k + 1)) (paymentOver D)
+      → Within (printed (f .k) list provisionSection i) (exactProvision f (diagonalOf (printedSquare (f .k) list) (f .k)) x i) (paymentOver D) (provisionAllowance f i)
+  pub provision-total : Within (printed (f .k) list provisionTotalSection 0) (sumTo (exactProvision f (diagonalOf (printedSquare (f .k) list) (f .k)) x) (f .k + 1)) (paymentOver D)
       (total (upTo (provisionAllowance f) (f .k + 1)))
   pub reserves : (i : ℕ) → i ≤ f .k
-      → Within (sizeOf (f .k) list 8 i) (exactReserve f (diagonalOf (printedSquare (f .k) list) (f .k)) D x (sizeOf (f .k) list 10 0) i) (reserveOver D)
+      → Within (printed (f .k) list reserveSection i) (exactReserve f (diagonalOf (printedSquare (f .k) list) (f .k)) D x (printed (f .k) list ratioSection 0) i) (reserveOver D)
       (reserveAllowance f i)
-  pub reserve-total : Within (sizeOf (f .k) list 9 0)
-      (sumTo (exactReserve f (diagonalOf (printedSquare (f .k) list) (f .k)) D x (sizeOf (f .k) list 10 0)) (f .k + 1)) (reserveOver D)
+  pub reserve-total : Within (printed (f .k) list reserveTotalSection 0)
+      (sumTo (exactReserve f (diagonalOf (printedSquare (f .k) list) (f .k)) D x (printed (f .k) list ratioSection 0)) (f .k + 1)) (reserveOver D)
       (total (upTo (reserveAllowance f) (f .k + 1)))
 
 -- the whole third demand, of the figures f and the list that their run fills. That its averages and its ratio are those of the figures is what `runInto`
 -- says of the same list; d_k is not below zero, by `diagonal-above`
 pub record ThirdDemand (f : Figures) (list : List ℤ) : Type 0 where
   -- no entry after the averages is below zero
-  pub nonnegative : (i : ℕ) → placeOf (f .k) 1 ≤ i → i < placeOf (f .k) 13 → getD list i (pos 0) ≡ pos (natAbs (getD list i (pos 0)))
+  pub nonnegative : (i : ℕ) → sectionStart (f .k) shareSection ≤ i → i < sectionStart (f .k) sectionCount → getD list i (pos 0) ≡ pos (natAbs (getD list i (pos 0)))
   -- shares and levels, against the totals of the printed averages and against every exact solution
-  pub near : NearExact (f .k) (columnTotal (printedSquare (f .k) list)) (diagonalTotal (printedSquare (f .k) list)) (sizeOf (f .k) list 1) (sizeOf (f .k) list 2)
+  pub near : NearExact (f .k) (columnTotal (printedSquare (f .k) list)) (diagonalTotal (printedSquare (f .k) list)) (printed (f .k) list shareSection) (printed (f .k) list levelSection)
   -- payments, provisions, reserves and their totals, against every exact solution carried on unrounded
   pub carried : (D E : ℕ) (x y : ℕ → ℤ) → Solves (f .k) D E (columnTotal (printedSquare (f .k) list)) (diagonalTotal (printedSquare (f .k) list)) x y
       → Carried f list D x

@@ -2,35 +2,40 @@
 -- Assumes nothing.
 use Prim.Native.Nat.{ℕ}
 use mathlib.Core.Bool.{Bool}
-use mathlib.Core.List.{List, [], _∷_}
+use mathlib.Core.List.{List, [], _∷_, _++_}
 use lib.Dec.{leb}
 use lib.IntN.{ℤ}
 use lib.ListN.{length}
 use lib.Seq.{sets}
 use Rattle.rules.specs.Questions.{firstNo, afterCall}
-use Rattle.rules.specs.Record.{lastYearOf, figuresOf}
-use Rattle.rules.specs.Reading.{hasLastYear, hasLength, inRanges, sharesSum}
+use Rattle.rules.specs.Record.{Figures, lastYearOf, figuresOf}
+use Rattle.rules.specs.Reading.{openingQuestions, fieldQuestions}
 use Rattle.rules.specs.Triangle.{cumulativesPass}
-use Rattle.rules.specs.Separation.{totalsPass, restsPass, runningPass, levelsPass}
+use Rattle.rules.specs.Separation.{separationQuestions}
 use Rattle.rules.specs.Completion.{ultimatesPass}
-use Rattle.rules.specs.Expense.{ratioPass}
-use Rattle.rules.specs.Ladder.{factorsPass, completedPass}
-use Rattle.rules.specs.Results.{squareOf, latestOf, factorsIn, resultsOf, resultCount}
-use Rattle.rules.specs.declared.Figures.{Figures}
+use Rattle.rules.specs.Expense.{paidTotal, ulaeTotal, ratioPass}
+use Rattle.rules.specs.Ladder.{developed, base, factorsPass, completedAll, completedPass}
+use Rattle.rules.specs.Results.{squareOf, paidIn, provisionsIn, developmentIn, resultsOf, resultCount}
 
--- questions 6 to 14, of the figures
-unfoldable pub figureQuestions : Figures → List (ℕ × Bool)
-figureQuestions f =
-    (6, cumulativesPass (f .k) (f .increments))
-    ∷ (7, totalsPass (squareOf f) (f .k))
-    ∷ (8, restsPass (squareOf f) (f .k))
-    ∷ (9, runningPass (squareOf f) (f .k))
-    ∷ (10, levelsPass (squareOf f) (f .k))
-    ∷ (11, ultimatesPass f (latestOf f) (factorsIn f .shares))
-    ∷ (12, ratioPass f)
-    ∷ (13, factorsPass f)
-    ∷ (14, completedPass f)
+-- question 11, question 12, and questions 13 and 14, of the figures
+unfoldable pub completionQuestions : Figures → List (ℕ × Bool)
+completionQuestions f = (11, ultimatesPass (f .k) (paidIn f) (provisionsIn f)) ∷ []
+
+unfoldable pub ratioQuestions : Figures → List (ℕ × Bool)
+ratioQuestions f = (12, ratioPass (paidTotal (f .k) (f .increments)) (ulaeTotal (f .k) (f .ulae))) ∷ []
+
+unfoldable pub ladderQuestions : Figures → List (ℕ × Bool)
+ladderQuestions f =
+    (13, factorsPass (f .k) (developed (f .k) (f .increments)) (base (f .k) (f .increments)))
+    ∷ (14, completedPass (completedAll (f .k) (paidIn f) (developmentIn f)))
     ∷ []
+
+-- those after the separation, and questions 6 to 14
+unfoldable pub laterQuestions : Figures → List (ℕ × Bool)
+laterQuestions f = completionQuestions f ++ (ratioQuestions f ++ ladderQuestions f)
+
+unfoldable pub figureQuestions : Figures → List (ℕ × Bool)
+figureQuestions f = (6, cumulativesPass (f .k) (f .increments)) ∷ (separationQuestions (squareOf f) (f .k) ++ laterQuestions f)
 
 -- 3. Does the result buffer, of m entries, hold the whole list?
 unfoldable pub holdsList : List ℕ → ℕ → Bool
@@ -38,13 +43,7 @@ holdsList s m = leb (resultCount (lastYearOf s)) m
 
 -- the questions in their order, of the record s and a result buffer of m entries
 unfoldable pub questions : List ℕ → ℕ → List (ℕ × Bool)
-questions s m =
-    (1, hasLastYear s)
-    ∷ (2, hasLength s)
-    ∷ (3, holdsList s m)
-    ∷ (4, inRanges s)
-    ∷ (5, sharesSum s)
-    ∷ figureQuestions (figuresOf s)
+questions s m = openingQuestions s ++ ((3, holdsList s m) ∷ (fieldQuestions s ++ figureQuestions (figuresOf s)))
 
 -- the number that a run answers
 unfoldable pub runAnswer : List ℕ → ℕ → ℕ

@@ -2,7 +2,7 @@
 -- Assumes nothing.
 use Prim.Native.Nat.{ℕ}
 use mathlib.Core.Bool.{Bool, _&&_}
-use mathlib.Core.List.{List, [], _∷_}
+use mathlib.Core.List.{List, [], _∷_, _++_}
 use lib.Dec.{eqb, leb}
 use lib.IntN.{ℤ}
 use lib.ListN.{length}
@@ -31,9 +31,16 @@ inRanges s = everyField bitsInRange (kindsOf (layout (lastYearOf s))) (codesOf s
 unfoldable pub sharesSum : List ℕ → Bool
 sharesSum s = eqb (total (reportingIn (lastYearOf s) (fieldsOf s))) million
 
+-- questions 1 and 2, and questions 4 and 5
+unfoldable pub openingQuestions : List ℕ → List (ℕ × Bool)
+openingQuestions s = (1, hasLastYear s) ∷ (2, hasLength s) ∷ []
+
+unfoldable pub fieldQuestions : List ℕ → List (ℕ × Bool)
+fieldQuestions s = (4, inRanges s) ∷ (5, sharesSum s) ∷ []
+
 -- the number that reading the record s into a list of m entries answers
 unfoldable pub readAnswer : List ℕ → ℕ → ℕ
-readAnswer s m = firstNo ((1, hasLastYear s) ∷ (2, hasLength s) ∷ (3, hasRoom s m) ∷ (4, inRanges s) ∷ (5, sharesSum s) ∷ [])
+readAnswer s m = firstNo (openingQuestions s ++ ((3, hasRoom s m) ∷ fieldQuestions s))
 
 -- the lent list afterwards: the fields and then what it held, and unchanged on a refusal
 unfoldable pub readInto : List ℕ → List ℤ → List ℤ

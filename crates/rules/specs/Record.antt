@@ -7,11 +7,17 @@ use lib.IntN.{ℤ, pos, negsuc, negℤ, natAbs}
 use lib.ListN.{length, getD, take, drop, replicate}
 use Rattle.rules.specs.Packing.{pack, unpack, numberOf, bytesOf}
 use Rattle.rules.specs.Lists.{total, padded}
-use Rattle.rules.specs.declared.Figures.{Figures}
 
 -- M, one million
 abbrev pub million : ℕ
 million = 1000000
+
+-- the most of a future index, and of an increment's size and a ULAE total
+abbrev pub mostIndex : ℕ
+mostIndex = 5000000
+
+abbrev pub mostAmount : ℕ
+mostAmount = 10000000000
 
 -- a kind of field: whether a sign bit stands before its size, the size's width in bits, the least and the greatest size
 pub record Kind : Type 0 where
@@ -26,27 +32,27 @@ lastYear = record { signed = false; width = 4; least = 1; most = 15 }
 
 -- n_i, 20 bits, 1 to 1,000,000
 abbrev pub exposure : Kind
-exposure = record { signed = false; width = 20; least = 1; most = 1000000 }
+exposure = record { signed = false; width = 20; least = 1; most = million }
 
 -- P_ij, a sign bit and a 34-bit size up to 10^10
 abbrev pub increment : Kind
-increment = record { signed = true; width = 34; least = 0; most = 10000000000 }
+increment = record { signed = true; width = 34; least = 0; most = mostAmount }
 
 -- e_t, 23 bits, 1 to 5,000,000
 abbrev pub index : Kind
-index = record { signed = false; width = 23; least = 1; most = 5000000 }
+index = record { signed = false; width = 23; least = 1; most = mostIndex }
 
 -- b_j, 20 bits, 0 to M
 abbrev pub reporting : Kind
-reporting = record { signed = false; width = 20; least = 0; most = 1000000 }
+reporting = record { signed = false; width = 20; least = 0; most = million }
 
 -- w, 20 bits, 0 to M
 abbrev pub weight : Kind
-weight = record { signed = false; width = 20; least = 0; most = 1000000 }
+weight = record { signed = false; width = 20; least = 0; most = million }
 
 -- U_t, 34 bits, 0 to 10^10
 abbrev pub ulae : Kind
-ulae = record { signed = false; width = 34; least = 0; most = 10000000000 }
+ulae = record { signed = false; width = 34; least = 0; most = mostAmount }
 
 -- how many bits a field of this kind takes
 abbrev pub bitsOf : Kind → ℕ
@@ -92,6 +98,13 @@ byteCount k = (bitCount k + 7) / 8
 
 unfoldable pub fillingCount : ℕ → ℕ
 fillingCount k = 8 * byteCount k - bitCount k
+
+-- the most of the bytes and of the fields, those of k = 15
+abbrev pub mostBytes : ℕ
+mostBytes = 790
+
+abbrev pub mostFields : ℕ
+mostFields = 201
 
 -- the signed number with this sign bit, 1 for negative, and this size
 abbrev pub signedOf : ℕ → ℕ → ℤ
@@ -166,6 +179,16 @@ weightIn k vs = getD (map natAbs (section (layout k) 5 vs)) 0 0
 
 unfoldable pub ulaeIn : ℕ → List ℤ → List ℕ
 ulaeIn k vs = map natAbs (section (layout k) 6 vs)
+
+-- the figures of one record, each list in an array of sixteen or, for the increments by row, of 136
+pub record Figures : Type 0 where
+  pub k : ℕ
+  pub exposures : List ℕ
+  pub increments : List ℤ
+  pub indices : List ℕ
+  pub reporting : List ℕ
+  pub weight : ℕ
+  pub ulae : List ℕ
 
 -- the figures of the record s, each list in its array, zero past its end; e_t is at place t − 1
 unfoldable pub figuresOf : List ℕ → Figures

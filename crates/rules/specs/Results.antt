@@ -1,17 +1,93 @@
--- The result list (document 01): its sections in their order, by the figures f. Assumes nothing.
-use Prim.Native.Nat.{ℕ, suc, _+_, _-_}
+-- The result list (document 01): its sections in their order, over lists, and those of the figures f. Assumes nothing.
+use Prim.Native.Nat.{ℕ, _+_, _-_}
 use mathlib.Core.List.{List, [], _∷_, _++_, map}
 use lib.IntN.{ℤ, pos}
 use lib.ListN.{take}
-use Rattle.rules.specs.Lists.{total, upTo}
-use Rattle.rules.specs.Record.{cells}
-use Rattle.rules.specs.Triangle.{averagesOf, cellOf}
-use Rattle.rules.specs.Separation.{diagonalOf, factorsOf}
-use Rattle.rules.specs.Completion.{futureLevel, paymentRow, provision}
-use Rattle.rules.specs.Expense.{ratioOf, notReported, reserve}
-use Rattle.rules.specs.Ladder.{developmentFactor, completedRow}
-use Rattle.rules.specs.declared.Figures.{Figures}
+use Rattle.rules.specs.Lists.{total, upTo, padded, joined}
+use Rattle.rules.specs.Record.{Figures, cells}
+use Rattle.rules.specs.Triangle.{averagesOf, cellOf, paidTo}
+use Rattle.rules.specs.Separation.{diagonalOf, shareOf, levelOf, factorsOf}
+use Rattle.rules.specs.Completion.{futureLevels, payments, provisions}
+use Rattle.rules.specs.Expense.{paidTotal, ulaeTotal, ratioOf, notReported, reserve}
+use Rattle.rules.specs.Ladder.{developed, base, developmentFactors, completedAll}
 use Rattle.rules.specs.declared.Factors.{Factors}
+
+-- the sections by their numbers, in their order
+abbrev pub averageSection : ℕ
+averageSection = 0
+
+abbrev pub shareSection : ℕ
+shareSection = 1
+
+abbrev pub levelSection : ℕ
+levelSection = 2
+
+abbrev pub futureLevelSection : ℕ
+futureLevelSection = 3
+
+abbrev pub paymentSection : ℕ
+paymentSection = 4
+
+abbrev pub provisionSection : ℕ
+provisionSection = 5
+
+abbrev pub provisionTotalSection : ℕ
+provisionTotalSection = 6
+
+abbrev pub notReportedSection : ℕ
+notReportedSection = 7
+
+abbrev pub reserveSection : ℕ
+reserveSection = 8
+
+abbrev pub reserveTotalSection : ℕ
+reserveTotalSection = 9
+
+abbrev pub ratioSection : ℕ
+ratioSection = 10
+
+abbrev pub factorSection : ℕ
+factorSection = 11
+
+abbrev pub completedSection : ℕ
+completedSection = 12
+
+abbrev pub sectionCount : ℕ
+sectionCount = 13
+
+-- how many entries each section has for the years 0 to k
+unfoldable pub sectionCounts : ℕ → List ℕ
+sectionCounts k =
+    let n = k + 1 in
+    let future = cells k - n in
+    cells k ∷ n ∷ n ∷ k ∷ future ∷ n ∷ 1 ∷ n ∷ n ∷ 1 ∷ 1 ∷ k ∷ future ∷ []
+
+-- how many entries the whole list has, and where section i starts in it
+unfoldable pub resultCount : ℕ → ℕ
+resultCount k = total (sectionCounts k)
+
+unfoldable pub sectionStart : ℕ → ℕ → ℕ
+sectionStart k i = total (take i (sectionCounts k))
+
+-- the most entries that a list has, those of k = 15
+abbrev pub mostEntries : ℕ
+mostEntries = 489
+
+-- averages by row, of a square s; r; l
+unfoldable pub separationSections : ℕ → List (List ℤ) → List ℕ → List ℕ → List (List ℤ)
+separationSections k s r l = joined (upTo (λ i. upTo (cellOf s i) (k + 1 - i)) (k + 1)) ∷ map pos r ∷ map pos l ∷ []
+
+-- L_1 to L_k; y by row; R; total R
+unfoldable pub completionSections : List ℕ → List ℕ → List ℕ → List (List ℤ)
+completionSections l y q = map pos l ∷ map pos y ∷ map pos q ∷ (pos (total q) ∷ []) ∷ []
+
+-- N; Q; total Q; p
+unfoldable pub reserveSections : List ℕ → List ℕ → ℕ → List (List ℤ)
+reserveSections n q ratio = map pos n ∷ map pos q ∷ (pos (total q) ∷ []) ∷ (pos ratio ∷ []) ∷ []
+
+-- m_0 to m_{k−1}; the completed C by row
+unfoldable pub ladderSections : List ℕ → List ℕ → List (List ℤ)
+ladderSections m c = map pos m ∷ map pos c ∷ []
 
 -- the square of averages of the figures, its latest diagonal d_k, and its factors
 unfoldable pub squareOf : Figures → List (List ℤ)
@@ -23,46 +99,35 @@ latestOf f = diagonalOf (squareOf f) (f .k)
 unfoldable pub factorsIn : Figures → Factors
 factorsIn f = factorsOf (squareOf f) (f .k)
 
--- rows one after another
-unfoldable pub joined : {A : Type 0} → List (List A) → List A
-joined [] = []
-joined (xs ∷ xss) = xs ++ joined xss
+-- the paid cumulatives by row, the future levels, the provisions and the development factors of the figures, each in an array, zero past its end
+unfoldable pub paidIn : Figures → List ℕ
+paidIn f = padded 16 0 (upTo (paidTo (f .k) (f .increments)) (f .k + 1))
 
--- the sections: averages by row; r; l; L_1 to L_k; y by row; R; total R; N; Q; total Q; p; m_0 to m_{k−1}; the completed C by row
+unfoldable pub levelsIn : Figures → List ℕ
+levelsIn f = padded 16 0 (futureLevels (f .k) (latestOf f) (f .indices))
+
+unfoldable pub provisionsIn : Figures → List ℕ
+provisionsIn f = padded 16 0 (provisions (f .k) (f .exposures) (factorsIn f .shares) (levelsIn f))
+
+unfoldable pub developmentIn : Figures → List ℕ
+developmentIn f = padded 16 0 (developmentFactors (f .k) (developed (f .k) (f .increments)) (base (f .k) (f .increments)))
+
+-- the ratio p of the figures
+unfoldable pub ratioIn : Figures → ℕ
+ratioIn f = ratioOf (paidTotal (f .k) (f .increments)) (ulaeTotal (f .k) (f .ulae))
+
+-- the sections of the figures
 unfoldable pub sections : Figures → List (List ℤ)
 sections f =
-    let n = f .k + 1 in
-    let d = latestOf f in
+    let k = f .k in
     let r = factorsIn f .shares in
-    joined (upTo (λ i. upTo (cellOf (squareOf f) i) (n - i)) n)
-    ∷ map pos (take n r)
-    ∷ map pos (take n (factorsIn f .levels))
-    ∷ map pos (upTo (λ t. futureLevel f d (suc t)) (f .k))
-    ∷ map pos (joined (upTo (paymentRow f d r) n))
-    ∷ map pos (upTo (provision f d r) n)
-    ∷ (pos (total (upTo (provision f d r) n)) ∷ [])
-    ∷ map pos (upTo (notReported f d r) n)
-    ∷ map pos (upTo (reserve f d r) n)
-    ∷ (pos (total (upTo (reserve f d r) n)) ∷ [])
-    ∷ (pos (ratioOf f) ∷ [])
-    ∷ map pos (upTo (developmentFactor f) (f .k))
-    ∷ map pos (joined (upTo (completedRow f) n))
-    ∷ []
+    let c = paidIn f in
+    let q = provisionsIn f in
+    separationSections k (squareOf f) (upTo (shareOf (squareOf f) k) (k + 1)) (upTo (levelOf (squareOf f) k) (k + 1))
+    ++ (completionSections (futureLevels k (latestOf f) (f .indices)) (payments k (f .exposures) r (levelsIn f)) (provisions k (f .exposures) r (levelsIn f))
+    ++ (reserveSections (upTo (notReported k (f .reporting) c q) (k + 1)) (upTo (reserve k (ratioIn f) (f .weight) (f .reporting) c q) (k + 1)) (ratioIn f)
+    ++ ladderSections (developmentFactors k (developed k (f .increments)) (base k (f .increments))) (completedAll k c (developmentIn f))))
 
 -- the result list
 unfoldable pub resultsOf : Figures → List ℤ
 resultsOf f = joined (sections f)
-
--- how many entries the sections of the list have for the years 0 to k
-unfoldable pub sectionCounts : ℕ → List ℕ
-sectionCounts k =
-    let n = k + 1 in
-    let future = cells k - n in
-    cells k ∷ n ∷ n ∷ k ∷ future ∷ n ∷ 1 ∷ n ∷ n ∷ 1 ∷ 1 ∷ k ∷ future ∷ []
-
--- how many entries the whole list has, and the place of section i in it
-unfoldable pub resultCount : ℕ → ℕ
-resultCount k = total (sectionCounts k)
-
-unfoldable pub placeOf : ℕ → ℕ → ℕ
-placeOf k i = total (take i (sectionCounts k))

@@ -68,9 +68,12 @@ runningPass s k = every (λ h. leb 1 (runningOf s k h)) (years0 k)
 unfoldable pub levelsPass : List (List ℤ) → ℕ → Bool
 levelsPass s k = every (λ h. leb (levelOf s k h) billion) (years0 k)
 
--- the number that the separation of a square answers
+-- questions 7 to 10, and the number that the separation of a square answers
+unfoldable pub separationQuestions : List (List ℤ) → ℕ → List (ℕ × Bool)
+separationQuestions s k = (7, totalsPass s k) ∷ (8, restsPass s k) ∷ (9, runningPass s k) ∷ (10, levelsPass s k) ∷ []
+
 unfoldable pub separateAnswer : List (List ℤ) → ℕ → ℕ
-separateAnswer s k = firstNo ((7, totalsPass s k) ∷ (8, restsPass s k) ∷ (9, runningPass s k) ∷ (10, levelsPass s k) ∷ [])
+separateAnswer s k = firstNo (separationQuestions s k)
 
 -- the shares and levels of the years 0 to k as one set of factors, zero past them
 unfoldable pub factorsOf : List (List ℤ) → ℕ → Factors

@@ -17,6 +17,11 @@ unfoldable pub rowStart : ℕ → ℕ → ℕ
 rowStart k zero = 0
 rowStart k (suc i) = rowStart k i + (k + 1 - i)
 
+-- where row i starts among the cells past the diagonal by row: row h has the h cells with j from k − h + 1 to k
+unfoldable pub futureStart : ℕ → ℕ
+futureStart zero = 0
+futureStart (suc i) = futureStart i + i
+
 -- the paid increment P_ij of the years 0 to k, i + j at most k, p the increments by row
 unfoldable pub paidOf : ℕ → List ℤ → ℕ → ℕ → ℤ
 paidOf k p i j = getD p (rowStart k i + j) (pos 0)
@@ -30,13 +35,24 @@ sumTo f (suc n) = sumTo f n +ℤ f n
 unfoldable pub cumulativeOf : ℕ → List ℤ → ℕ → ℕ → ℤ
 cumulativeOf k p i j = sumTo (paidOf k p i) (suc j)
 
--- whether the test holds of every cell of the triangle of the years 0 to k
-unfoldable pub everyCell : (ℕ → ℕ → Bool) → ℕ → Bool
-everyCell ok k = every (λ i. every (ok i) (below (k + 1 - i))) (below (k + 1))
+-- the most of a cumulative, 10^11
+abbrev pub mostCumulative : ℕ
+mostCumulative = 100000000000
+
+-- whether every given C of row i is from 0 to 10^11
+unfoldable pub rowPasses : ℕ → List ℤ → ℕ → Bool
+rowPasses k p i = every (λ j. leZ (pos 0) (cumulativeOf k p i j) && leZ (cumulativeOf k p i j) (pos mostCumulative)) (below (k + 1 - i))
 
 -- 6. Is every given C from 0 to 10^11?
 unfoldable pub cumulativesPass : ℕ → List ℤ → Bool
-cumulativesPass k p = everyCell (λ i j. leZ (pos 0) (cumulativeOf k p i j) && leZ (cumulativeOf k p i j) (pos 100000000000)) k
+cumulativesPass k p = every (rowPasses k p) (below (k + 1))
+
+-- the given C_ij as a whole number, which it is once question 6 says yes, and the paid cumulative of row i, its last
+unfoldable pub givenCumulative : ℕ → List ℤ → ℕ → ℕ → ℕ
+givenCumulative k p i j = natAbs (cumulativeOf k p i j)
+
+unfoldable pub paidTo : ℕ → List ℤ → ℕ → ℕ
+paidTo k p i = givenCumulative k p i (k - i)
 
 -- 100 × a / n to the nearest whole, halves up
 unfoldable pub nearest : ℕ → ℕ → ℕ

@@ -1,27 +1,29 @@
-// The figures of one record and the factors of its separation as the code holds them, and the limits of the fields. The rules about them
-// stand in specs/.
+// The factors of a separation as the code holds them, and the limits of the rules. The rules themselves stand in specs/.
 
 // What a call answers where every question says yes.
 pub const ACCEPTED: u64 = 0;
 // M of document 01: the most of an exposure, a reporting share and the weight, and the sum of the reporting shares.
 pub const MILLION: u64 = 1_000_000;
+// S of document 01, one whole in billionths: the most of a level and of the total of averages.
+pub const BILLION: u64 = 1_000_000_000;
 // The most of a future index.
 pub const MOST_INDEX: u64 = 5_000_000;
 // The most of an increment's size and of a ULAE total.
 pub const MOST_AMOUNT: u64 = 10_000_000_000;
 // The weight of an increment's sign bit, which stands before 34 bits of size.
 pub const SIGN: u64 = 17_179_869_184;
+// The most of a cumulative, given or completed.
+pub const MOST_CUMULATIVE: u64 = 100_000_000_000;
+// The most of an ultimate.
+pub const MOST_ULTIMATE: u64 = 1_000_000_000_000;
+// The most of a development factor.
+pub const MOST_FACTOR: u64 = 50_000_000;
+// The most of a record's bytes and fields and of a result list's entries: those of k = 15.
+pub const MOST_BYTES: usize = 790;
 
-// Each list stands in an array, zero past its end. Future index e_t is at place t - 1.
-pub struct Figures {
-    pub k: usize,
-    pub exposures: [u64; 16],
-    pub increments: [i64; 136],
-    pub indices: [u64; 16],
-    pub reporting: [u64; 16],
-    pub weight: u64,
-    pub ulae: [u64; 16],
-}
+pub const MOST_FIELDS: usize = 201;
+
+pub const MOST_ENTRIES: usize = 489;
 
 // Shares and levels of the years 0 to k as one set of factors, zero past them. A share counts billionths, a level hundredths a claim.
 pub struct Factors {

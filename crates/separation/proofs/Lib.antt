@@ -1,9 +1,5 @@
-pub mod Zero
-pub mod Filled
-pub mod Sizes
-pub mod Every
-pub mod Steps
-pub mod Answers
+pub mod Passing
 pub mod Totals
-pub mod Years
+pub mod Corners
+pub mod Steps
 pub mod Questions

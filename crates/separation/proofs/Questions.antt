@@ -1,8 +1,7 @@
--- The questions as the code asks them are questions 7, 9 and 10 of the square, and the walk's answer and factors are those of the square.
--- Assumes nothing.
-use mathlib.Core.Path.{_≡_, refl, sym, ap, ap₂, _∙_}
+-- The questions as the code asks them are questions 7, 9 and 10 of the square, and the answers of the separation. Assumes nothing.
+use mathlib.Core.Path.{_≡_, sym, ap, ap₂, _∙_}
 use mathlib.Core.Bool.{Bool, true, false, _&&_}
-use mathlib.Core.List.{List}
+use mathlib.Core.List.{List, [], _∷_}
 use Prim.Native.Nat.{ℕ, suc, _+_, _-_, _≤_, _<_, zero-le}
 use native.Mathlib.Nat.{le-trans}
 use native.Mathlib.Numerals.{add-one}
@@ -16,17 +15,18 @@ use lib.Signed.{leZ}
 use Rattle.rules.specs.Lists.{upTo, below, padded, every, between}
 use Rattle.rules.specs.Questions.{firstNo, afterCall}
 use Rattle.rules.specs.Triangle.{sumTo, columnTotal, diagonalTotal, allTotal, ZeroOutside}
-use Rattle.rules.specs.Separation.{billion, cornerOf, runningOf, shareOf, levelOf, totalsPass, restsPass, runningPass, levelsPass, separateAnswer, factorsOf, noFactors, separated}
+use Rattle.rules.specs.Separation.{billion, runningOf, shareOf, levelOf, totalsPass, restsPass, runningPass, levelsPass, separationQuestions, separateAnswer, factorsOf, noFactors, separated}
 use Rattle.rules.specs.declared.Factors.{Factors}
 use Rattle.laws.proofs.Lists.{length-upTo, every-upTo, same-answer, every-same, every-yes}
+use Rattle.laws.proofs.Padded.{filled-at}
 use Rattle.laws.proofs.Sums.{sumTo-same}
 use Rattle.totals.proofs.Walk.{all-columns-to}
-use Rattle.laws.proofs.Padded.{filled-at}
-use Rattle.separation.specs.Walk.{cornersPass, cornersOf, walkFactors, walkAnswer, walked}
-use Rattle.separation.proofs.Answers.{factorsAnswer, corners-at, answer-eight, corner-above, answer-factors}
-use Rattle.separation.proofs.Sizes.{Sizes}
-use Rattle.separation.proofs.Totals.{eight, corner-is-down}
-use Rattle.separation.proofs.Years.{running-least, factors-are}
+use Rattle.separation.proofs.Steps.{running-least}
+use Rattle.laws.proofs.Questions.{after-refusal}
+
+-- the answer to questions 9 and 10 of factors
+abbrev pub factorsAnswer : Factors → ℕ
+factorsAnswer f = firstNo ((9, leb 1 (getD (f .shares) 0 0)) ∷ (10, every (between 0 billion) (take (f .k + 1) (f .levels))) ∷ [])
 
 module _ (s : List (List ℤ)) (k : ℕ) where
   -- question 7, by lists of the columns and diagonals
@@ -46,13 +46,13 @@ module _ (s : List (List ℤ)) (k : ℕ) where
       ap₂ (λ (a b : Bool). a && b) (least c (columnTotal s) cs)
       (ap₂ (λ (a b : Bool). a && b) (least d (diagonalTotal s) ds) (ap (λ (z : ℤ). leZ z (pos billion)) sum))
 
-  -- question 9, by the first share, where no running share is below that of year 0
-  nine : ((h : ℕ) → h ≤ k → runningOf s k 0 ≤ runningOf s k h) → leb 1 (getD (factorsOf s k .shares) 0 0) ≡ runningPass s k
+  -- question 9, by the first share: no running share is below that of year 0
+  nine : leb 1 (getD (factorsOf s k .shares) 0 0) ≡ runningPass s k
   unfolding factorsOf shareOf runningPass
-  nine least =
+  nine =
       ap (leb 1) (filled-at 16 0 (shareOf s k) (k + 1) 0 0 (omega arith))
       ∙ same-answer _ _
-      (λ e. every-yes (λ h. leb 1 (runningOf s k h)) (λ h. h) (k + 1) (λ i l. le-leb 1 _ (le-trans (leb-true 1 _ e) (least i (omega arith)))))
+      (λ e. every-yes (λ h. leb 1 (runningOf s k h)) (λ h. h) (k + 1) (λ i l. le-leb 1 _ (le-trans (leb-true 1 _ e) (running-least s k i (omega arith)))))
       (λ e. every-upTo (λ h. leb 1 (runningOf s k h)) (λ h. h) (k + 1) 0 e (omega arith))
 
   -- question 10, by the levels in their array
@@ -64,44 +64,25 @@ module _ (s : List (List ℤ)) (k : ℕ) where
       ∙ every-same (between 0 billion) (λ h. leb (levelOf s k h) billion) (levelOf s k) (λ h. h) (k + 1)
       (λ i l. rw (le-leb 0 (levelOf s k i) zero-le))
 
-  -- question 7 says no
-  pub refuse-seven : totalsPass s k ≡ false → (separateAnswer s k ≡ 7) × (separated s k ≡ noFactors k)
-  unfolding separated separateAnswer firstNo afterCall
-  refuse-seven e = (rw e, rw e)
+  -- question 7 says no, and question 8
+  pub answer-seven : totalsPass s k ≡ false → 7 ≡ separateAnswer s k
+  unfolding separateAnswer separationQuestions firstNo
+  answer-seven e = rw e
 
-  module _ (few : k < 16) (out : ZeroOutside s k) (q7 : totalsPass s k ≡ true) (v d : List ℕ) (sizes : Sizes s k v d) where
-    module _ (q8 : restsPass s k ≡ true) where
-      pass : cornersPass v d k ≡ true
-      pass = eight s k few out q7 v d sizes ∙ q8
+  pub answer-eight : totalsPass s k ≡ true → restsPass s k ≡ false → 8 ≡ separateAnswer s k
+  unfolding separateAnswer separationQuestions firstNo
+  answer-eight e q = rw (e, q)
 
-      corners : (h : ℕ) → h ≤ k → getD (cornersOf v d k) h 0 ≡ cornerOf s h
-      corners h l = corners-at v d k h l ∙ corner-is-down s k few out q7 v d sizes (corner-above v d k pass) h l
+  -- both say yes, and the factors give the answer
+  pub answer-factors : totalsPass s k ≡ true → restsPass s k ≡ true → (f : Factors) → f ≡ factorsOf s k → factorsAnswer f ≡ separateAnswer s k
+  unfolding separateAnswer separationQuestions firstNo factorsOf padded
+  answer-factors e q f is = ap factorsAnswer is ∙ rw (e, q, ← nine, ← ten)
 
-      found : walkFactors v d k ≡ factorsOf s k
-      unfolding walkFactors
-      found = factors-are s k v d (cornersOf v d k) sizes corners few
+  -- what is handed back with an answer
+  pub none-back : (a : ℕ) → a ≡ separateAnswer s k → (a ≡ 0 → ⊥) → noFactors k ≡ separated s k
+  unfolding separated
+  none-back a e h = rw (← e) (sym (after-refusal a (factorsOf s k) (noFactors k) h))
 
-      answered : walkAnswer v d k ≡ separateAnswer s k
-      unfolding separateAnswer firstNo factorsOf
-      answered =
-          answer-factors v d k pass
-          ∙ ap factorsAnswer found
-          ∙ rw (q7, q8, sym (nine (running-least s k v d (cornersOf v d k) sizes corners)), sym ten)
-
-      kept : walked v d k ≡ separated s k
-      unfolding walked separated
-      kept = ap₂ (λ (n : ℕ) (f : Factors). afterCall n f (noFactors k)) answered found
-
-    refused : restsPass s k ≡ false → (walkAnswer v d k ≡ separateAnswer s k) × (walked v d k ≡ separated s k)
-    unfolding walked separated separateAnswer firstNo afterCall
-    refused q8 =
-        let e : walkAnswer v d k ≡ 8 = answer-eight v d k (eight s k few out q7 v d sizes ∙ q8) in
-        (rw (e, q7, q8), rw (e, q7, q8))
-
-    -- the walk's answer and factors are those of the separation
-    pub walk-is : (walkAnswer v d k ≡ separateAnswer s k) × (walked v d k ≡ separated s k)
-    walk-is = go (restsPass s k) refl
-      where
-        go : (b : Bool) → restsPass s k ≡ b → (walkAnswer v d k ≡ separateAnswer s k) × (walked v d k ≡ separated s k)
-        go true e = (answered e, kept e)
-        go false e = refused e
+  pub factors-back : (a : ℕ) → a ≡ separateAnswer s k → a ≡ 0 → factorsOf s k ≡ separated s k
+  unfolding separated afterCall
+  factors-back a e z = rw (← e, z)

@@ -1,25 +1,23 @@
 // Taylor's separation: shares and levels from a square of averages and k alone, under questions 7 to 10.
 use entries::within;
+use rules::BILLION;
 use rules::Factors;
-use triangle::column_totals;
-use triangle::diagonal_totals;
+use triangle::fill_columns;
+use triangle::fill_diagonals;
 ghost use mathlib.Core.Path.{_≡_};
 ghost use mathlib.Core.Bool.{true, _&&_};
 ghost use mathlib.Core.List.{[], _∷_};
-ghost use Prim.Native.Nat.{ℕ, _+_, _*_, _≤_, _<_};
+ghost use Prim.Native.Nat.{ℕ, _+_, _-_, _*_, _/_, _≤_, _<_};
 ghost use lib.IntN.{pos, natAbs};
 ghost use lib.Dec.{leb};
-ghost use lib.ListN.{getD, take};
+ghost use lib.ListN.{length, getD, take};
 ghost use lib.Signed.{leZ};
-ghost use Rattle.rules.specs.Lists.{upTo, below, every, between};
+ghost use Rattle.rules.specs.Lists.{below, every, between};
 ghost use Rattle.rules.specs.Triangle.{sumTo, ZeroOutside};
 ghost use Rattle.rules.specs.Questions.{firstNo};
 ghost use Rattle.rules.specs.Separation.{billion, noFactors, separateAnswer, separated};
-ghost use Rattle.triangle.specs.Bounds.{Cells};
-ghost use Rattle.separation.specs.Walk.{cornersPass, cornersOf, runningBelow, levelAt, shareWalk, levelWalk, Ready, Walkable, walkAnswer, walked};
-
-// S, one whole in billionths.
-const BILLION: u64 = 1_000_000_000;
+ghost use Rattle.triangle.specs.Bounds.{mostAverage, Cells};
+ghost use Rattle.separation.specs.Walk.{SizesOf, CornersFound, Ready, FactorsFound, withYear};
 
 // The number that the separation answers, and the factors: zeros where it is not 0.
 pub struct Separation {
@@ -27,101 +25,67 @@ pub struct Separation {
     pub factors: Factors,
 }
 
-// The totals T_0 to T_k, and whether each T_h is above v_h for h from 1 on.
-pub struct Corners {
-    pub pass: bool,
-    pub totals: [u64; 16],
-}
-
-// Whether none of the first n totals is below zero.
-fn none_below_zero(totals: &[i64; 16], n: usize) -> bool
-    requires { ⌜ n ≤ 16 ⌝ }
-    ensures { λ r. ⌜ r ≡ every (λ i. leZ (pos 0) (getD (now (totals .entry)) i (pos 0))) (below n) ⌝ }
+// Question 7, of the first n totals; where it says yes, their sizes are in v and d.
+fn totals_pass(
+    columns: &[i64; 16],
+    diagonals: &[i64; 16],
+    n: usize,
+    v: &mut [u64; 16],
+    d: &mut [u64; 16],
+) -> bool
+    requires { ⌜ (n ≤ 16)
+        × (((i : ℕ) → i < n → natAbs (getD (now columns) i (pos 0)) ≤ 16 * mostAverage) × ((length (now v) ≡ 16) × (length (now d) ≡ 16))) ⌝ }
+    ensures { λ r. ⌜ (r ≡ every (λ i. leZ (pos 0) (getD (now (columns .entry)) i (pos 0))) (below n)
+        && (every (λ i. leZ (pos 0) (getD (now (diagonals .entry)) i (pos 0))) (below n)
+        && leZ (sumTo (λ i. getD (now (columns .entry)) i (pos 0)) n) (pos billion)))
+        × (r ≡ true → SizesOf n (now (columns .entry)) (now (v .exit)) × SizesOf n (now (diagonals .entry)) (now (d .exit))) ⌝ }
 {
+    let mut sum: u64 = 0;
     for i in 0..n {
-        if totals[i] < 0 {
+        let a = columns[i];
+        if a < 0 {
             return false;
         }
+        let b = diagonals[i];
+        if b < 0 {
+            return false;
+        }
+        let x = a as u64;
+        v[i] = x;
+        d[i] = b as u64;
+        sum += x;
     }
-    true
+    sum <= BILLION
 }
 
-// Whether the sum of the first n totals is at most S.
-fn sum_within(totals: &[i64; 16], n: usize) -> bool
-    requires { ⌜ (n ≤ 16) × ((i : ℕ) → natAbs (getD (now totals) i (pos 0)) ≤ 100000000000000) ⌝ }
-    ensures { λ r. ⌜ r ≡ leZ (sumTo (λ i. getD (now (totals .entry)) i (pos 0)) n) (pos billion) ⌝ }
+// The totals T from k down to 0 go into the list as far as question 8 says yes; whether it does in every year.
+fn fill_corners(
+    columns: &[u64; 16],
+    diagonals: &[u64; 16],
+    k: usize,
+    totals: &mut [u64; 16],
+) -> bool
+    requires { ⌜ (k < 16) × (((i : ℕ) → i ≤ k → getD (now diagonals) i 0 ≤ billion) × (length (now totals) ≡ 16)) ⌝ }
+    ensures { λ r. ⌜ CornersFound k (now (columns .entry)) (now (diagonals .entry)) (now (totals .exit)) r ⌝ }
 {
-    let mut sum: i64 = 0;
-    for i in 0..n {
-        sum += totals[i];
-    }
-    sum <= 1_000_000_000
-}
-
-// Question 7, of the totals.
-fn totals_pass(columns: &[i64; 16], diagonals: &[i64; 16], n: usize) -> bool
-    requires { ⌜ (n ≤ 16) × ((i : ℕ) → natAbs (getD (now columns) i (pos 0)) ≤ 100000000000000) ⌝ }
-    ensures { λ r. ⌜ r ≡ every (λ i. leZ (pos 0) (getD (now (columns .entry)) i (pos 0))) (below n)
-        && (every (λ i. leZ (pos 0) (getD (now (diagonals .entry)) i (pos 0))) (below n)
-        && leZ (sumTo (λ i. getD (now (columns .entry)) i (pos 0)) n) (pos billion)) ⌝ }
-{
-    if !none_below_zero(columns, n) {
-        return false;
-    }
-    if !none_below_zero(diagonals, n) {
-        return false;
-    }
-    sum_within(columns, n)
-}
-
-// The size of a total.
-pub fn size_of(x: i64) -> u64
-    requires { ⌜ natAbs x ≤ 100000000000000 ⌝ }
-    ensures { λ r. ⌜ r ≡ natAbs x ⌝ }
-{
-    if x < 0 { (0 - x) as u64 } else { x as u64 }
-}
-
-// The sizes of all totals.
-fn sizes_of(totals: &[i64; 16]) -> [u64; 16]
-    requires { ⌜ ((i : ℕ) → natAbs (getD (now totals) i (pos 0)) ≤ 100000000000000) ⌝ }
-    ensures { λ r. ⌜ r ≡ upTo (λ i. natAbs (getD (now (totals .entry)) i (pos 0))) 16 ⌝ }
-{
-    let mut sizes = [0u64; 16];
-    for i in 0..16 {
-        sizes[i] = size_of(totals[i]);
-    }
-    sizes
-}
-
-// The totals T from k down to 0, as far as question 8 says yes.
-fn corners_of(columns: &[u64; 16], diagonals: &[u64; 16], k: usize) -> Corners
-    requires { ⌜ (k < 16) × ((i : ℕ) → i ≤ k → getD (now diagonals) i 0 ≤ billion) ⌝ }
-    ensures { λ r. ⌜ (r .pass ≡ cornersPass (now (columns .entry)) (now (diagonals .entry)) k)
-        × (r .pass ≡ true → r .totals ≡ cornersOf (now (columns .entry)) (now (diagonals .entry)) k) ⌝ }
-{
-    let mut totals = [0u64; 16];
     let mut t = diagonals[k];
     totals[k] = t;
     let mut h = k;
     while h > 0 {
         if t <= columns[h] {
-            return Corners {
-                pass: false,
-                totals,
-            };
+            return false;
         }
         t = t - columns[h] + diagonals[h - 1];
         h -= 1;
         totals[h] = t;
     }
-    Corners { pass: true, totals }
+    true
 }
 
 // The running share of the year below h, from that of h.
 fn running_below(columns: &[u64; 16], corners: &[u64; 16], h: usize, a: u64) -> u64
     requires { ⌜ (getD (now columns) h 0 < getD (now corners) h 0) × ((getD (now corners) h 0 ≤ billion) × ((a ≤ billion) × (h < 16))) ⌝ }
-    ensures { λ r. ⌜ (r ≡ runningBelow (now (columns .entry)) (now (corners .entry)) h a) × (r ≤ a) ⌝ }
+    ensures { λ r. ⌜ (r ≡ a * (getD (now (corners .entry)) h 0 - getD (now (columns .entry)) h 0) / getD (now (corners .entry)) h 0) × (r ≤ a) ⌝ }
 {
     let t = corners[h];
     a * (t - columns[h]) / t
@@ -130,7 +94,7 @@ fn running_below(columns: &[u64; 16], corners: &[u64; 16], h: usize, a: u64) -> 
 // The level of year h, of which a is the running share; 0 where a is 0.
 fn level_of(diagonals: &[u64; 16], h: usize, a: u64) -> u64
     requires { ⌜ (getD (now diagonals) h 0 ≤ billion) × (h < 16) ⌝ }
-    ensures { λ r. ⌜ r ≡ levelAt (now (diagonals .entry)) h a ⌝ }
+    ensures { λ r. ⌜ r ≡ getD (now (diagonals .entry)) h 0 * billion / a ⌝ }
 {
     if a == 0 {
         return 0;
@@ -150,32 +114,40 @@ fn no_factors(k: usize) -> Factors
     }
 }
 
-// The factors of the year below h, and beside them the share of h, of which a is the running share.
+// Factors with the share and the level of year h.
+fn with_year(f: Factors, h: usize, share: u64, level: u64) -> Factors
+    requires { ⌜ h < 16 ⌝ }
+    ensures { λ r. ⌜ r ≡ withYear f h share level ⌝ }
+{
+    let mut g = f;
+    g.shares[h] = share;
+    g.levels[h] = level;
+    g
+}
+
+// The factors of the years below h, and beside them the share and the level of h, of which a is the running share.
 fn share_step(
     columns: &[u64; 16],
     diagonals: &[u64; 16],
     corners: &[u64; 16],
     a: u64,
+    level: u64,
     k: usize,
     h: usize,
 ) -> Factors
-    requires { ⌜ Ready (now columns) (now diagonals) (now corners) h × ((a ≤ billion) × (h < 16)) ⌝ }
-    ensures { λ r. ⌜ r ≡ shareWalk (now (columns .entry)) (now (diagonals .entry)) (now (corners .entry)) a k h ⌝ }
+    requires { ⌜ Ready (now columns) (now diagonals) (now corners) h
+        × ((a ≤ billion) × ((h < 16) × (level ≡ getD (now diagonals) h 0 * billion / a))) ⌝ }
+    ensures { λ r. ⌜ FactorsFound k (now (columns .entry)) (now (diagonals .entry)) (now (corners .entry)) a h r ⌝ }
 {
-    let mut f;
-    let mut share = a;
     if h > 0 {
         let next = running_below(columns, corners, h, a);
-        f = level_step(columns, diagonals, corners, next, k, h - 1);
-        share = a - next;
-    } else {
-        f = no_factors(k);
+        let f = level_step(columns, diagonals, corners, next, k, h - 1);
+        return with_year(f, h, a - next, level);
     }
-    f.shares[h] = share;
-    f
+    with_year(no_factors(k), 0, a, level)
 }
 
-// The factors with the share of year h, and beside it the level of h, of which a is the running share.
+// The factors of the years 0 to h: the level of h, of which a is the running share, goes with its share.
 fn level_step(
     columns: &[u64; 16],
     diagonals: &[u64; 16],
@@ -185,12 +157,10 @@ fn level_step(
     h: usize,
 ) -> Factors
     requires { ⌜ Ready (now columns) (now diagonals) (now corners) h × ((a ≤ billion) × (h < 16)) ⌝ }
-    ensures { λ r. ⌜ r ≡ levelWalk (now (columns .entry)) (now (diagonals .entry)) (now (corners .entry)) a k h ⌝ }
+    ensures { λ r. ⌜ FactorsFound k (now (columns .entry)) (now (diagonals .entry)) (now (corners .entry)) a h r ⌝ }
 {
     let level = level_of(diagonals, h, a);
-    let mut f = share_step(columns, diagonals, corners, a, k, h);
-    f.levels[h] = level;
-    f
+    share_step(columns, diagonals, corners, a, level, k, h)
 }
 
 fn refused(answer: u64, k: usize) -> Separation
@@ -216,35 +186,28 @@ fn factors_answer(f: Factors) -> u64
     0
 }
 
-// The walk over the totals of a square that has passed question 7, and questions 8, 9 and 10.
-fn walk(columns: &[u64; 16], diagonals: &[u64; 16], k: usize) -> Separation
-    requires { ⌜ Walkable (now columns) (now diagonals) k ⌝ }
-    ensures { λ r. ⌜ (r .answer ≡ walkAnswer (now (columns .entry)) (now (diagonals .entry)) k) × (r .factors ≡ walked (now (columns .entry)) (now (diagonals .entry)) k) ⌝ }
-{
-    let corners = corners_of(columns, diagonals, k);
-    if !corners.pass {
-        return refused(8, k);
-    }
-    let totals = corners.totals;
-    let f = level_step(columns, diagonals, &totals, BILLION, k, k);
-    let answer = factors_answer(f);
-    if answer != 0 {
-        return refused(answer, k);
-    }
-    Separation { answer, factors: f }
-}
-
 // Shares and levels of the years 0 to k from a square of averages, or the number of the first of questions 7, 8, 9 and 10 that says no.
 pub fn separate(square: &[[i64; 16]; 16], k: usize) -> Separation
     requires { ⌜ (k < 16) × (Cells (now square) × ZeroOutside (now square) k) ⌝ }
     ensures { λ r. ⌜ (r .answer ≡ separateAnswer (now (square .entry)) k) × (r .factors ≡ separated (now (square .entry)) k) ⌝ }
 {
-    let columns = column_totals(square);
-    let diagonals = diagonal_totals(square);
-    if !totals_pass(&columns, &diagonals, k + 1) {
+    let mut columns = [0i64; 16];
+    let mut diagonals = [0i64; 16];
+    fill_columns(square, k, &mut columns);
+    fill_diagonals(square, k, &mut diagonals);
+    let mut v = [0u64; 16];
+    let mut d = [0u64; 16];
+    if !totals_pass(&columns, &diagonals, k + 1, &mut v, &mut d) {
         return refused(7, k);
     }
-    let v = sizes_of(&columns);
-    let d = sizes_of(&diagonals);
-    walk(&v, &d, k)
+    let mut corners = [0u64; 16];
+    if !fill_corners(&v, &d, k, &mut corners) {
+        return refused(8, k);
+    }
+    let f = level_step(&v, &d, &corners, BILLION, k, k);
+    let answer = factors_answer(f);
+    if answer != 0 {
+        return refused(answer, k);
+    }
+    Separation { answer, factors: f }
 }

@@ -3,3 +3,4 @@ pub mod Corners
 pub mod Walk
 pub mod Whole
 pub mod Most
+pub mod Square

@@ -3,12 +3,12 @@ use mathlib.Core.Path.{_≡_, _∙_}
 use mathlib.Core.Bool.{true}
 use mathlib.Core.List.{List}
 use Prim.Native.Nat.{ℕ, zero, suc, _-_, _*_, _/_, _≤_, _<_}
-use native.Mathlib.Nat.{le-refl, le-trans, mul-le-mul, mul-le-mul-left, le-of-mul-le-mul-right, div-mul-le-self, div-zero}
+use native.Mathlib.Nat.{le-refl, le-trans, mul-le-mul-left, le-of-mul-le-mul-right, div-mul-le-self, div-zero}
 use native.Mathlib.Omega.{arith}
 use lib.IntN.{ℤ, pos}
 use Rattle.rules.specs.Lists.{total, upTo}
 use Rattle.rules.specs.Triangle.{columnTotal, diagonalTotal, allTotal}
-use Rattle.rules.specs.Separation.{billion, columnOf, diagonalOf, cornerOf, runningDown, runningOf, totalsPass, restsPass}
+use Rattle.rules.specs.Separation.{billion, columnOf, diagonalOf, cornerOf, runningDown, runningOf, totalsPass, restsPass, levelOf}
 use Rattle.laws.proofs.Diff.{is-pos, is-add, is-eqs, is-le}
 use Rattle.laws.proofs.Totals.{total-at, total-part, sumTo-pos}
 use Rattle.rules.specs.Triangle.{ZeroOutside}
@@ -31,6 +31,11 @@ pub running-most : (s : List (List ℤ)) (k h : ℕ) → runningOf s k h ≤ bil
 unfolding runningOf
 running-most s k h = down-most s k (k - h)
 
+-- the latest level is the latest diagonal, since the running share of year k is S
+pub latest-level : (s : List (List ℤ)) (k : ℕ) → levelOf s k k ≡ diagonalOf s k
+unfolding levelOf runningOf runningDown
+latest-level s k = let e : k - k ≡ 0 = omega arith in rw e (omega arith)
+
 module _ (s : List (List ℤ)) (k : ℕ) (lt : k < 16) (out : ZeroOutside s k) (q7 : totalsPass s k ≡ true) where
   columns-most : total (upTo (columnOf s) (suc k)) ≤ billion
   columns-most =
@@ -44,17 +49,9 @@ module _ (s : List (List ℤ)) (k : ℕ) (lt : k < 16) (out : ZeroOutside s k) (
       = all-diagonals s k lt out ∙ sumTo-pos (diagonalTotal s) (diagonalOf s) (suc k) (λ h l. diagonal-is s k q7 h (omega arith)) in
       omega (arith, is-le (is-pos _) (is-pos billion) (rw e at (all-most s k q7)))
 
-  -- every v_j is at most S
-  pub column-most : (j : ℕ) → j ≤ k → columnOf s j ≤ billion
-  column-most j le = le-trans (total-at (columnOf s) (suc k) j (omega arith)) columns-most
-
   -- every d_h is at most S
   pub diagonal-most : (h : ℕ) → h ≤ k → diagonalOf s h ≤ billion
   diagonal-most h le = le-trans (total-at (diagonalOf s) (suc k) h (omega arith)) diagonals-most
-
-  -- d_h × S is in 64 bits
-  pub level-product : (h : ℕ) → h ≤ k → diagonalOf s h * billion ≤ billion * billion
-  level-product h le = omega (arith, diagonal-most h le)
 
   module _ (q8 : restsPass s k ≡ true) where
     corner-below : (h : ℕ) → h ≤ k → cornerOf s h ≤ total (upTo (columnOf s) (suc h))
@@ -70,7 +67,3 @@ module _ (s : List (List ℤ)) (k : ℕ) (lt : k < 16) (out : ZeroOutside s k) (
     -- every T_h is at most the total of averages, and so at most S
     pub corner-most : (h : ℕ) → h ≤ k → cornerOf s h ≤ billion
     corner-most h le = le-trans (corner-below h le) (le-trans (total-part (columnOf s) (suc h) (suc k) (omega arith)) columns-most)
-
-    -- A_h × (T_h − v_h) is in 64 bits
-    pub share-product : (h : ℕ) → h ≤ k → runningOf s k h * (cornerOf s h - columnOf s h) ≤ billion * billion
-    share-product h le = let l : cornerOf s h - columnOf s h ≤ billion = omega (arith, corner-most h le) in mul-le-mul (running-most s k h) l

@@ -1,3 +1,5 @@
 pub mod Rounding
+pub mod Added
+pub mod Cumulatives
 pub mod Square
-pub mod ByRow
+pub mod Passed

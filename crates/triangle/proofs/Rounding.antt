@@ -12,12 +12,13 @@ use mir.Syntax.{w64}
 use mir.Val.{SFits, toZ, ofZ}
 use mir.ValLaws.{toZ-pos}
 use mir.Facts.{toZ-ofZ}
-use Rattle.rules.specs.Record.{signedOf, signOf}
+use Rattle.rules.specs.Record.{signedOf, signOf, million, mostAmount}
 use Rattle.rules.specs.Triangle.{nearest, averageOf}
+use Rattle.triangle.specs.Bounds.{mostAverage}
 use Rattle.laws.proofs.Signed.{held, size-fits, signed-size, times-size, signed-quotient}
 
 -- the largest average of a whole number
-nearest-most : (a n : ℕ) → a ≤ 10000000000 → 1 ≤ n → nearest a n ≤ 1000000000000
+nearest-most : (a n : ℕ) → a ≤ mostAmount → 1 ≤ n → nearest a n ≤ mostAverage
 unfolding nearest
 nearest-most a n h l =
     let positive : 0 < 2 * n = omega arith in
@@ -26,7 +27,7 @@ nearest-most a n h l =
     omega arith
 
 -- the largest average: 100 × 10^10 over one claim
-pub average-most : (p : ℤ) (n : ℕ) → natAbs p ≤ 10000000000 → 1 ≤ n → natAbs (averageOf p n) ≤ 1000000000000
+pub average-most : (p : ℤ) (n : ℕ) → natAbs p ≤ mostAmount → 1 ≤ n → natAbs (averageOf p n) ≤ mostAverage
 unfolding averageOf
 average-most p n h l = rw (signed-size (signOf p) (nearest (natAbs p) n)) (nearest-most (natAbs p) n h l)
 
@@ -47,7 +48,7 @@ away-above (negsuc a) n t = absurd (subst (λ (b : Bool). T b) t tt)
 abbrev pub scaled : ℤ → ℤ
 scaled p = held (pos 200 *ℤ held p)
 
-module _ (p : ℤ) (n : ℕ) (range : (natAbs p ≤ 10000000000) × ((1 ≤ n) × (n ≤ 1000000))) where
+module _ (p : ℤ) (n : ℕ) (range : (natAbs p ≤ mostAmount) × ((1 ≤ n) × (n ≤ million))) where
   -- the amount, the claims and the product are read as they are
   amount : held p ≡ p
   amount = toZ-ofZ (size-fits p (omega arith))
@@ -98,5 +99,5 @@ module _ (p : ℤ) (n : ℕ) (range : (natAbs p ≤ 10000000000) × ((1 ≤ n) �
     result = toZ-ofZ (quotient-fits .1) ∙ quotient
 
     -- the average, within its limit
-    pub quotient-is : (held (quotZ (held t) (held (pos 2 *ℤ toZ w64 n))) ≡ averageOf p n) × (natAbs (held (quotZ (held t) (held (pos 2 *ℤ toZ w64 n)))) ≤ 1000000000000)
+    pub quotient-is : (held (quotZ (held t) (held (pos 2 *ℤ toZ w64 n))) ≡ averageOf p n) × (natAbs (held (quotZ (held t) (held (pos 2 *ℤ toZ w64 n)))) ≤ mostAverage)
     quotient-is = (result, rw result (average-most p n (range .0) (range .1 .0)))

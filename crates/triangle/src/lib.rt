@@ -1,23 +1,21 @@
 // The averages of a triangle in a square, the totals of its columns and diagonals, and question 6.
+use rules::MOST_CUMULATIVE;
 ghost use mathlib.Core.Path.{_≡_};
-ghost use mathlib.Core.Bool.{true, _&&_};
+ghost use mathlib.Core.Bool.{true};
 ghost use Prim.Native.Nat.{ℕ, _+_, _-_, _*_, _≤_, _<_};
 ghost use lib.IntN.{pos, natAbs};
-ghost use lib.ListN.{getD};
+ghost use lib.ListN.{length, getD, replicate};
 ghost use lib.Seq.{sets};
-ghost use lib.Signed.{leZ};
-ghost use Rattle.rules.specs.Lists.{upTo, below, padded, every};
-ghost use Rattle.rules.specs.Triangle.{averageOf, averagesOf, cumulativeOf, cumulativesPass, sumTo, columnTotal, diagonalTotal};
-ghost use Rattle.rules.specs.Results.{joined};
-ghost use Rattle.triangle.specs.Bounds.{Increments, Exposures, Cells};
-
-// The most of a cumulative.
-const MOST_CUMULATIVE: i64 = 100_000_000_000;
+ghost use Rattle.rules.specs.Lists.{upTo, padded};
+ghost use Rattle.rules.specs.Record.{million, mostAmount};
+ghost use Rattle.rules.specs.Triangle.{rowStart, paidOf, mostCumulative, rowPasses, cumulativesPass, paidTo, averageOf, averageRow, ZeroOutside, columnTotal, diagonalTotal};
+ghost use Rattle.triangle.specs.Bounds.{Increments, Exposures, mostAverage, Cells};
+ghost use Rattle.triangle.specs.Columns.{cumulativeIn, columnSum, rowsPassing};
 
 // 100 × paid / claims to the nearest whole hundredth, halves away from zero.
 pub fn average(paid: i64, claims: u64) -> i64
-    requires { ⌜ (natAbs paid ≤ 10000000000) × ((1 ≤ claims) × (claims ≤ 1000000)) ⌝ }
-    ensures { λ r. ⌜ (r ≡ averageOf paid claims) × (natAbs r ≤ 1000000000000) ⌝ }
+    requires { ⌜ (natAbs paid ≤ mostAmount) × ((1 ≤ claims) × (claims ≤ million)) ⌝ }
+    ensures { λ r. ⌜ (r ≡ averageOf paid claims) × (natAbs r ≤ mostAverage) ⌝ }
 {
     let n = claims as i64;
     if paid < 0 {
@@ -27,117 +25,105 @@ pub fn average(paid: i64, claims: u64) -> i64
     }
 }
 
-// The averages of `count` increments from place `at` on, zero after them.
-fn average_row(increments: &[i64; 136], at: usize, claims: u64, count: usize) -> [i64; 16]
-    requires { ⌜ Increments (now increments) × ((1 ≤ claims) × ((claims ≤ 1000000) × ((count ≤ 16) × (at + count ≤ 136)))) ⌝ }
-    ensures { λ r. ⌜ r ≡ padded 16 (pos 0) (upTo (λ j. averageOf (getD (now (increments .entry)) (at + j) (pos 0)) claims) count) ⌝ }
-{
-    let mut row = [0i64; 16];
-    for j in 0..count {
-        row[j] = average(increments[at + j], claims);
-    }
-    row
-}
-
-// The averages of the years 0 to k, zero outside the triangle.
-pub fn averages(k: usize, exposures: &[u64; 16], increments: &[i64; 136]) -> [[i64; 16]; 16]
-    requires { ⌜ (k < 16) × (Exposures k (now exposures) × Increments (now increments)) ⌝ }
-    ensures { λ r. ⌜ r ≡ averagesOf k (now (exposures .entry)) (now (increments .entry)) ⌝ }
-{
-    let mut square = [[0i64; 16]; 16];
-    let mut at: usize = 0;
-    let n = k + 1;
-    for i in 0..n {
-        let count = n - i;
-        square[i] = average_row(increments, at, exposures[i], count);
-        at += count;
-    }
-    square
-}
-
-// Whether every cumulative of a row of `count` increments from place `at` on is from 0 to the most.
-fn row_passes(increments: &[i64; 136], at: usize, count: usize) -> bool
-    requires { ⌜ Increments (now increments) × ((count ≤ 16) × (at + count ≤ 136)) ⌝ }
-    ensures { λ r. ⌜ r ≡ every (λ j. leZ (pos 0) (sumTo (λ c. getD (now (increments .entry)) (at + c) (pos 0)) (j + 1))
-        && leZ (sumTo (λ c. getD (now (increments .entry)) (at + c) (pos 0)) (j + 1)) (pos 100000000000)) (below count) ⌝ }
+// Question 6 of row i, whose increments start at place `at`: whether every cumulative is from 0 to the most.
+fn row_passes(increments: &[i64; 136], k: usize, i: usize, at: usize) -> bool
+    requires { ⌜ Increments (now increments) × ((k < 16) × ((i ≤ k) × (at ≡ rowStart k i))) ⌝ }
+    ensures { λ r. ⌜ r ≡ rowPasses k (now (increments .entry)) i ⌝ }
 {
     let mut sum: i64 = 0;
+    let count = k + 1 - i;
     for j in 0..count {
         sum += increments[at + j];
         if sum < 0 {
             return false;
         }
-        if sum > MOST_CUMULATIVE {
+        if sum > MOST_CUMULATIVE as i64 {
             return false;
         }
     }
     true
 }
 
-// Question 6.
-pub fn cumulatives_pass(k: usize, increments: &[i64; 136]) -> bool
-    requires { ⌜ (k < 16) × Increments (now increments) ⌝ }
-    ensures { λ r. ⌜ r ≡ cumulativesPass k (now (increments .entry)) ⌝ }
-{
-    let mut at: usize = 0;
-    let n = k + 1;
-    for i in 0..n {
-        let count = n - i;
-        if !row_passes(increments, at, count) {
-            return false;
-        }
-        at += count;
-    }
-    true
-}
-
-// The cumulatives of a row of `count` increments from place `at` on, none below zero, go into the list from that place on.
-fn put_cumulatives(all: &mut [u64; 136], increments: &[i64; 136], at: usize, count: usize)
+// The averages of row i go into a row of the square, and its cumulatives are added to the sums of their columns; its paid cumulative.
+fn fill_row(
+    row: &mut [i64; 16],
+    columns: &mut [u64; 16],
+    increments: &[i64; 136],
+    claims: u64,
+    k: usize,
+    i: usize,
+    at: usize,
+) -> u64
     requires { ⌜ Increments (now increments)
-        × ((count ≤ 16)
-        × ((at + count ≤ 136)
-        × ((j : ℕ) → j < count → leZ (pos 0) (sumTo (λ c. getD (now increments) (at + c) (pos 0)) (j + 1)) ≡ true))) ⌝ }
-    ensures { λ _. ⌜ now (all .exit)
-        ≡ sets (now (all .entry)) at (upTo (λ j. natAbs (sumTo (λ c. getD (now (increments .entry)) (at + c) (pos 0)) (j + 1))) count) ⌝ }
+        × ((k < 16)
+        × ((i ≤ k)
+        × ((at ≡ rowStart k i)
+        × ((1 ≤ claims)
+        × ((claims ≤ million)
+        × ((rowPasses k (now increments) i ≡ true)
+        × ((length (now columns) ≡ 16) × ((j : ℕ) → getD (now columns) j 0 ≤ 15 * mostCumulative)))))))) ⌝ }
+    ensures { λ r. ⌜ (r ≡ paidTo k (now (increments .entry)) i)
+        × ((now (row .exit) ≡ sets (now (row .entry)) 0 (upTo (λ j. averageOf (paidOf k (now (increments .entry)) i j) claims) (k + 1 - i)))
+        × (now (columns .exit) ≡ upTo (λ j. getD (now (columns .entry)) j 0 + cumulativeIn k (now (increments .entry)) i j) 16)) ⌝ }
 {
     let mut sum: i64 = 0;
+    let count = k + 1 - i;
     for j in 0..count {
-        sum += increments[at + j];
-        all[at + j] = sum as u64;
+        let paid = increments[at + j];
+        sum += paid;
+        row[j] = average(paid, claims);
+        columns[j] += sum as u64;
     }
+    sum as u64
 }
 
-// The cumulatives of all rows, where question 6 has said yes.
-pub fn cumulatives(k: usize, increments: &[i64; 136]) -> [u64; 136]
-    requires { ⌜ (k < 16) × (Increments (now increments) × (cumulativesPass k (now increments) ≡ true)) ⌝ }
-    ensures { λ r. ⌜ r
-        ≡ padded 136 0 (joined (upTo (λ i. upTo (λ j. natAbs (cumulativeOf k (now (increments .entry)) i j)) (k + 1 - i)) (k + 1))) ⌝ }
+// Question 6 row by row, and of the rows before the first that fails: the averages in the square, the sums of the cumulatives' columns, and the paid
+// cumulatives.
+pub fn fill_rows(
+    k: usize,
+    exposures: &[u64; 16],
+    increments: &[i64; 136],
+    square: &mut [[i64; 16]; 16],
+    columns: &mut [u64; 16],
+    paid: &mut [u64; 16],
+) -> bool
+    requires { ⌜ (k < 16)
+        × (Exposures k (now exposures)
+        × (Increments (now increments)
+        × ((now square ≡ replicate 16 (replicate 16 (pos 0))) × ((now columns ≡ replicate 16 0) × (now paid ≡ replicate 16 0))))) ⌝ }
+    ensures { λ r. ⌜ (r ≡ cumulativesPass k (now (increments .entry)))
+        × ((now (square .exit)
+        ≡ padded 16 (replicate 16 (pos 0)) (upTo (averageRow k (now (exposures .entry)) (now (increments .entry))) (rowsPassing k (now (increments .entry)))))
+        × ((now (columns .exit) ≡ upTo (columnSum k (now (increments .entry)) (rowsPassing k (now (increments .entry)))) 16)
+        × (now (paid .exit) ≡ padded 16 0 (upTo (paidTo k (now (increments .entry))) (rowsPassing k (now (increments .entry))))))) ⌝ }
 {
-    let mut all = [0u64; 136];
     let mut at: usize = 0;
     let n = k + 1;
     for i in 0..n {
-        let count = n - i;
-        put_cumulatives(&mut all, increments, at, count);
-        at += count;
+        if !row_passes(increments, k, i, at) {
+            return false;
+        }
+        paid[i] = fill_row(&mut square[i], columns, increments, exposures[i], k, i, at);
+        at += n - i;
     }
-    all
+    true
 }
 
-// The total of column j.
-fn column_total(square: &[[i64; 16]; 16], j: usize) -> i64
-    requires { ⌜ Cells (now square) × (j < 16) ⌝ }
+// The total of column j, whose rows are 0 to k - j.
+fn column_total(square: &[[i64; 16]; 16], k: usize, j: usize) -> i64
+    requires { ⌜ Cells (now square) × (ZeroOutside (now square) k × ((k < 16) × (j ≤ k))) ⌝ }
     ensures { λ r. ⌜ r ≡ columnTotal (now (square .entry)) j ⌝ }
 {
     let mut sum: i64 = 0;
-    for i in 0..16 {
+    let n = k + 1 - j;
+    for i in 0..n {
         sum += square[i][j];
     }
     sum
 }
 
 // The total of the cells with i + j = h.
-pub fn diagonal_total(square: &[[i64; 16]; 16], h: usize) -> i64
+fn diagonal_total(square: &[[i64; 16]; 16], h: usize) -> i64
     requires { ⌜ Cells (now square) × (h < 16) ⌝ }
     ensures { λ r. ⌜ r ≡ diagonalTotal (now (square .entry)) h ⌝ }
 {
@@ -149,26 +135,24 @@ pub fn diagonal_total(square: &[[i64; 16]; 16], h: usize) -> i64
     sum
 }
 
-// The totals of all columns.
-pub fn column_totals(square: &[[i64; 16]; 16]) -> [i64; 16]
-    requires { ⌜ Cells (now square) ⌝ }
-    ensures { λ r. ⌜ r ≡ upTo (columnTotal (now (square .entry))) 16 ⌝ }
+// The totals v_0 to v_k go into the list.
+pub fn fill_columns(square: &[[i64; 16]; 16], k: usize, totals: &mut [i64; 16])
+    requires { ⌜ Cells (now square) × (ZeroOutside (now square) k × (k < 16)) ⌝ }
+    ensures { λ _. ⌜ now (totals .exit) ≡ sets (now (totals .entry)) 0 (upTo (columnTotal (now (square .entry))) (k + 1)) ⌝ }
 {
-    let mut totals = [0i64; 16];
-    for j in 0..16 {
-        totals[j] = column_total(square, j);
+    let n = k + 1;
+    for j in 0..n {
+        totals[j] = column_total(square, k, j);
     }
-    totals
 }
 
-// The totals of the first sixteen diagonals.
-pub fn diagonal_totals(square: &[[i64; 16]; 16]) -> [i64; 16]
-    requires { ⌜ Cells (now square) ⌝ }
-    ensures { λ r. ⌜ r ≡ upTo (diagonalTotal (now (square .entry))) 16 ⌝ }
+// The totals d_0 to d_k go into the list.
+pub fn fill_diagonals(square: &[[i64; 16]; 16], k: usize, totals: &mut [i64; 16])
+    requires { ⌜ Cells (now square) × (k < 16) ⌝ }
+    ensures { λ _. ⌜ now (totals .exit) ≡ sets (now (totals .entry)) 0 (upTo (diagonalTotal (now (square .entry))) (k + 1)) ⌝ }
 {
-    let mut totals = [0i64; 16];
-    for h in 0..16 {
+    let n = k + 1;
+    for h in 0..n {
         totals[h] = diagonal_total(square, h);
     }
-    totals
 }

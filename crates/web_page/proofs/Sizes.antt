@@ -6,9 +6,8 @@ use native.Mathlib.Omega.{arith}
 use mathlib.Core.Path.{_≡_, refl, sym}
 use mathlib.Core.List.{List}
 use lib.IntN.{ℤ}
-use Rattle.rules.specs.Results.{placeOf}
-use Rattle.page.specs.Page.{entry}
-use Rattle.web_page.specs.Web.{limited, largestIn, scaled, largestLevel, shareOf, runningShare}
+use Rattle.rules.specs.Results.{levelSection, futureLevelSection, sectionStart}
+use Rattle.web_page.specs.Web.{entry, limited, largestIn, scaled, largestLevel, shareOf, runningShare}
 
 -- a size that can be multiplied, and what it comes to
 pub product-most : (full size : ℕ) → full ≤ 200 → size ≤ 1000000000000000 → full * size ≤ 200000000000000000
@@ -36,7 +35,7 @@ largest-most list p (suc n) = omega (arith, largest-most list p n)
 
 pub level-most : (k : ℕ) (list : List ℤ) → largestLevel k list ≤ 1000000000000000
 unfolding largestLevel
-level-most k list = omega (arith, largest-most list (placeOf k 2) (k + 1), largest-most list (placeOf k 3) k)
+level-most k list = omega (arith, largest-most list (sectionStart k levelSection) (k + 1), largest-most list (sectionStart k futureLevelSection) k)
 
 -- the sum of one share more
 pub running-none : (list : List ℤ) (p : ℕ) → 0 ≡ runningShare list p 0

@@ -3,12 +3,17 @@
 use Prim.Native.Nat.{ℕ, zero, suc, _+_, _-_, _*_, _/_, min, max}
 use mathlib.Core.List.{List, _++_}
 use lib.IntN.{ℤ, pos, natAbs}
-use Rattle.rules.specs.Lists.{upTo}
+use lib.ListN.{getD}
+use Rattle.rules.specs.Lists.{upTo, joined}
 use Rattle.rules.specs.Record.{cells}
 use Rattle.rules.specs.Triangle.{rowStart}
-use Rattle.rules.specs.Results.{joined, placeOf}
+use Rattle.rules.specs.Results.{averageSection, shareSection, levelSection, futureLevelSection, sectionStart}
 use Rattle.composing.specs.Text.{ascii, decimal, fixed}
-use Rattle.page.specs.Page.{entry, pageOf}
+use Rattle.page.specs.Page.{pageOf}
+
+-- entry j of the section of the list that starts at place p
+abbrev pub entry : List ℤ → ℕ → ℕ → ℤ
+entry list p j = getD list (p + j) (pos 0)
 
 -- Sizes.
 
@@ -44,13 +49,13 @@ yearCell j = ascii "<th>" ++ (decimal j ++ ascii "</th>")
 -- origin year i
 unfoldable pub shadedRow : ℕ → List ℤ → ℕ → ℕ → List ℕ
 shadedRow k list largest i =
-    ascii "<tr>" ++ (yearCell i ++ (shadedCells list largest (placeOf k 0 + rowStart k i) (k + 1 - i) ++ ascii "</tr>\n"))
+    ascii "<tr>" ++ (yearCell i ++ (shadedCells list largest (sectionStart k averageSection + rowStart k i) (k + 1 - i) ++ ascii "</tr>\n"))
 
 unfoldable pub shadedTable : ℕ → List ℤ → List ℕ
 shadedTable k list =
     ascii "<h2>Averages paid a claim, by origin year and development year</h2>\n<table>\n<tr><th>year</th>"
     ++ (joined (upTo yearCell (k + 1))
-    ++ (ascii "</tr>\n" ++ (joined (upTo (shadedRow k list (largestIn list (placeOf k 0) (cells k))) (k + 1)) ++ ascii "</table>\n")))
+    ++ (ascii "</tr>\n" ++ (joined (upTo (shadedRow k list (largestIn list (sectionStart k averageSection) (cells k))) (k + 1)) ++ ascii "</table>\n")))
 
 -- Plots: bars on a line 200 down, a bar every 30 across.
 
@@ -84,15 +89,15 @@ unfoldable pub levelBar : List ℤ → ℕ → ℕ → ℕ → ℕ → List ℕ
 levelBar list largest first p h = bar (first + h) (scaled 200 (limited (entry list p h)) largest) (fixed 2 (entry list p h))
 
 unfoldable pub largestLevel : ℕ → List ℤ → ℕ
-largestLevel k list = max (largestIn list (placeOf k 2) (k + 1)) (largestIn list (placeOf k 3) k)
+largestLevel k list = max (largestIn list (sectionStart k levelSection) (k + 1)) (largestIn list (sectionStart k futureLevelSection) k)
 
 -- the levels of the years 0 to k, and in another colour the future levels of k + 1 to 2 k
 unfoldable pub levelsPlot : ℕ → List ℤ → List ℕ
 levelsPlot k list =
     plotStart (ascii "<h2>Levels a claim by payment year, future years in orange (full height ") (fixed 2 (pos (largestLevel k list))) (2 * k + 1)
-    ++ (joined (upTo (levelBar list (largestLevel k list) 0 (placeOf k 2)) (k + 1))
+    ++ (joined (upTo (levelBar list (largestLevel k list) 0 (sectionStart k levelSection)) (k + 1))
     ++ (ascii "<g fill=\"#e08a2e\">\n"
-    ++ (joined (upTo (levelBar list (largestLevel k list) (k + 1) (placeOf k 3)) k) ++ ascii "</g>\n</svg>\n")))
+    ++ (joined (upTo (levelBar list (largestLevel k list) (k + 1) (sectionStart k futureLevelSection)) k) ++ ascii "</g>\n</svg>\n")))
 
 -- a share in billionths, at most the whole
 abbrev pub shareOf : ℤ → ℕ
@@ -111,7 +116,7 @@ shareBar list p h =
 unfoldable pub sharesPlot : ℕ → List ℤ → List ℕ
 sharesPlot k list =
     plotStart (ascii "<h2>Run-off: running share by development year (full height ") (fixed 9 (pos 1000000000)) (k + 1)
-    ++ (joined (upTo (shareBar list (placeOf k 1)) (k + 1)) ++ ascii "</svg>\n")
+    ++ (joined (upTo (shareBar list (sectionStart k shareSection)) (k + 1)) ++ ascii "</svg>\n")
 
 -- The page.
 

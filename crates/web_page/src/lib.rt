@@ -4,16 +4,16 @@ use composing::put_decimal;
 use composing::put_fixed;
 use entries::size_of;
 use layout::cells_of;
+use listing::starts_of;
 use page::put_page;
-use page::starts_of;
 ghost use mathlib.Core.Path.{_≡_};
 ghost use mathlib.Core.List.{_++_};
 ghost use Prim.Native.Nat.{_+_, _-_, _*_, _≤_, _<_, max};
 ghost use lib.IntN.{pos};
-ghost use Rattle.rules.specs.Lists.{upTo};
-ghost use Rattle.rules.specs.Results.{joined, placeOf};
+ghost use Rattle.rules.specs.Lists.{upTo, joined};
+ghost use Rattle.rules.specs.Results.{shareSection, levelSection, futureLevelSection, sectionStart};
 ghost use Rattle.composing.specs.Text.{ascii, fixed, Put};
-ghost use Rattle.page.specs.Places.{Addable};
+ghost use Rattle.listing.specs.Starts.{Addable};
 ghost use Rattle.web_page.specs.Web.{limited, largestIn, scaled, shadedCell, shadedCells, yearCell, shadedRow, shadedTable, barShape, barValue, barYear, bar, plotStart, levelBar, largestLevel, levelsPlot, shareOf, shareBar, sharesPlot, styleText, webStart, webPageOf};
 
 // The size of x, at most 10^15.
@@ -259,7 +259,7 @@ fn put_levels(
 
 // The largest of the levels, which start at p, and of the future levels, which start at q.
 fn largest_level(list: &[i64; 489], k: usize, p: usize, q: usize) -> u64
-    requires { ⌜ (k < 16) × ((p ≡ placeOf k 2) × (q ≡ placeOf k 3)) ⌝ }
+    requires { ⌜ (k < 16) × ((p ≡ sectionStart k levelSection) × (q ≡ sectionStart k futureLevelSection)) ⌝ }
     ensures { λ r. ⌜ r ≡ largestLevel k (now (list .entry)) ⌝ }
 {
     larger(largest_in(list, p, k + 1), largest_in(list, q, k))
@@ -275,7 +275,7 @@ fn put_levels_plot(
     p: usize,
     q: usize,
 ) -> usize
-    requires { ⌜ (k < 16) × ((largest ≡ largestLevel k (now list)) × ((p ≡ placeOf k 2) × (q ≡ placeOf k 3))) ⌝ }
+    requires { ⌜ (k < 16) × ((largest ≡ largestLevel k (now list)) × ((p ≡ sectionStart k levelSection) × (q ≡ sectionStart k futureLevelSection))) ⌝ }
     ensures { λ r. ⌜ Put (now (out .entry)) (now (out .exit)) at r (levelsPlot k (now (list .entry))) ⌝ }
 {
     let a = put_plot_start(
@@ -325,7 +325,7 @@ fn put_shares(out: &mut [u8], at: usize, list: &[i64; 489], p: usize, n: usize) 
 
 // The plot of the running shares; the shares start at p.
 fn put_shares_plot(out: &mut [u8], at: usize, list: &[i64; 489], k: usize, p: usize) -> usize
-    requires { ⌜ (k < 16) × (p ≡ placeOf k 1) ⌝ }
+    requires { ⌜ (k < 16) × (p ≡ sectionStart k shareSection) ⌝ }
     ensures { λ r. ⌜ Put (now (out .entry)) (now (out .exit)) at r (sharesPlot k (now (list .entry))) ⌝ }
 {
     let a = put_plot_start(

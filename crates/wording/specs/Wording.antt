@@ -8,7 +8,7 @@ use Rattle.composing.specs.Text.{ascii, decimal}
 abbrev pub otherText : List ℕ
 otherText = ascii "no question has this number"
 
--- the words of the questions 1 to 14; those of 1 to 5 are true of the reader, the writer and the engine, whichever of them asks
+-- the words of the questions in their order; those of 1 to 5 are true of the reader, the writer and the engine, whichever of them asks
 unfoldable pub questionTexts : List (List ℕ)
 questionTexts =
     otherText

@@ -1,93 +1,78 @@
 // Refusals in words: the number of a question, and what is not so.
 use composing::put_bytes;
 use composing::put_decimal;
-ghost use Prim.Native.Nat.{_<_, _≤_};
+ghost use mathlib.Core.Path.{_≡_};
+ghost use Prim.Native.Nat.{_≤_};
+ghost use lib.ListN.{length, take, drop};
 ghost use Rattle.composing.specs.Text.{Put};
+ghost use Rattle.wording.specs.Lines.{firstLine, fromLine};
 ghost use Rattle.wording.specs.Wording.{questionText, refusalText};
 
-// The words of a question up to 7.
-fn put_early(out: &mut [u8], at: usize, n: u64) -> usize
-    requires { ⌜ n < 8 ⌝ }
-    ensures { λ r. ⌜ Put (now (out .entry)) (now (out .exit)) at r (questionText n) ⌝ }
+// Where line n of a text starts, or 0 where it has no line n.
+fn line_start(text: &[u8], n: u64) -> usize
+    ensures { λ r. ⌜ (r ≤ length (now (text .entry))) × (drop r (now (text .entry)) ≡ fromLine n (now (text .entry)) (now (text .entry))) ⌝ }
 {
-    match n {
-        1 => put_bytes(out, at, b"there is no record, or k is not from 1 to 15"),
-        2 => put_bytes(
-            out,
-            at,
-            b"a length is not what k calls for, or a filling bit is not zero",
-        ),
-        3 => put_bytes(out, at, b"the lent list is too short"),
-        4 => put_bytes(out, at, b"a field is out of its range"),
-        5 => put_bytes(out, at, b"the reporting shares do not sum to 1,000,000"),
-        6 => put_bytes(
-            out,
-            at,
-            b"a given cumulative C_ij is below 0 or above 10^11",
-        ),
-        7 => put_bytes(
-            out,
-            at,
-            b"a column or a diagonal of the averages adds up to less than 0, or all averages to more than 1,000,000,000 hundredths",
-        ),
-        _ => put_bytes(out, at, b"no question has this number"),
+    let mut left = n;
+    let length = text.len();
+    for i in 0..length {
+        if left == 0 {
+            return i;
+        }
+        if text[i] == 10 {
+            left -= 1;
+        }
     }
+    0
 }
 
-// The words of a question from 8 on.
-fn put_late(out: &mut [u8], at: usize, n: u64) -> usize
-    requires { ⌜ 8 ≤ n ⌝ }
-    ensures { λ r. ⌜ Put (now (out .entry)) (now (out .exit)) at r (questionText n) ⌝ }
+// Where the first line of a text ends.
+fn line_end(text: &[u8]) -> usize
+    ensures { λ r. ⌜ (r ≤ length (now (text .entry))) × (take r (now (text .entry)) ≡ firstLine (now (text .entry))) ⌝ }
 {
-    match n {
-        8 => put_bytes(
-            out,
-            at,
-            b"beside some development year h the separation finds nothing left: T_h - v_h is below 1",
-        ),
-        9 => put_bytes(
-            out,
-            at,
-            b"a running share A_h, the shares up to a year together, is below a billionth",
-        ),
-        10 => put_bytes(
-            out,
-            at,
-            b"a level l_h is above 1,000,000,000 hundredths a claim",
-        ),
-        11 => put_bytes(
-            out,
-            at,
-            b"the ultimate X_i of an origin year is above 10^12",
-        ),
-        12 => put_bytes(
-            out,
-            at,
-            b"the payments add up to less than 1, or the ULAE totals to more than the payments",
-        ),
-        13 => put_bytes(
-            out,
-            at,
-            b"the chain ladder has nothing to develop from in some year, or a development factor above 50",
-        ),
-        14 => put_bytes(
-            out,
-            at,
-            b"a cumulative that the chain ladder completes is above 10^11",
-        ),
-        _ => put_bytes(out, at, b"no question has this number"),
+    let length = text.len();
+    for i in 0..length {
+        if text[i] == 10 {
+            return i;
+        }
     }
+    length
 }
 
-// What is not so where question n's answer is no.
+// Line n of a text, or its first line where it has no line n.
+fn put_line(out: &mut [u8], at: usize, text: &[u8], n: u64) -> usize
+    ensures { λ r. ⌜ Put (now (out .entry)) (now (out .exit)) at r (firstLine (fromLine n (now (text .entry)) (now (text .entry)))) ⌝ }
+{
+    let start = line_start(text, n);
+    let rest = &text[start..];
+    let end = line_end(rest);
+    put_bytes(out, at, &rest[..end])
+}
+
+// What is not so where question n's answer is no: line n of these.
 pub fn put_question(out: &mut [u8], at: usize, n: u64) -> usize
     ensures { λ r. ⌜ Put (now (out .entry)) (now (out .exit)) at r (questionText n) ⌝ }
 {
-    if n < 8 {
-        put_early(out, at, n)
-    } else {
-        put_late(out, at, n)
-    }
+    put_line(
+        out,
+        at,
+        b"no question has this number
+there is no record, or k is not from 1 to 15
+a length is not what k calls for, or a filling bit is not zero
+the lent list is too short
+a field is out of its range
+the reporting shares do not sum to 1,000,000
+a given cumulative C_ij is below 0 or above 10^11
+a column or a diagonal of the averages adds up to less than 0, or all averages to more than 1,000,000,000 hundredths
+beside some development year h the separation finds nothing left: T_h - v_h is below 1
+a running share A_h, the shares up to a year together, is below a billionth
+a level l_h is above 1,000,000,000 hundredths a claim
+the ultimate X_i of an origin year is above 10^12
+the payments add up to less than 1, or the ULAE totals to more than the payments
+the chain ladder has nothing to develop from in some year, or a development factor above 50
+a cumulative that the chain ladder completes is above 10^11
+",
+        n,
+    )
 }
 
 // The line of a refusal.

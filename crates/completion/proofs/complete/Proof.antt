@@ -1,98 +1,159 @@
--- `completion::complete` meets its contract. The invariant: the payments of the rows before i stand in the one array, their sums in the other, zero
--- after them, and `at` is where row i starts. Assumes nothing.
-use mathlib.Core.Path.{_≡_, refl, sym, _∙_}
+-- The loop's invariant: the rows before i pass question 11, their payments and their sums are stored, and `at` is where row i starts. Assumes nothing.
+use mathlib.Core.Path.{_≡_, refl, sym}
+use mathlib.Core.Bool.{Bool, true, false}
 use mathlib.Core.List.{List}
-use Prim.Native.Nat.{ℕ, _+_, _-_, _≤_}
+use Prim.Native.Nat.{ℕ, _+_, _-_, _≤_, _<_}
+use native.Mathlib.Nat.{zero-add}
 use native.Mathlib.Numerals.{add-one}
 use native.Mathlib.Omega.{arith}
-use lib.ListN.{length}
-use Rattle.rules.specs.Lists.{total, upTo, padded}
-use Rattle.rules.specs.Results.{joined}
-use Rattle.rules.specs.Demand.{futureStart}
-use Rattle.completion.specs.Rows.{paymentsOf, allPayments, allProvisions}
-use Rattle.laws.proofs.Lists.{length-upTo}
-use Rattle.laws.proofs.Padded.{filled-none, filled-more}
-use Rattle.laws.proofs.Joined.{rows-none, rows-more, future-length, future-room}
+use borrow.Author.Tests.{le-leb, lt-leb}
+use lib.Dec.{leb}
+use lib.ListN.{length, getD, set}
+use lib.Seq.{sets}
+use Rattle.rules.specs.Lists.{upTo, below, padded, joined, every}
+use Rattle.rules.specs.Triangle.{futureStart}
+use Rattle.rules.specs.Completion.{paymentRow, provision, provisions, ultimate, mostUltimate, ultimatesPass}
+use Rattle.laws.proofs.Lists.{length-upTo, every-next, fails-at}
+use Rattle.laws.proofs.Padded.{filled-at}
+use Rattle.laws.proofs.Joined.{sets-append, sets-more, joined-more, future-length, future-room}
+use Rattle.entries.proofs.Leading.{asked-all, asked-stop}
+use Rattle.completion.specs.Asked.{rowsAsked}
 use Rattle.completion.proofs.complete.Statement.{statement}
 use Rattle.completion.proofs.complete.Tie as tie
 
+-- question 11 of row i
+abbrev passes : ℕ → List ℕ → List ℕ → List ℕ → List ℕ → ℕ → Bool
+passes k n r l c i = leb (ultimate c (padded 16 0 (provisions k n r l)) i) mostUltimate
+
+module _ (k : ℕ) (n r l : List ℕ) where
+  -- the ultimate that is asked about
+  ultimate-is : (c : List ℕ) (i : ℕ) → i < k + 1 → ultimate c (padded 16 0 (provisions k n r l)) i ≡ getD c i 0 + provision k n r l i
+  unfolding ultimate provisions
+  ultimate-is c i h = rw (filled-at 16 0 (provision k n r l) (k + 1) i 0 h)
+
+  -- row i has i payments
+  row-size : (i : ℕ) → length (paymentRow k n r l i) ≡ i
+  unfolding paymentRow
+  row-size i = length-upTo _ i
+
+  -- the stores of row i
+  row-stored : (all : List ℕ) (i : ℕ) → sets (sets all 0 (joined (upTo (paymentRow k n r l) i))) (futureStart i) (paymentRow k n r l i)
+      ≡ sets all 0 (joined (upTo (paymentRow k n r l) (i + 1)))
+  row-stored all i =
+      let rows = joined (upTo (paymentRow k n r l) i) in
+      rw (add-one i, joined-more (paymentRow k n r l) i)
+      (sets-append rows (paymentRow k n r l i) all 0 (futureStart i) (omega (arith, future-length (paymentRow k n r l) row-size i)))
+
 abbrev Inv-loop : tie.InvT-loop
-Inv-loop k exposures shares levels payments₀ provisions₀ at₀ n i₀ payments provisions at i =
+Inv-loop k exposures shares levels paid payments₀ sums₀ at₀ n i₀ payments sums at i =
     (i ≤ n)
     × ((at ≡ futureStart i)
-    × ((payments ≡ padded 120 0 (joined (upTo (paymentsOf k exposures shares levels) i))) × (provisions ≡ padded 16 0 (upTo (λ r. total (paymentsOf k exposures shares levels r)) i))))
+    × ((every (passes k exposures shares levels paid) (below i) ≡ true)
+    × ((payments ≡ sets payments₀ 0 (joined (upTo (paymentRow k exposures shares levels) i)))
+    × (sums ≡ sets sums₀ 0 (upTo (provision k exposures shares levels) i)))))
 
 abbrev μ-loop : tie.MeasureT-loop
-μ-loop k exposures shares levels payments₀ provisions₀ at₀ n i₀ payments provisions at i = n - i
+μ-loop k exposures shares levels paid payments₀ sums₀ at₀ n i₀ payments sums at i = n - i
 
 add-n : tie.Need-add-n Inv-loop μ-loop
 add-n c = omega arith
 
 loop-holds : tie.Need-loop-holds Inv-loop μ-loop
-unfolding futureStart
-loop-holds c = (omega arith, (refl, (rows-none _ 120 0, filled-none 16 0 _)))
+unfolding futureStart upTo joined every
+loop-holds c = (omega arith, (refl, (refl, (refl, refl))))
 
 -- the row's payments have room in the array
 room : (c : tie.In-loop Inv-loop μ-loop) → c .before .loop .at + c .before .loop .i ≤ 120
 room c = rw (c .before .loop .inv .1 .0) (future-room (c .before .loop .i) (omega arith))
 
--- row i has i payments
-row-size : (k : ℕ) (n r l : List ℕ) (i : ℕ) → length (paymentsOf k n r l i) ≡ i
-unfolding paymentsOf
-row-size k n r l i = length-upTo _ i
+put-row-requires : tie.Need-put-row-requires Inv-loop μ-loop
+put-row-requires c κs = (c .before .before .before .pre .0, (omega arith, room (c .before)))
 
-loop-again : tie.Need-loop-again Inv-loop μ-loop
-unfolding futureStart paymentsOf
-loop-again c =
+mul-sums : tie.Need-mul-sums Inv-loop μ-loop
+mul-sums c = omega arith
+
+element-write-sums : tie.Need-element-write-sums Inv-loop μ-loop
+element-write-sums c = omega arith
+
+mul-if1 : tie.Need-mul-if1 Inv-loop μ-loop
+mul-if1 c = omega arith
+
+element-copy-out-if1 : tie.Need-element-copy-out-if1 Inv-loop μ-loop
+element-copy-out-if1 c = omega arith
+
+add-if1 : tie.Need-add-if1 Inv-loop μ-loop
+add-if1 c = omega (arith, c .before .before .before .before .before .pre .1 (c .before .before .before .before .loop .i), c .before .put-row .ensures .1 .0)
+
+-- row i is stored, and so is its sum
+row-done : (c : tie.After-if12 Inv-loop μ-loop) →
     let s = c .before .before .before .before .before in
     let t = c .before .before .before .before .loop in
-    let row = paymentsOf (s .args .k) (s .args .exposures .now) (s .args .shares .now) (s .args .levels .now) in
-    let size = row-size (s .args .k) (s .args .exposures .now) (s .args .shares .now) (s .args .levels .now) in
-    let stored = rows-more row 120 0 (t .i) (t .at) (future-length row size (t .i) ∙ sym (t .inv .1 .0)) (omega (arith, size (t .i), room (c .before .before .before))) in
-    let summed = filled-more 16 0 (λ r. total (row r)) (t .i) (omega arith) in (
-      omega arith,
-      (
-        rw (add-one (t .i), t .inv .1 .0),
-        (rw (c .put-row .ensures .1, t .inv .1 .1 .0) stored, rw (c .put-row .ensures .0, t .inv .1 .1 .1) summed),
-      ),
+    let row = paymentRow (s .args .k) (s .args .exposures .now) (s .args .shares .now) (s .args .levels .now) in
+    let sum = provision (s .args .k) (s .args .exposures .now) (s .args .shares .now) (s .args .levels .now) in
+    (c .before .put-row .last .0 ≡ sets (s .args .payments .now) 0 (joined (upTo row (t .i + 1))))
+    × (set (t .sums) (t .i) (c .before .put-row .result) ≡ sets (s .args .sums .now) 0 (upTo sum (t .i + 1)))
+row-done c =
+    let s = c .before .before .before .before .before in
+    let t = c .before .before .before .before .loop in
+    let k = s .args .k in
+    let n = s .args .exposures .now in
+    let r = s .args .shares .now in
+    let l = s .args .levels .now in
+    let made = c .before .put-row .ensures in (
+      rw (made .1 .1, t .inv .1 .0, t .inv .1 .1 .1 .0) (row-stored k n r l (s .args .payments .now) (t .i)),
+      rw (made .0, t .inv .1 .1 .1 .1) (rw (zero-add (t .i)) at (sets-more (provision k n r l) (s .args .sums .now) 0 (t .i))),
     )
 
+-- what question 11 asks of row i
+asks-is : (c : tie.After-if12 Inv-loop μ-loop) →
+    let s = c .before .before .before .before .before in
+    let t = c .before .before .before .before .loop in
+    ultimate (s .args .paid .now) (padded 16 0 (provisions (s .args .k) (s .args .exposures .now) (s .args .shares .now) (s .args .levels .now))) (t .i)
+    ≡ getD (s .args .paid .now) (t .i) 0 + c .before .put-row .result
+asks-is c =
+    let s = c .before .before .before .before .before in
+    let t = c .before .before .before .before .loop in
+    rw (c .before .put-row .ensures .0) (ultimate-is (s .args .k) (s .args .exposures .now) (s .args .shares .now) (s .args .levels .now) (s .args .paid .now) (t .i) (omega arith))
+
 returns : tie.Need-returns Inv-loop μ-loop
-unfolding allPayments allProvisions
+unfolding ultimatesPass rowsAsked
 returns c =
-    let s = c .before .before in
-    let e : c .before .loop .i ≡ s .args .k + 1 = omega arith in
-    rw (← e) (c .before .loop .inv .1 .1)
-
-mul-put-row : tie.Need-mul-put-row Inv-loop μ-loop
-mul-put-row c = omega arith
-
-element-copy-out-put-row : tie.Need-element-copy-out-put-row Inv-loop μ-loop
-element-copy-out-put-row c = omega arith
-
-sub-put-row : tie.Need-sub-put-row Inv-loop μ-loop
-sub-put-row c = omega arith
-
-put-row-requires : tie.Need-put-row-requires Inv-loop μ-loop
-put-row-requires c κs =
-    let s = c .before .before .before .before in
-    let i = c .before .before .before .loop .i in
-    (s .pre .exposures i, (s .pre .shares, (s .pre .levels, (omega arith, (omega arith, room (c .before .before))))))
-
-mul-provisions : tie.Need-mul-provisions Inv-loop μ-loop
-mul-provisions c = omega arith
-
-array-write-provisions : tie.Need-array-write-provisions Inv-loop μ-loop
-array-write-provisions c = omega arith
+    let s = c .before .before .before .before .before .before in
+    let t = c .before .before .before .before .before .loop in
+    let p = passes (s .args .k) (s .args .exposures .now) (s .args .shares .now) (s .args .levels .now) (s .args .paid .now) in
+    let sum = getD (s .args .paid .now) (t .i) 0 + c .before .before .put-row .result in
+    let failed : p (t .i) ≡ false = rw (asks-is (c .before)) (lt-leb sum mostUltimate (omega arith)) in
+    let count = asked-stop p (s .args .k + 1) (t .i) (omega arith) (t .inv .1 .1 .0) failed in
+    (sym (fails-at p (λ (j : ℕ). j) (s .args .k + 1) (t .i) (omega arith) failed), rw count (row-done (c .before)))
 
 add-at : tie.Need-add-at Inv-loop μ-loop
-add-at c = omega (arith, room (c .before .before .before))
+add-at c = omega (arith, room (c .before .before .before .before))
 
 add-i : tie.Need-add-i Inv-loop μ-loop
 add-i c = omega arith
 
 loop-less : tie.Need-loop-less Inv-loop μ-loop
 loop-less c = omega arith
+
+loop-again : tie.Need-loop-again Inv-loop μ-loop
+unfolding futureStart
+loop-again c =
+    let s = c .before .before .before .before .before .before in
+    let t = c .before .before .before .before .before .loop in
+    let p = passes (s .args .k) (s .args .exposures .now) (s .args .shares .now) (s .args .levels .now) (s .args .paid .now) in
+    let sum = getD (s .args .paid .now) (t .i) 0 + c .before .before .put-row .result in
+    let passed : p (t .i) ≡ true = rw (asks-is (c .before)) (le-leb sum mostUltimate (omega arith)) in
+    (omega arith, (rw (add-one (t .i), t .inv .1 .0), (every-next p (λ (j : ℕ). j) (t .i) (t .inv .1 .1 .0) passed, row-done (c .before))))
+
+returns-2 : tie.Need-returns-2 Inv-loop μ-loop
+unfolding ultimatesPass rowsAsked
+returns-2 c =
+    let s = c .before .before in
+    let t = c .before .loop in
+    let e : t .i ≡ s .args .k + 1 = omega arith in
+    let p = passes (s .args .k) (s .args .exposures .now) (s .args .shares .now) (s .args .levels .now) (s .args .paid .now) in
+    let passed : every p (below (s .args .k + 1)) ≡ true = rw e at (t .inv .1 .1 .0) in
+    (sym passed, rw (asked-all p (s .args .k + 1) passed, ← e) (t .inv .1 .1 .1))
 
 pub complete-spec : {M : Type 1} → statement M
 complete-spec =
@@ -102,14 +163,15 @@ complete-spec =
     μ-loop
     add-n
     loop-holds
-    mul-put-row
-    element-copy-out-put-row
-    sub-put-row
     put-row-requires
-    mul-provisions
-    array-write-provisions
+    mul-sums
+    element-write-sums
+    mul-if1
+    element-copy-out-if1
+    add-if1
+    returns
     add-at
     add-i
     loop-less
     loop-again
-    returns)
+    returns-2)

@@ -1,112 +1,280 @@
--- The triangle is completed, question 11 is asked of its ultimates, and then 12, 13 and 14. Assumes nothing.
+-- Each stage leaves the figures' own arrays (Later), and each answer is that of a segment of the questions (first-refused, later). Assumes nothing.
 use borrow.Author.Needs.{needs}
 use borrow.Author.Tests.{not-true, not-false}
 use native.Mathlib.Omega.{arith}
-use mathlib.Core.Path.{_≡_, sym, _∙_}
+use mathlib.Core.Path.{_≡_, refl, sym, ap, _∙_}
+use mathlib.Core.Bool.{true}
+use mathlib.Core.List.{[], _∷_}
 use lib.Seq.{sets}
-use Rattle.rules.specs.Questions.{firstNo}
-use Rattle.rules.specs.Results.{resultsOf}
-use Rattle.stages.specs.Stages.{cumulativesOf, laterQuestions, Settling}
-use Rattle.results.proofs.Settled.{refuse-eleven, after-eleven, latest-requires, projectable, sums-long, eleven-is, settling}
-use Rattle.engine.proofs.Questions.{refused}
+use Rattle.rules.specs.Lists.{every}
+use Rattle.rules.specs.Record.{Figures}
+use Rattle.rules.specs.Completion.{ultimatesPass}
+use Rattle.rules.specs.Expense.{paidTotal, ulaeTotal, ratioPass}
+use Rattle.rules.specs.Ladder.{developed, base, factorsPass, completedAll, completedPass}
+use Rattle.rules.specs.Results.{paidIn, provisionsIn, developmentIn}
+use Rattle.rules.specs.Engine.{completionQuestions, ratioQuestions, ladderQuestions, laterQuestions}
+use Rattle.engine.specs.Stages.{figures, Separated}
+use Rattle.engine.proofs.Questions.{one-no, one-yes, refused, accepted, first-refused, later}
+use Rattle.engine.proofs.Later as stage
+use Rattle.engine.proofs.Later.{Worked}
 use Rattle.engine.proofs.finish.Statement.{statement}
 use Rattle.engine.proofs.finish.Tie as tie
 
-cumulatives-requires : tie.Need-cumulatives-requires
-cumulatives-requires c κs =
-    let s = c .before .before .before .before .before in
-    (s .pre .0 .sound .few, (s .pre .0 .sound .increments, s .pre .0 .cumulatives))
+-- the figures, and what was shown of them before
+abbrev F : tie.Start → Figures
+F s =
+    figures (s .args .k) (s .args .exposures .now) (s .args .increments .now) (s .args .indices .now) (s .args .reporting .now) (s .args .weight) (s .args .ulae .now)
 
--- the cumulatives by row
-paid-is : (c : tie.After-cumulatives) →
-    let s = c .before .before .before .before .before .before in
-    c .cumulatives .result ≡ cumulativesOf (s .args .f .k) (s .args .f .increments)
-unfolding cumulativesOf
-paid-is c = c .cumulatives .ensures
+separated : (s : tie.Start)
+    → Separated (F s) (s .args .square .now) (s .args .columns .now) (s .args .paid .now) (s .args .shares .now) (s .args .levels .now)
+separated s = s .pre .0
 
-latest-of-requires : tie.Need-latest-of-requires
-latest-of-requires c κs =
-    let s = c .before .before .before .before .before .before .before .before .before .before in
-    latest-requires (s .args .f) (s .args .square .now) (s .args .factors) (s .pre .0)
+add-n : tie.Need-add-n
+add-n c = search needs
 
-project-requires : tie.Need-project-requires
-project-requires c κs =
-    let cum = c .before .before .before .before .before in
-    let s = cum .before .before .before .before .before .before in
-    projectable (s .args .f) (s .args .square .now) (s .args .factors) (s .pre .0) (cum .cumulatives .result) (paid-is cum) (c .latest-of .result) (c .latest-of .ensures)
+mul-fill-levels : tie.Need-mul-fill-levels
+mul-fill-levels c = search needs
 
-slice-aggregate-within : tie.Need-slice-aggregate-within
-slice-aggregate-within c = search needs
+element-copy-out-fill-levels : tie.Need-element-copy-out-fill-levels
+element-copy-out-fill-levels c = search needs
 
-add-within : tie.Need-add-within
-add-within c = omega (arith, c .before .before .before .before .before .before .before .before .before .before .before .before .before .before .pre .0 .sound .few)
+fill-levels-requires : tie.Need-fill-levels-requires
+fill-levels-requires c κs =
+    let s = c .before .before in
+    let h = separated s in
+    (h .sound .few, (stage.latest-fits (F s) _ _ _ _ _ h, h .sound .indices))
 
-within-requires : tie.Need-within-requires
-within-requires c κs =
-    let proj = c .before .before in
-    let late = proj .before in
-    let cum = late .before .before .before .before .before in
-    let s = cum .before .before .before .before .before .before in
-    let long = sums-long (s .args .f) (s .args .square .now) (s .args .factors) (s .pre .0) (cum .cumulatives .result) (paid-is cum) (late .latest-of .result) (late .latest-of .ensures) (proj .project .result) (proj .project .ensures) in
-    omega (arith, long, s .pre .0 .sound .few)
+complete-requires : tie.Need-complete-requires
+complete-requires c κs =
+    let filled = c .before .before .before in
+    let s = filled .before .before .before in
+    let h = separated s in
+    (stage.completable (F s) _ _ _ _ _ h _ (filled .fill-levels .ensures), stage.paid-fits (F s) _ _ _ _ _ h)
+
+-- question 11
+abbrev start1 : tie.After-complete → tie.Start
+start1 c = c .before .before .before .before .before .before .before
+
+eleven : (c : tie.After-complete) → c .complete .result ≡ ultimatesPass (F (start1 c) .k) (paidIn (F (start1 c))) (provisionsIn (F (start1 c)))
+eleven c =
+    let filled = c .before .before .before .before in
+    c .complete .ensures .0 ∙ stage.eleven-is (F (start1 c)) _ _ _ _ _ (separated (start1 c)) _ (filled .fill-levels .ensures)
+
+yes-eleven : (c : tie.Else1) → ultimatesPass (F (start1 (c .before)) .k) (paidIn (F (start1 (c .before)))) (provisionsIn (F (start1 (c .before)))) ≡ true
+yes-eleven c = sym (eleven (c .before)) ∙ not-false (c .before .complete .result) (c .if1 .left)
 
 returns : tie.Need-returns
+unfolding laterQuestions completionQuestions
 returns c =
-    let proj = c .before .before .before .before in
-    let late = proj .before in
-    let cum = late .before .before .before .before .before in
-    let s = cum .before .before .before .before .before .before in
-    let f = s .args .f in
-    refused (firstNo (laterQuestions f)) 11 (sets (s .args .out .now) 0 (resultsOf f)) (s .args .out .now)
-    (refuse-eleven f
-    (sym (eleven-is f (s .args .square .now) (s .args .factors) (s .pre .0) (cum .cumulatives .result) (paid-is cum) (late .latest-of .result) (late .latest-of .ensures) (proj .project .result) (proj .project .ensures))
-    ∙ sym (c .before .within .ensures) ∙ not-true _ (c .if1 .taken)))
-    (λ z. omega arith)
+    let s = start1 (c .before) in
+    let no = sym (eleven (c .before)) ∙ not-true (c .before .complete .result) (c .if1 .taken) in
+    first-refused (F s) (s .args .out .now) (completionQuestions (F s)) _ 11 (one-no 11 _ no) (λ z. omega arith)
 
--- question 11 has said yes
-settling-at : (c : tie.Else1) →
-    let proj = c .before .before .before .before in
-    let late = proj .before in
-    let cum = late .before .before .before .before .before in
-    let s = cum .before .before .before .before .before .before in
-    Settling (s .args .f) (s .args .square .now) (s .args .factors) (proj .project .result) (cum .cumulatives .result)
-settling-at c =
-    let proj = c .before .before .before .before in
-    let late = proj .before in
-    let cum = late .before .before .before .before .before in
-    let s = cum .before .before .before .before .before .before in
-    settling (s .args .f) (s .args .square .now) (s .args .factors) (s .pre .0) (cum .cumulatives .result) (paid-is cum) (late .latest-of .result) (late .latest-of .ensures) (proj .project .result) (proj .project .ensures)
-    (sym (c .before .within .ensures) ∙ not-false _ (c .if1 .left))
+sum-of-requires : tie.Need-sum-of-requires
+sum-of-requires c κs =
+    let s = start1 (c .before .before) in
+    let h = separated s in
+    (omega (arith, c .sum-of-arg .given .0, h .sound .few), (omega (arith, h .sound .few), λ i l. omega (arith, stage.paid-fits (F s) _ _ _ _ _ h i)))
 
-settle-requires : tie.Need-settle-requires
-settle-requires c κs =
-    let else1 = c .before .before in
-    let proj = else1 .before .before .before .before in
-    let late = proj .before in
-    let cum = late .before .before .before .before .before in
-    let s = cum .before .before .before .before .before .before in
-    (settling-at else1, s .pre .1)
+sum-of-requires-2 : tie.Need-sum-of-requires-2
+sum-of-requires-2 c κs =
+    let s = start1 (c .before .before .before .before) in
+    let h = separated s in
+    (omega (arith, c .sum-of-arg2 .given .0, h .sound .few), (omega (arith, h .sound .few), λ i l. omega (arith, h .sound .ulae i)))
+
+ratio-passes-requires : tie.Need-ratio-passes-requires
+ratio-passes-requires c κs = search needs
+
+-- question 12
+abbrev else1 : tie.After-ratio-passes → tie.Else1
+else1 c = c .before .before .before .before .before
+
+abbrev start2 : tie.After-ratio-passes → tie.Start
+start2 c = start1 (else1 c .before)
+
+twelve : (c : tie.After-ratio-passes)
+    → c .ratio-passes .result ≡ ratioPass (paidTotal (F (start2 c) .k) (F (start2 c) .increments)) (ulaeTotal (F (start2 c) .k) (F (start2 c) .ulae))
+twelve c =
+    let s = start2 c in
+    c .ratio-passes .ensures ∙ stage.twelve-is (F s) _ _ _ _ _ (separated s) _ _ (c .before .before .before .sum-of .ensures) (c .before .sum-of2 .ensures)
+
+yes-twelve : (c : tie.Else2) →
+    let f = F (start2 (c .before)) in
+    ratioPass (paidTotal (f .k) (f .increments)) (ulaeTotal (f .k) (f .ulae)) ≡ true
+yes-twelve c = sym (twelve (c .before)) ∙ not-false (c .before .ratio-passes .result) (c .if2 .left)
+
+returns-2 : tie.Need-returns-2
+unfolding laterQuestions completionQuestions ratioQuestions every
+returns-2 c =
+    let s = start2 (c .before) in
+    let f = F s in
+    let out = s .args .out .now in
+    let no = sym (twelve (c .before)) ∙ not-true (c .before .ratio-passes .result) (c .if2 .taken) in
+    later f out (completionQuestions f) _ out 12 refl (one-yes 11 _ (yes-eleven (else1 (c .before))))
+    (first-refused f out (ratioQuestions f) _ 12 (one-no 12 _ no) (λ z. omega arith))
+
+development-factors-requires : tie.Need-development-factors-requires
+development-factors-requires c κs = let s = start2 (c .before .before) in stage.ladderable (F s) _ _ _ _ _ (separated s)
+
+-- question 13
+abbrev else2 : tie.After-development-factors → tie.Else2
+else2 c = c .before .before
+
+abbrev start3 : tie.After-development-factors → tie.Start
+start3 c = start2 (else2 c .before)
+
+thirteen : (c : tie.After-development-factors) →
+    let f = F (start3 c) in
+    c .development-factors .result ≡ factorsPass (f .k) (developed (f .k) (f .increments)) (base (f .k) (f .increments))
+thirteen c = let s = start3 c in c .development-factors .ensures .0 ∙ stage.thirteen-is (F s) _ _ _ _ _ (separated s)
+
+yes-thirteen : (c : tie.Else3) →
+    let f = F (start3 (c .before)) in
+    factorsPass (f .k) (developed (f .k) (f .increments)) (base (f .k) (f .increments)) ≡ true
+yes-thirteen c = sym (thirteen (c .before)) ∙ not-false (c .before .development-factors .result) (c .if3 .left)
+
+returns-3 : tie.Need-returns-3
+unfolding laterQuestions completionQuestions ratioQuestions ladderQuestions every
+returns-3 c =
+    let at = c .before in
+    let s = start3 at in
+    let f = F s in
+    let out = s .args .out .now in
+    let no = sym (thirteen at) ∙ not-true (at .development-factors .result) (c .if3 .taken) in
+    later f out (completionQuestions f) _ out 13 refl (one-yes 11 _ (yes-eleven (else1 (else2 at .before))))
+    (later f out (ratioQuestions f) _ out 13 refl (one-yes 12 _ (yes-twelve (else2 at)))
+    (first-refused f out ((13, _) ∷ []) _ 13 (one-no 13 _ no) (λ z. omega arith)))
+
+complete-requires-2 : tie.Need-complete-requires-2
+complete-requires-2 c κs =
+    let else3 = c .before .before in
+    let at = else3 .before in
+    let s = start3 at in
+    let h = separated s in
+    let found = stage.factors-are (F s) _ _ _ _ _ h (yes-thirteen else3) _ (at .development-factors .ensures .1) in
+    (h .sound .few, (stage.paid-fits (F s) _ _ _ _ _ h, stage.factors-fit (F s) _ _ _ _ _ h (yes-thirteen else3) _ found))
+
+-- question 14
+abbrev else3 : tie.After-complete2 → tie.Else3
+else3 c = c .before .before .before
+
+abbrev start4 : tie.After-complete2 → tie.Start
+start4 c = start3 (else3 c .before)
+
+fourteen : (c : tie.After-complete2) →
+    let f = F (start4 c) in
+    c .complete2 .result ≡ completedPass (completedAll (f .k) (paidIn f) (developmentIn f))
+fourteen c =
+    let s = start4 c in
+    let h = separated s in
+    let yes13 = yes-thirteen (else3 c) in
+    let found = stage.factors-are (F s) _ _ _ _ _ h yes13 _ (else3 c .before .development-factors .ensures .1) in
+    c .complete2 .ensures .0 ∙ stage.fourteen-is (F s) _ _ _ _ _ h yes13 _ found
+
+yes-fourteen : (c : tie.Else4) →
+    let f = F (start4 (c .before)) in
+    completedPass (completedAll (f .k) (paidIn f) (developmentIn f)) ≡ true
+yes-fourteen c = sym (fourteen (c .before)) ∙ not-false (c .before .complete2 .result) (c .if4 .left)
+
+returns-4 : tie.Need-returns-4
+unfolding laterQuestions completionQuestions ratioQuestions ladderQuestions every
+returns-4 c =
+    let at = c .before in
+    let s = start4 at in
+    let f = F s in
+    let out = s .args .out .now in
+    let no = sym (fourteen at) ∙ not-true (at .complete2 .result) (c .if4 .taken) in
+    let two = else2 (else3 at .before) in
+    later f out (completionQuestions f) _ out 14 refl (one-yes 11 _ (yes-eleven (else1 (two .before))))
+    (later f out (ratioQuestions f) _ out 14 refl (one-yes 12 _ (yes-twelve two))
+    (later f out ((13, _) ∷ []) _ out 14 refl (one-yes 13 _ (yes-thirteen (else3 at)))
+    (refused f out ((14, _) ∷ []) 14 (one-no 14 _ no) (λ z. omega arith))))
+
+ratio-of-requires : tie.Need-ratio-of-requires
+unfolding ulaeTotal
+ratio-of-requires c κs =
+    let two = else2 (else3 (c .before .before .before .before .before) .before) in
+    let at = two .before in
+    let s = start2 at in
+    let h = separated s in (
+      stage.paid-least (F s) _ _ _ _ _ h _ _ (sym (at .ratio-passes .ensures) ∙ not-false (at .ratio-passes .result) (two .if2 .left)),
+      omega (arith, at .before .sum-of2 .ensures, stage.spent-fits (F s) _ _ _ _ _ h),
+    )
+
+-- all that was worked out
+abbrev else4 : tie.After-ratio-of → tie.Else4
+else4 c = c .before .before .before .before .before
+
+abbrev start5 : tie.After-ratio-of → tie.Start
+start5 c = start4 (else4 c .before)
+
+work : (c : tie.After-ratio-of) →
+    let three = else3 (else4 c .before) in
+    let one = else1 (else2 (three .before) .before) in
+    Worked (F (start5 c)) (one .before .before .before .before .before .fill-levels .last .1 .1 .1 .0) (one .before .complete .last .1 .1 .1 .1 .1 .0) (one .before .complete .last .1 .1 .1 .1 .1 .1 .0) (c .ratio-of .result)
+    (three .before .development-factors .last .1 .1 .1 .0) (else4 c .before .complete2 .last .1 .1 .1 .0)
+work c =
+    let last = else4 c .before in
+    let three = else3 last in
+    let two = else2 (three .before) in
+    let one = else1 (two .before) in
+    let filled = one .before .before .before .before .before .fill-levels .ensures in
+    let f = F (start5 c) in
+    let h = separated (start5 c) in
+    let factors = stage.factors-are f _ _ _ _ _ h (yes-thirteen three) _ (three .before .development-factors .ensures .1) in
+    let sums = two .before .before in
+    stage.worked f (yes-eleven one) (yes-twelve two) (yes-thirteen three) (yes-fourteen (else4 c))
+    (stage.ahead-is f _ _ _ _ _ h _ filled)
+    (stage.payments-are f _ _ _ _ _ h _ filled (yes-eleven one) _ (one .before .complete .ensures .1 .0))
+    (stage.provisions-are f _ _ _ _ _ h _ filled (yes-eleven one) _ (one .before .complete .ensures .1 .1))
+    (c .ratio-of .ensures ∙ stage.ratio-is f _ _ _ _ _ h _ _ (sums .before .before .sum-of .ensures) (sums .sum-of2 .ensures))
+    factors
+    (stage.completed-are f _ _ _ _ _ h (yes-thirteen three) _ _ factors (yes-fourteen (else4 c)) (last .complete2 .ensures .1))
+
+put-results-requires : tie.Need-put-results-requires
+put-results-requires c κs =
+    let at = c .before .before in
+    let s = start5 at in
+    (stage.printable (F s) _ _ _ _ _ (separated s) _ _ _ _ _ _ (work at), s .pre .1)
 
 same-length : tie.Need-same-length
 same-length c = search needs
 
-returns-2 : tie.Need-returns-2
-returns-2 c =
-    let else1 = c .before .before .before .before in
-    let s = else1 .before .before .before .before .before .before .before .before .before .before .before .before .before .before .before .before in
-    rw (after-eleven (s .args .f) (settling-at else1 .ultimates)) (c .before .settle .ensures)
+returns-5 : tie.Need-returns-5
+unfolding laterQuestions completionQuestions ratioQuestions ladderQuestions every
+returns-5 c =
+    let put = c .before in
+    let at = put .before .before .before in
+    let s = start5 at in
+    let f = F s in
+    let out = s .args .out .now in
+    let left = put .put-results .last .0 in
+    let w = work at in
+    later f out (completionQuestions f) _ left 0 refl (one-yes 11 _ (w .eleven))
+    (later f out (ratioQuestions f) _ left 0 refl (one-yes 12 _ (w .twelve))
+    (later f out ((13, _) ∷ []) _ left 0 refl (one-yes 13 _ (w .thirteen))
+    (accepted f out ((14, _) ∷ []) left (one-yes 14 _ (w .fourteen))
+    (put .put-results .ensures ∙ ap (sets out 0) (stage.printed-is f _ _ _ _ _ (separated s) _ _ _ _ _ _ w)))))
 
 pub finish-spec : {M : Type 1} → statement M
 finish-spec =
     tie.close
     (tie.spec
-    cumulatives-requires
-    latest-of-requires
-    project-requires
-    slice-aggregate-within
-    add-within
-    within-requires
+    add-n
+    mul-fill-levels
+    element-copy-out-fill-levels
+    fill-levels-requires
+    complete-requires
     returns
-    settle-requires
+    sum-of-requires
+    sum-of-requires-2
+    ratio-passes-requires
+    returns-2
+    development-factors-requires
+    returns-3
+    complete-requires-2
+    returns-4
+    ratio-of-requires
+    put-results-requires
     same-length
-    returns-2)
+    returns-5)

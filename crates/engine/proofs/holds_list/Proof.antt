@@ -7,12 +7,12 @@ use Rattle.engine.proofs.holds_list.Tie as tie
 last-year-of-requires : tie.Need-last-year-of-requires
 last-year-of-requires c κs = search needs
 
-results-of-requires : tie.Need-results-of-requires
-results-of-requires c κs = search needs
+entries-of-requires : tie.Need-entries-of-requires
+entries-of-requires c κs = search needs
 
 returns : tie.Need-returns
 unfolding holdsList
-returns c = rw (c .results-of .ensures, c .before .last-year-of .ensures .0)
+returns c = rw (c .entries-of .ensures .0, c .before .last-year-of .ensures .0)
 
 pub holds-list-spec : {M : Type 1} → statement M
-holds-list-spec = tie.close (tie.spec last-year-of-requires results-of-requires returns)
+holds-list-spec = tie.close (tie.spec last-year-of-requires entries-of-requires returns)

@@ -1,83 +1,102 @@
--- Question 6, the separation and what follows it are asked in turn, and each answer is that of the figures. Assumes nothing.
+-- Question 6, the separation and what follows it are asked in turn, and each answer is that of a segment of the questions. Assumes nothing.
 use borrow.Author.Needs.{needs}
 use borrow.Author.Tests.{not-true, not-false}
 use native.Mathlib.Omega.{arith}
-use mathlib.Core.Path.{_≡_, sym, ap, _∙_}
+use mathlib.Core.Path.{_≡_, refl, sym, ap, _∙_}
 use mathlib.Core.Bool.{true}
-use mathlib.Core.List.{List}
+use mathlib.Core.List.{List, [], _∷_}
 use lib.IntN.{ℤ}
-use lib.Seq.{sets}
-use Rattle.rules.specs.Questions.{firstNo}
+use Rattle.rules.specs.Lists.{every}
+use Rattle.rules.specs.Record.{Figures}
 use Rattle.rules.specs.Triangle.{cumulativesPass}
-use Rattle.rules.specs.Separation.{separateAnswer}
-use Rattle.rules.specs.Results.{squareOf, resultsOf}
-use Rattle.rules.specs.Engine.{figureQuestions}
-use Rattle.engine.proofs.Questions.{refused, answer-six, answer-separation, answer-later}
-use Rattle.engine.proofs.Figured.{separable, accepted-factors}
+use Rattle.rules.specs.Separation.{separationQuestions, separateAnswer}
+use Rattle.rules.specs.Results.{squareOf}
+use Rattle.rules.specs.declared.Factors.{Factors}
+use Rattle.rules.specs.Engine.{figureQuestions, laterQuestions}
+use Rattle.engine.specs.Stages.{figures}
+use Rattle.engine.proofs.Questions.{one-no, one-yes, first-refused, later}
+use Rattle.engine.proofs.Before as stage
 use Rattle.engine.proofs.run_figures.Statement.{statement}
 use Rattle.engine.proofs.run_figures.Tie as tie
 
-cumulatives-pass-requires : tie.Need-cumulatives-pass-requires
-cumulatives-pass-requires c κs = search needs
+abbrev F : tie.Start → Figures
+F s =
+    figures (s .args .k) (s .args .exposures .now) (s .args .increments .now) (s .args .indices .now) (s .args .reporting .now) (s .args .weight) (s .args .ulae .now)
+
+fill-rows-requires : tie.Need-fill-rows-requires
+fill-rows-requires c κs = search needs
+
+-- question 6
+abbrev start1 : tie.After-fill-rows → tie.Start
+start1 c = c .before .before .before .before
+
+yes-six : (c : tie.Else1) → cumulativesPass (F (start1 (c .before)) .k) (F (start1 (c .before)) .increments) ≡ true
+yes-six c = sym (c .before .fill-rows .ensures .0) ∙ not-false (c .before .fill-rows .result) (c .if1 .left)
 
 returns : tie.Need-returns
+unfolding figureQuestions
 returns c =
-    let s = c .before .before .before .before .before in
-    refused (firstNo (figureQuestions (s .args .f))) 6 (sets (s .args .out .now) 0 (resultsOf (s .args .f))) (s .args .out .now)
-    (answer-six (s .args .f) (sym (c .before .cumulatives-pass .ensures) ∙ not-true _ (c .if1 .taken)))
-    (λ z. omega arith)
+    let s = start1 (c .before) in
+    let no = sym (c .before .fill-rows .ensures .0) ∙ not-true (c .before .fill-rows .result) (c .if1 .taken) in
+    first-refused (F s) (s .args .out .now) ((6, _) ∷ []) _ 6 (one-no 6 _ no) (λ z. omega arith)
 
-averages-requires : tie.Need-averages-requires
-averages-requires c κs = search needs
-
--- what each place has shown: question 6, the square, and the separation's answer
-yes-six : (c : tie.Else1) →
-    let s = c .before .before .before .before .before in
-    cumulativesPass (s .args .f .k) (s .args .f .increments) ≡ true
-yes-six c = sym (c .before .cumulatives-pass .ensures) ∙ not-false _ (c .if1 .left)
-
-square-is : (c : tie.After-averages) →
-    let s = c .before .before .before .before .before .before .before .before in
-    c .averages .result ≡ squareOf (s .args .f)
-unfolding squareOf
-square-is c = c .averages .ensures
-
-answer-is : (c : tie.After-separate) →
-    let s = c .before .before .before .before .before .before .before .before .before .before in
-    c .separate .result .answer ≡ separateAnswer (squareOf (s .args .f)) (s .args .f .k)
-answer-is c =
-    let s = c .before .before .before .before .before .before .before .before .before .before in
-    c .separate .ensures .0 ∙ ap (λ (q : List (List ℤ)). separateAnswer q (s .args .f .k)) (square-is (c .before .before))
+-- the square, and the answer of questions 7 to 10
+square-is : (c : tie.Else1) → c .before .fill-rows .last .1 .1 .1 .0 ≡ squareOf (F (start1 (c .before)))
+square-is c = stage.square-is (F (start1 (c .before))) (yes-six c) _ (c .before .fill-rows .ensures .1 .0)
 
 separate-requires : tie.Need-separate-requires
 separate-requires c κs =
-    let s = c .before .before .before .before .before .before .before .before .before in
-    separable (s .args .f) (c .before .averages .result) (square-is (c .before)) (s .pre .0)
+    let six = c .before in
+    let s = start1 (six .before) in
+    stage.separable (F s) _ (square-is six) (s .pre .0)
+
+answer-is : (c : tie.After-separate) →
+    let s = start1 (c .before .before .before) in
+    c .separate .result .answer ≡ separateAnswer (squareOf (F s)) (F s .k)
+answer-is c =
+    let six = c .before .before in
+    let s = start1 (six .before) in
+    c .separate .ensures .0 ∙ ap (λ (q : List (List ℤ)). separateAnswer q (F s .k)) (square-is six)
 
 returns-2 : tie.Need-returns-2
+unfolding figureQuestions separateAnswer every
 returns-2 c =
     let at = c .before .before in
-    let six = at .before .before .before .before .before in
-    let s = six .before .before .before .before .before in
-    let f = s .args .f in
-    refused (firstNo (figureQuestions f)) (at .separate .result .answer) (sets (s .args .out .now) 0 (resultsOf f)) (s .args .out .now)
-    (answer-separation f (yes-six six) (λ z. c .if2 .taken (answer-is at ∙ z)) ∙ sym (answer-is at))
-    (c .if2 .taken)
+    let six = at .before .before in
+    let s = start1 (six .before) in
+    let f = F s in
+    let out = s .args .out .now in
+    let n = at .separate .result .answer in
+    later f out ((6, _) ∷ []) _ out n refl (one-yes 6 _ (yes-six six))
+    (first-refused f out (separationQuestions (squareOf f) (f .k)) (laterQuestions f) n (sym (answer-is at)) (c .if2 .taken))
+
+-- the separation is accepted
+abbrev separate2 : tie.Else2 → tie.After-separate
+separate2 c = c .before .before
+
+accepted-is : (c : tie.Else2) →
+    let s = start1 (separate2 c .before .before .before) in
+    separateAnswer (squareOf (F s)) (F s .k) ≡ 0
+accepted-is c = sym (answer-is (separate2 c)) ∙ c .if2 .left
 
 finish-requires : tie.Need-finish-requires
 finish-requires c κs =
-    let if2 = c .before .before .before in
-    let at = if2 .before .before in
-    let six = at .before .before .before .before .before in
-    let s = six .before .before .before .before .before in
-    let square = square-is (at .before .before) in
-    let accepted = sym (answer-is at) ∙ if2 .if2 .left in (
+    let two = c .before .before .before .before .before .before .before .before in
+    let at = separate2 two in
+    let six = at .before .before in
+    let rows = six .before .fill-rows in
+    let s = start1 (six .before) in
+    let f = F s in
+    let factors = stage.factors-are f _ (square-is six) (at .separate .result .factors) (at .separate .ensures .1) (accepted-is two) in (
       record {
         sound = s .pre .0;
         cumulatives = yes-six six;
-        square = square;
-        accepted = accepted;
-        factors = accepted-factors (s .args .f) (at .before .before .averages .result) square (at .separate .result .factors) (at .separate .ensures .1) accepted;
+        square = square-is six;
+        columns = stage.columns-are f (yes-six six) _ (rows .ensures .1 .1 .0);
+        paid = stage.paid-are f (yes-six six) _ (rows .ensures .1 .1 .1);
+        accepted = accepted-is two;
+        shares = ap (λ (g : Factors). g .shares) factors;
+        levels = ap (λ (g : Factors). g .levels) factors;
       },
       s .pre .1,
     )
@@ -86,20 +105,23 @@ same-length : tie.Need-same-length
 same-length c = search needs
 
 returns-3 : tie.Need-returns-3
+unfolding figureQuestions separateAnswer separationQuestions every
 returns-3 c =
-    let if2 = c .before .before .before .before .before in
-    let at = if2 .before .before in
-    let six = at .before .before .before .before .before in
-    let s = six .before .before .before .before .before in
-    rw (answer-later (s .args .f) (yes-six six) (sym (answer-is at) ∙ if2 .if2 .left)) (c .before .finish .ensures)
+    let call = c .before in
+    let two = call .before .before .before .before .before .before .before .before .before in
+    let six = separate2 two .before .before in
+    let s = start1 (six .before) in
+    let f = F s in
+    let out = s .args .out .now in
+    later f out ((6, _) ∷ []) _ _ _ refl (one-yes 6 _ (yes-six six))
+    (later f out (separationQuestions (squareOf f) (f .k)) (laterQuestions f) _ _ refl (accepted-is two) (call .finish .ensures))
 
 pub run-figures-spec : {M : Type 1} → statement M
 run-figures-spec =
     tie.close
     (tie.spec
-    cumulatives-pass-requires
+    fill-rows-requires
     returns
-    averages-requires
     separate-requires
     returns-2
     finish-requires

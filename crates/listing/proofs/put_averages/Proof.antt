@@ -6,18 +6,17 @@ use mathlib.Core.List.{[]}
 use Prim.Native.Nat.{_+_, _-_, _≤_}
 use lib.ListN.{length, getD, take}
 use lib.Seq.{sets, length-sets}
-use Rattle.rules.specs.Lists.{upTo}
+use Rattle.rules.specs.Lists.{upTo, joined}
 use Rattle.rules.specs.Triangle.{rowStart}
-use Rattle.rules.specs.Results.{joined}
-use Rattle.listing.specs.Entries.{averageEntries}
+use Rattle.listing.specs.Starts.{averageRowOf}
 use Rattle.laws.proofs.Rows.{start-more, rows-all, row-within}
-use Rattle.listing.proofs.Sections.{rowEntries, rows-more}
+use Rattle.listing.proofs.Sections.{rows-more}
 use Rattle.listing.proofs.put_averages.Statement.{statement}
 use Rattle.listing.proofs.put_averages.Tie as tie
 
 abbrev Inv-loop : tie.InvT-loop
 Inv-loop out₀ square k at₀ n i₀ out at i =
-    (i ≤ n) × (at ≡ rowStart k i) × (out ≡ sets out₀ 0 (joined (upTo (rowEntries k square) i))) × (length out ≡ length out₀)
+    (i ≤ n) × (at ≡ rowStart k i) × (out ≡ sets out₀ 0 (joined (upTo (averageRowOf k square) i))) × (length out ≡ length out₀)
 
 abbrev μ-loop : tie.MeasureT-loop
 μ-loop out₀ square k at₀ n i₀ out at i = n - i
@@ -69,7 +68,6 @@ same-length : tie.Need-same-length Inv-loop μ-loop
 same-length c = search needs
 
 returns : tie.Need-returns Inv-loop μ-loop
-unfolding averageEntries
 returns c =
     let k = c .before .before .args .k in
     let e : c .before .loop .i ≡ k + 1 = omega arith in

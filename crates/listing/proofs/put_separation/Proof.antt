@@ -2,12 +2,14 @@
 use borrow.Author.Needs.{needs}
 use native.Mathlib.Omega.{arith}
 use mathlib.Core.Path.{_≡_, sym, ap, _∙_}
-use mathlib.Core.List.{map}
+use mathlib.Core.List.{map, append-nil}
 use Prim.Native.Nat.{ℕ, _+_}
 use lib.IntN.{pos}
 use lib.ListN.{length, take}
 use denote.Ref.{now}
-use Rattle.listing.specs.Entries.{averageEntries, separationEntries}
+use Rattle.rules.specs.Lists.{upTo, joined}
+use Rattle.rules.specs.Results.{separationSections}
+use Rattle.listing.specs.Starts.{averageRowOf}
 use Rattle.entries.proofs.Runs.{length-naturals}
 use Rattle.listing.proofs.Sections.{three-runs, three-length, averages-length}
 use Rattle.listing.proofs.put_separation.Statement.{statement}
@@ -33,7 +35,7 @@ same-length : tie.Need-same-length
 same-length c = search needs
 
 returns : tie.Need-returns
-unfolding separationEntries
+unfolding separationSections joined
 returns c =
     let after-shares = c .before .before .before .before .before in
     let after-averages = after-shares .before .before .before .before in
@@ -41,7 +43,7 @@ returns c =
     let n = s .args .k + 1 in
     let square = now (s .args .square) in
     let shares = now (s .args .shares) in
-    let a = averageEntries (s .args .k) square in
+    let a = joined (upTo (averageRowOf (s .args .k) square) n) in
     let b = map pos (take n shares) in
     let levels = now (s .args .levels) in
     let d = map pos (take n levels) in
@@ -53,8 +55,9 @@ returns c =
     let sd : length d ≡ n = length-naturals n levels (omega (arith, c .before .before .put-naturals-arg4 .given .0, s .pre .0)) in (
       omega (arith, c .before .put-naturals2 .ensures .0),
       (
-        omega (arith, three-length a b d 0 p q (c .before .put-naturals2 .ensures .0 ∙ ap (λ (m : ℕ). second .result + m) (sym sd))),
-        rw (c .before .put-naturals2 .ensures .1, second .ensures .1, first .ensures .1) (three-runs a b d (now (s .args .out)) 0 p q),
+        rw (append-nil d)
+            (omega (arith, three-length a b d 0 p q (c .before .put-naturals2 .ensures .0 ∙ ap (λ (m : ℕ). second .result + m) (sym sd)))),
+        rw (c .before .put-naturals2 .ensures .1, second .ensures .1, first .ensures .1, append-nil d) (three-runs a b d (now (s .args .out)) 0 p q),
       ),
     )
 

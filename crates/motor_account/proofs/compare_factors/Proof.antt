@@ -1,14 +1,14 @@
--- `motor_account::compare_factors` is safe and ends. The loop's invariant: at most one a factor is as printed. Assumes nothing.
+-- The loop's invariant: at most one a factor is as printed. Assumes nothing.
 use Prim.Native.Nat.{_≤_, _-_}
 use native.Mathlib.Omega.{arith}
 use Rattle.motor_account.proofs.compare_factors.Statement.{statement}
 use Rattle.motor_account.proofs.compare_factors.Tie as tie
 
 abbrev Inv-loop : tie.InvT-loop
-Inv-loop name factors digit printed same₀ h₀ same h = (h ≤ 4) × (same ≤ h)
+Inv-loop name list from digit printed same₀ h₀ same h = (h ≤ 4) × (same ≤ h)
 
 abbrev μ-loop : tie.MeasureT-loop
-μ-loop name factors digit printed same₀ h₀ same h = 4 - h
+μ-loop name list from digit printed same₀ h₀ same h = 4 - h
 
 loop-holds : tie.Need-loop-holds Inv-loop μ-loop
 loop-holds c = omega arith
@@ -19,16 +19,14 @@ put-text-requires c κs = tt
 put-number-requires : tie.Need-put-number-requires Inv-loop μ-loop
 put-number-requires c κs = tt
 
-mul-nearest : tie.Need-mul-nearest Inv-loop μ-loop
-mul-nearest c = omega arith
+add-entry : tie.Need-add-entry Inv-loop μ-loop
+add-entry c = omega arith
 
-element-copy-out-nearest : tie.Need-element-copy-out-nearest Inv-loop μ-loop
-element-copy-out-nearest c = omega arith
+entry-requires : tie.Need-entry-requires Inv-loop μ-loop
+entry-requires c κs = (omega arith)
 
 nearest-requires : tie.Need-nearest-requires Inv-loop μ-loop
-nearest-requires c κs =
-    let at = c .before .before .before .before in
-    (omega (arith, at .before .before .pre .0 (at .loop .h)), at .before .before .pre .1)
+nearest-requires c κs = (omega arith, (omega arith, omega arith))
 
 mul-compare : tie.Need-mul-compare Inv-loop μ-loop
 mul-compare c = omega arith
@@ -63,8 +61,8 @@ compare-factors-spec =
     loop-holds
     put-text-requires
     put-number-requires
-    mul-nearest
-    element-copy-out-nearest
+    add-entry
+    entry-requires
     nearest-requires
     mul-compare
     element-copy-out-compare

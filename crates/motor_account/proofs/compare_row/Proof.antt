@@ -1,14 +1,14 @@
--- `motor_account::compare_row` is safe and ends. The loop's invariant: at most one a cell is as printed. Assumes nothing.
-use Prim.Native.Nat.{_+_, _≤_, _-_}
+-- The loop's invariant: at most one a cell is as printed. Assumes nothing.
+use Prim.Native.Nat.{_≤_, _-_}
 use native.Mathlib.Omega.{arith}
 use Rattle.motor_account.proofs.compare_row.Statement.{statement}
 use Rattle.motor_account.proofs.compare_row.Tie as tie
 
 abbrev Inv-loop : tie.InvT-loop
-Inv-loop shares levels i printed same₀ n j₀ same j = (j ≤ n) × ((n ≤ 4) × (same ≤ j))
+Inv-loop list shares levels i printed same₀ n j₀ same j = (j ≤ n) × ((n ≤ 4) × (same ≤ j))
 
 abbrev μ-loop : tie.MeasureT-loop
-μ-loop shares levels i printed same₀ n j₀ same j = n - j
+μ-loop list shares levels i printed same₀ n j₀ same j = n - j
 
 sub-n : tie.Need-sub-n Inv-loop μ-loop
 sub-n c = omega arith
@@ -20,10 +20,7 @@ put-cell-requires : tie.Need-put-cell-requires Inv-loop μ-loop
 put-cell-requires c κs = tt
 
 fitted-requires : tie.Need-fitted-requires Inv-loop μ-loop
-fitted-requires c κs =
-    let at = c .before .before in
-    let s = at .before in
-    (s .pre .0 (at .loop .j), (s .pre .1 .0 (s .args .i + at .loop .j), omega arith))
+fitted-requires c κs = (omega arith, (omega arith, omega arith))
 
 mul-compare : tie.Need-mul-compare Inv-loop μ-loop
 mul-compare c = omega arith

@@ -4,12 +4,13 @@ use Prim.Native.Nat.{_+_, _-_, _*_, _^_, _≤_, _<_}
 use native.Mathlib.Omega.{arith}
 use native.Mathlib.Nat.{mod-lt}
 use borrow.Author.Needs.{needs}
-use lib.ListN.{length, take}
+use lib.ListN.{length, take, drop}
+use lib.Seq.{drop-set-lt}
 use lib.Pow.{pow-pos, pow-mono}
 use Rattle.rules.specs.Packing.{numberOf}
 use Rattle.packing.specs.Pending.{packedSo, placeOf}
 use Rattle.packing.proofs.Places.{one-shl}
-use Rattle.packing.proofs.Puts.{added-lt, added, written}
+use Rattle.packing.proofs.Puts.{added-lt, added, written, drop-further}
 use Rattle.packing.proofs.put.Statement.{statement}
 use Rattle.packing.proofs.put.Tie as tie
 
@@ -20,6 +21,7 @@ Inv-loop buffer₀ w x at₀ count₀ bits₀ buffer at count bits =
     × (8 * at + count ≡ 8 * at₀ + count₀)
     × (count ≤ count₀)
     × (length buffer ≡ length buffer₀)
+    × (drop at buffer ≡ drop at buffer₀)
 
 abbrev μ-loop : tie.MeasureT-loop
 μ-loop buffer₀ w x at₀ count₀ bits₀ buffer at count bits = count
@@ -42,7 +44,7 @@ add-bits c =
 loop-holds : tie.Need-loop-holds Inv-loop μ-loop
 loop-holds c =
     let pre = c .before .before .before .pre in
-    (refl, added-lt (pre .0) (pre .1 .0) (pre .1 .1), refl, omega arith, refl)
+    (refl, added-lt (pre .0) (pre .1 .0) (pre .1 .1), refl, omega arith, refl, refl)
 
 shr-low : tie.Need-shr-low Inv-loop μ-loop
 shr-low c = omega arith
@@ -82,6 +84,7 @@ loop-again c =
       omega arith,
       omega arith,
       search needs,
+      drop-set-lt (at + 1) s at _ (omega arith) ∙ drop-further at (at + 1) s _ (omega arith) (inv .5),
     )
 
 same-length : tie.Need-same-length Inv-loop μ-loop
@@ -92,7 +95,7 @@ unfolding packedSo placeOf
 returns c =
     let pre = c .before .before .before .before .before .pre in
     let inv = c .before .loop .inv in
-    record { few = omega arith; small = inv .1; place = omega arith; packed = inv .0 ∙ added (pre .0) (pre .1 .0) (pre .1 .1) }
+    record { few = omega arith; small = inv .1; place = omega arith; packed = inv .0 ∙ added (pre .0) (pre .1 .0) (pre .1 .1); after = inv .5 }
 
 pub put-spec : {M : Type 1} → statement M
 put-spec =

@@ -10,12 +10,6 @@ use borrow.Author.Needs.{needs}
 use Rattle.page.proofs.difference.Statement.{statement}
 use Rattle.page.proofs.difference.Tie as tie
 
-cast-result : tie.Need-cast-result
-cast-result c = search needs
-
-cast-result-2 : tie.Need-cast-result-2
-cast-result-2 c = search needs
-
 sub-result : tie.Need-sub-result
 sub-result c = rw (toZ-pos w64 (c .args .x) (omega arith), toZ-pos w64 (c .args .y) (omega arith)) (less-fits (c .args .x) (c .args .y) (c .pre .0) (c .pre .1))
 
@@ -23,4 +17,4 @@ returns : tie.Need-returns
 returns c = toZ-ofZ (sub-result c) ∙ ap₂ _-ℤ_ (toZ-pos w64 (c .args .x) (omega arith)) (toZ-pos w64 (c .args .y) (omega arith))
 
 pub difference-spec : {M : Type 1} → statement M
-difference-spec = tie.close (tie.spec cast-result cast-result-2 sub-result returns)
+difference-spec = tie.close (tie.spec (λ c. search needs) (λ c. search needs) sub-result returns)

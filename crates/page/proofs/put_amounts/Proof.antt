@@ -1,61 +1,45 @@
 -- The heading, the years and the totals follow one another (put-three). Assumes nothing.
 use native.Mathlib.Omega.{arith}
-use Rattle.laws.proofs.Rows.{cells-most}
 use Rattle.composing.proofs.Puts.{put-three}
 use Rattle.page.specs.Page.{amountsTable}
-use Rattle.page.proofs.Sections.{known, at-starts}
+use Rattle.page.proofs.Places.{placed}
 use borrow.Author.Needs.{needs}
 use Rattle.page.proofs.put_amounts.Statement.{statement}
 use Rattle.page.proofs.put_amounts.Tie as tie
 
-slice-aggregate-put-bytes : tie.Need-slice-aggregate-put-bytes
-slice-aggregate-put-bytes c = search needs
-
-put-bytes-requires : tie.Need-put-bytes-requires
-put-bytes-requires c κs = search needs
-
-add-put-amounts-lines : tie.Need-add-put-amounts-lines
-add-put-amounts-lines c = search needs
-
 put-amounts-lines-requires : tie.Need-put-amounts-lines-requires
 put-amounts-lines-requires c κs =
     let s = c .before .before .before .before .before .before .before in
-    let k = s .args .k in
-    let at = at-starts (s .args .places) k (s .pre .1 .0) in
-    let place = known k in
-    let most = cells-most k (s .pre .0) in
+    let at = placed (s .args .places) (s .args .k) (s .pre .0) (s .pre .1 .0) in
     (omega arith, (omega arith, (omega arith, (omega arith, s .pre .1 .1))))
 
-put-totals-requires : tie.Need-put-totals-requires
-put-totals-requires c κs =
-    let s = c .before .before .before .before .before .before .before .before .before .before .before in
-    let k = s .args .k in
-    let at = at-starts (s .args .places) k (s .pre .1 .0) in
-    let place = known k in
-    let most = cells-most k (s .pre .0) in
-    (omega arith, (omega arith, s .pre .1 .1))
-
-same-length : tie.Need-same-length
-same-length c = search needs
+put-totals-line-requires : tie.Need-put-totals-line-requires
+put-totals-line-requires c κs =
+    let s = c .before .before .before .before .before .before .before .before .before .before .before .before .before in
+    let at = placed (s .args .places) (s .args .k) (s .pre .0) (s .pre .1 .0) in
+    (omega arith, (omega arith, (c .before .sum-all .ensures .1, c .sum-all2 .ensures .1)))
 
 returns : tie.Need-returns
 unfolding amountsTable
 returns c =
-    let s = c .before .before .before .before .before .before .before .before .before .before .before .before .before .before in
-    let at = at-starts (s .args .places) (s .args .k) (s .pre .1 .0) in
+    let s = c .before .before .before .before .before .before .before .before .before .before .before .before .before .before .before .before in
+    let at = placed (s .args .places) (s .args .k) (s .pre .0) (s .pre .1 .0) .at in
+    let b = c .before .before .before .before .before .before .before .before in
     put-three
-    (c .before .before .before .before .before .before .before .before .before .before .put-bytes .ensures)
-    (rw (at .provisions, at .unreported, at .reserves) at (c .before .before .before .before .before .before .put-amounts-lines .ensures))
-    (rw (at .provision, at .reserve) at (c .before .before .put-totals .ensures))
+    (b .before .before .before .before .put-bytes .ensures)
+    (rw (at .provisions, at .unreported, at .reserves) at (b .put-amounts-lines .ensures))
+    (rw (at .provision, at .reserve, c .before .before .before .before .sum-all .ensures .0, c .before .before .before .sum-all2 .ensures .0) at (c .before .before .put-totals-line .ensures))
 
 pub put-amounts-spec : {M : Type 1} → statement M
 put-amounts-spec =
     tie.close
     (tie.spec
-    slice-aggregate-put-bytes
-    put-bytes-requires
-    add-put-amounts-lines
+    (λ c. search needs)
+    (λ c κs. search needs)
+    (λ c. search needs)
     put-amounts-lines-requires
-    put-totals-requires
-    same-length
+    (λ c κs. search needs)
+    (λ c κs. search needs)
+    put-totals-line-requires
+    (λ c. search needs)
     returns)

@@ -1,41 +1,30 @@
--- The words, the ratio and the line end follow one another (put-three). Assumes nothing.
+-- The words, the ratio and the line's end follow one another (put-three). Assumes nothing.
+use lib.IntN.{pos}
+use lib.ListN.{getD}
 use mir.Facts.{toZ-ofZ}
+use mir.Syntax.{w64}
 use Rattle.composing.proofs.Puts.{put-three}
-use borrow.Author.Needs.{needs}
+use borrow.Author.Needs.{needs, sfits-of}
 use Rattle.page.proofs.put_ratio.Statement.{statement}
 use Rattle.page.proofs.put_ratio.Tie as tie
 
-slice-aggregate-put-bytes : tie.Need-slice-aggregate-put-bytes
-slice-aggregate-put-bytes c = search needs
-
-put-bytes-requires : tie.Need-put-bytes-requires
-put-bytes-requires c κs = search needs
-
-put-fixed-requires : tie.Need-put-fixed-requires
-put-fixed-requires c κs = search needs
-
-slice-aggregate-put-bytes-2 : tie.Need-slice-aggregate-put-bytes-2
-slice-aggregate-put-bytes-2 c = search needs
-
-put-bytes-requires-2 : tie.Need-put-bytes-requires-2
-put-bytes-requires-2 c κs = search needs
-
-same-length : tie.Need-same-length
-same-length c = search needs
-
 returns : tie.Need-returns
 returns c =
-    let s = c .before .before .before .before .before .before .before .before .before .before .before .before .before .before .before in
-    put-three (c .before .before .before .before .before .before .before .before .before .before .before .put-bytes .ensures) (rw (toZ-ofZ (s .fits .ratio)) at (c .before .before .before .before .before .before .before .put-fixed .ensures)) (c .before .before .put-bytes2 .ensures)
+    let b = c .before .before .before .before .before in
+    let s = b .before .before .before .before .before .before .before .before .before .before .before in
+    let kept = toZ-ofZ {w = w64} {z = getD (s .args .list .now) (s .args .p) (pos 0)} (sfits-of (b .before .before .before .put-fixed-arg2 .given)) in
+    put-three (b .before .before .before .before .before .before .before .put-bytes .ensures) (rw kept at (b .before .before .put-fixed .ensures)) (c .before .before .put-bytes2 .ensures)
 
 pub put-ratio-spec : {M : Type 1} → statement M
 put-ratio-spec =
     tie.close
     (tie.spec
-    slice-aggregate-put-bytes
-    put-bytes-requires
-    put-fixed-requires
-    slice-aggregate-put-bytes-2
-    put-bytes-requires-2
-    same-length
+    (λ c. search needs)
+    (λ c κs. search needs)
+    (λ c. search needs)
+    (λ c. search needs)
+    (λ c κs. search needs)
+    (λ c. search needs)
+    (λ c κs. search needs)
+    (λ c. search needs)
     returns)

@@ -1,52 +1,48 @@
 -- The three tables follow one another (put-three). Assumes nothing.
+use mathlib.Core.Path.{refl, sym, ap}
 use native.Mathlib.Omega.{arith}
-use Rattle.laws.proofs.Rows.{cells-most}
-use Rattle.composing.proofs.Puts.{put-three}
-use Rattle.page.specs.Page.{paymentsTable}
-use Rattle.laws.proofs.Joined.{future-cells}
-use Rattle.page.proofs.Sections.{known, at-starts}
+use Prim.Native.Nat.{_+_}
+use Rattle.composing.proofs.Puts.{put-same, put-three}
+use Rattle.page.specs.Page.{falling, rising, triangle, averagesTable, paymentsTable}
+use Rattle.page.proofs.Lines.{entries-falling, entries-rising}
+use Rattle.page.proofs.Places.{placed}
 use borrow.Author.Needs.{needs}
 use Rattle.page.proofs.put_separation.Statement.{statement}
 use Rattle.page.proofs.put_separation.Tie as tie
 
-put-averages-requires : tie.Need-put-averages-requires
-put-averages-requires c κs = search needs
+put-triangle-requires : tie.Need-put-triangle-requires
+put-triangle-requires c κs =
+    let s = c .before .before .before in
+    let at = placed (s .args .places) (s .args .k) (s .pre .0) (s .pre .1) in
+    (s .pre .0, (omega arith, (omega arith, omega (arith, entries-falling (s .args .k + 1) (falling (s .args .k + 1)) refl refl refl))))
 
-put-factors-requires : tie.Need-put-factors-requires
-put-factors-requires c κs = search needs
-
-slice-aggregate-put-future : tie.Need-slice-aggregate-put-future
-slice-aggregate-put-future c = search needs
-
-put-future-requires : tie.Need-put-future-requires
-put-future-requires c κs =
-    let s = c .before .before .before .before .before .before .before .before .before .before .before in
-    let k = s .args .k in
-    let at = at-starts (s .args .places) k (s .pre .1) in
-    let place = known k in
-    let most = cells-most k (s .pre .0) in
-    (s .pre .0, omega (arith, future-cells k))
-
-same-length : tie.Need-same-length
-same-length c = search needs
+put-triangle-requires-2 : tie.Need-put-triangle-requires-2
+put-triangle-requires-2 c κs =
+    let s = c .before .before .before .before .before .before .before .before .before .before .before .before in
+    let at = placed (s .args .places) (s .args .k) (s .pre .0) (s .pre .1) in
+    (s .pre .0, (omega arith, (omega arith, omega (arith, entries-rising (s .args .k + 1) (rising (s .args .k + 1)) refl refl))))
 
 returns : tie.Need-returns
-unfolding paymentsTable
+unfolding averagesTable paymentsTable
 returns c =
-    let s = c .before .before .before .before .before .before .before .before .before .before .before .before .before .before in
-    let at = at-starts (s .args .places) (s .args .k) (s .pre .1) in
+    let s = c .before .before .before .before .before .before .before .before .before .before .before .before .before .before .before in
+    let at = placed (s .args .places) (s .args .k) (s .pre .0) (s .pre .1) in
+    let b = c .before .before .before .before .before .before .before in
     put-three
-    (c .before .before .before .before .before .before .before .before .before .before .before .put-averages .ensures)
-    (c .before .before .before .before .before .before .before .put-factors .ensures)
-    (rw (at .payments) at (c .before .before .put-future .ensures))
+    (put-same (ap (triangle _ _ _ _ _) (sym (at .known .averages))) (b .before .before .before .before .put-triangle .ensures))
+    (b .put-factors .ensures)
+    (rw (at .at .payments) at (c .before .before .put-triangle2 .ensures))
 
 pub put-separation-spec : {M : Type 1} → statement M
 put-separation-spec =
     tie.close
     (tie.spec
-    put-averages-requires
-    put-factors-requires
-    slice-aggregate-put-future
-    put-future-requires
-    same-length
+    (λ c. search needs)
+    (λ c. search needs)
+    put-triangle-requires
+    (λ c κs. search needs)
+    (λ c. search needs)
+    (λ c. search needs)
+    put-triangle-requires-2
+    (λ c. search needs)
     returns)

@@ -3,8 +3,7 @@ use borrow.Author.Needs.{needs}
 use mathlib.Core.Path.{_≡_}
 use native.Mathlib.Omega.{arith}
 use Prim.Native.Nat.{_-_, _≤_}
-use Rattle.rules.specs.Lists.{upTo}
-use Rattle.rules.specs.Results.{joined}
+use Rattle.rules.specs.Lists.{upTo, joined}
 use Rattle.composing.specs.Text.{Put, decimal}
 use Rattle.composing.proofs.Puts.{put-first, put-more, put-length}
 use Rattle.page.specs.Page.{cell}
@@ -19,15 +18,6 @@ abbrev μ-loop : tie.MeasureT-loop
 
 loop-holds : tie.Need-loop-holds Inv-loop μ-loop
 loop-holds c = (omega arith, put-first (λ j. cell (decimal j)) _ _)
-
-put-right-decimal-requires : tie.Need-put-right-decimal-requires Inv-loop μ-loop
-put-right-decimal-requires c κs = search needs
-
-add-j : tie.Need-add-j Inv-loop μ-loop
-add-j c = omega arith
-
-loop-less : tie.Need-loop-less Inv-loop μ-loop
-loop-less c = omega arith
 
 loop-again : tie.Need-loop-again Inv-loop μ-loop
 loop-again c =
@@ -49,9 +39,9 @@ put-year-cells-spec =
     Inv-loop
     μ-loop
     loop-holds
-    put-right-decimal-requires
-    add-j
-    loop-less
+    (λ c κs. search needs)
+    (λ c. omega arith)
+    (λ c. omega arith)
     loop-again
     same-length
     returns)

@@ -1,176 +1,100 @@
--- Each test is a question of the record, and the answer is the first that says no. Assumes nothing.
+-- Questions 1 and 2, then 3, then 4 and 5: the first that says no gives the answer (first-answer, later-answer). Assumes nothing.
 use borrow.Author.Needs.{needs}
-use borrow.Author.Tests.{leb-true, not-true, not-false}
 use native.Mathlib.Omega.{arith}
-use mathlib.Core.Path.{_≡_, sym, ap, _∙_}
+use borrow.Author.Tests.{leb-true, not-true, not-false}
+use mathlib.Core.Path.{_≡_, refl, sym, ap, _∙_}
 use mathlib.Core.Bool.{true, false}
-use mathlib.Core.List.{List}
-use Prim.Native.Nat.{ℕ, suc, _<_, _≤_}
+use mathlib.Core.List.{List, _∷_}
+use Prim.Native.Nat.{ℕ, _≤_}
 use lib.IntN.{ℤ}
 use lib.ListN.{length}
 use lib.Seq.{sets}
+use Rattle.rules.specs.Lists.{every}
 use Rattle.rules.specs.Questions.{firstNo, afterCall}
-use Rattle.rules.specs.Record.{lastYearOf, fieldCount, figuresOf}
-use Rattle.rules.specs.Reading.{hasLastYear, hasLength, hasRoom, inRanges, sharesSum, readAnswer, readInto}
-use Rattle.reading.specs.Reading.{readingOf, rangesOf, sumOf, listOf, Listable}
-use Rattle.reading.specs.declared.Reading.{Reading}
-use Rattle.reading.proofs.Rows.{Whole, whole, years-known}
-use Rattle.reading.proofs.Answers.{ranges-same, sum-same, list-same}
-use Rattle.reading.proofs.Limits.{listable}
+use Rattle.rules.specs.Record.{fieldCount, lastYearOf, fieldsOf}
+use Rattle.rules.specs.Reading.{hasRoom, openingQuestions, fieldQuestions, readAnswer, readInto}
+use Rattle.laws.proofs.Questions.{first-answer, later-answer, after-refusal}
+use Rattle.reading.proofs.Rows.{opening-yes, years-known}
 use Rattle.reading.proofs.doonamurk_read.Statement.{statement}
 use Rattle.reading.proofs.doonamurk_read.Tie as tie
 
--- a refusal leaves the list
-refused : (s : List ℕ) (out : List ℤ) (n : ℕ) → readAnswer s (length out) ≡ suc n → (suc n ≡ readAnswer s (length out)) × (out ≡ readInto s out)
-unfolding readInto afterCall
-refused s out n e = (sym e, rw e)
+module _ (s : List ℕ) (out : List ℤ) where
+  -- a refusal leaves the list
+  refused : (n : ℕ) → (n ≡ 0 → ⊥) → n ≡ readAnswer s (length out) → (n ≡ readAnswer s (length out)) × (out ≡ readInto s out)
+  unfolding readInto
+  refused n h e = (e, rw (sym e) (sym (after-refusal n (sets out 0 (fieldsOf s)) out h)))
 
-module _ (s : List ℕ) (out : List ℤ) (a : hasLastYear s ≡ true) (b : hasLength s ≡ true) (d : hasRoom s (length out) ≡ true) where
-  out-of-range : inRanges s ≡ false → readAnswer s (length out) ≡ 4
-  unfolding readAnswer firstNo
-  out-of-range e = rw (a, b, d, e)
+  -- one of questions 1 and 2 says no
+  not-opened : (firstNo (openingQuestions s) ≡ 0 → ⊥) → firstNo (openingQuestions s) ≡ readAnswer s (length out)
+  unfolding readAnswer
+  not-opened h = sym (first-answer (openingQuestions s) ((3, hasRoom s (length out)) ∷ fieldQuestions s) h)
 
-  other-sum : inRanges s ≡ true → sharesSum s ≡ false → readAnswer s (length out) ≡ 5
-  unfolding readAnswer firstNo
-  other-sum e f = rw (a, b, d, e, f)
+  -- both say yes
+  opened : firstNo (openingQuestions s) ≡ 0 → readAnswer s (length out) ≡ firstNo ((3, hasRoom s (length out)) ∷ fieldQuestions s)
+  unfolding readAnswer openingQuestions every
+  opened h = later-answer (openingQuestions s) ((3, hasRoom s (length out)) ∷ fieldQuestions s) refl h
 
-  accepted : inRanges s ≡ true → sharesSum s ≡ true → readAnswer s (length out) ≡ 0
-  unfolding readAnswer firstNo
-  accepted e f = rw (a, b, d, e, f)
+  no-room : firstNo (openingQuestions s) ≡ 0 → hasRoom s (length out) ≡ false → 3 ≡ readAnswer s (length out)
+  unfolding firstNo
+  no-room h e = sym (opened h ∙ (rw e))
 
--- what each test has shown where it was passed
-yes-1 : (c : tie.Else1) → hasLastYear (c .before .before .before .args .packed .now) ≡ true
-yes-1 c = sym (c .before .has-last-year .ensures) ∙ not-false (c .before .has-last-year .result) (c .if1 .left)
+  room : firstNo (openingQuestions s) ≡ 0 → hasRoom s (length out) ≡ true → firstNo (fieldQuestions s) ≡ readAnswer s (length out)
+  unfolding firstNo
+  room h e = sym (opened h ∙ (rw e))
 
-yes-2 : (c : tie.Else2) → hasLength (c .before .before .before .before .before .args .packed .now) ≡ true
-yes-2 c = sym (c .before .has-length .ensures) ∙ not-false (c .before .has-length .result) (c .if2 .left)
+  -- the list after questions 4 and 5 were asked
+  asked : {n : ℕ} {list : List ℤ} → n ≡ firstNo (fieldQuestions s) → list ≡ afterCall (firstNo (fieldQuestions s)) (sets out 0 (fieldsOf s)) out
+      → firstNo (fieldQuestions s) ≡ readAnswer s (length out) → (n ≡ readAnswer s (length out)) × (list ≡ readInto s out)
+  unfolding readInto
+  asked a b e = (a ∙ e, b ∙ ap (λ (z : ℕ). afterCall z (sets out 0 (fieldsOf s)) out) e)
 
-yes-3 : (c : tie.Else3) → hasRoom (c .before .before .before .before .before .before .before .args .packed .now) (length (c .before .before .before .before .before .before .before .args .list .now)) ≡ true
-yes-3 c = sym (c .before .has-room .ensures) ∙ not-false (c .before .has-room .result) (c .if3 .left)
+  -- a yes to question 3
+  roomy : hasRoom s (length out) ≡ true → fieldCount (lastYearOf s) ≤ length out
+  unfolding hasRoom
+  roomy e = leb-true (fieldCount (lastYearOf s)) (length out) e
 
-passed : (c : tie.Else2) → Whole (c .before .before .before .before .before .args .packed .now)
-passed c =
-    whole (c .before .before .before .before .before .args .packed .now) (λ i. omega (arith, c .before .before .before .before .shared-slice-known .given i))
-    (yes-1 (c .before .before)) (yes-2 c)
+yes-opened : (c : tie.Else1) → firstNo (openingQuestions (c .before .before .before .args .packed .now)) ≡ 0
+yes-opened c = sym (c .before .opens .ensures) ∙ c .if1 .left
 
--- what was read has the record's years
-years-read : (s : List ℕ) (r : Reading) → r ≡ readingOf s → Whole s → r .figures .k < 16
-unfolding readingOf figuresOf
-years-read s r e h = rw e (h .few)
+yes-room : (c : tie.Else2) → hasRoom (c .before .before .before .before .before .args .packed .now) (length (c .before .before .before .before .before .args .list .now)) ≡ true
+yes-room c = sym (c .before .has-room .ensures) ∙ not-false (c .before .has-room .result) (c .if2 .left)
 
-few : (c : tie.After-read) → c .read .result .figures .k < 16
-few c = years-read (c .before .before .before .before .before .before .before .before .args .packed .now) (c .read .result) (c .read .ensures) (passed (c .before .before .before))
-
-room : (c : tie.Else3) (r : Reading) → r ≡ readingOf (c .before .before .before .before .before .before .before .args .packed .now)
-    → fieldCount (r .figures .k) ≤ length (c .before .before .before .before .before .before .before .args .list .now)
-unfolding hasRoom readingOf figuresOf
-room c r e = rw e (leb-true (fieldCount (lastYearOf (c .before .before .before .before .before .before .before .args .packed .now))) (length (c .before .before .before .before .before .before .before .args .list .now)) (yes-3 c))
-
--- questions 4 and 5 of what was read are those of the record
-ranges-asked : (c : tie.After-in-ranges) → c .in-ranges .result ≡ inRanges (c .before .before .before .before .before .before .before .before .before .args .packed .now)
-ranges-asked c =
-    c .in-ranges .ensures
-    ∙ ap rangesOf (c .before .read .ensures)
-    ∙ ranges-same (c .before .before .before .before .before .before .before .before .before .args .packed .now) (passed (c .before .before .before .before))
-
-sum-asked : (c : tie.After-shares-sum) → c .shares-sum .result ≡ sharesSum (c .before .before .before .before .before .before .before .before .before .before .before .before .args .packed .now)
-unfolding readingOf
-sum-asked c =
-    c .shares-sum .ensures
-    ∙ ap (λ (r : Reading). sumOf (r .figures)) (c .before .before .before .before .read .ensures)
-    ∙ sum-same (c .before .before .before .before .before .before .before .before .before .before .before .before .args .packed .now)
-    (passed (c .before .before .before .before .before .before .before))
-
-yes-4 : (c : tie.Else4) → c .before .in-ranges .result ≡ true
-yes-4 c = not-false (c .before .in-ranges .result) (c .if4 .left)
-
-listed : (c : tie.Else4) → Listable (c .before .before .read .result .figures)
-listed c = listable (c .before .before .read .result) (few (c .before .before)) (sym (c .before .in-ranges .ensures) ∙ yes-4 c)
-
-has-last-year-requires : tie.Need-has-last-year-requires
-has-last-year-requires c κs = search needs
+opens-requires : tie.Need-opens-requires
+opens-requires c κs = search needs
 
 returns : tie.Need-returns
-unfolding readAnswer firstNo
 returns c =
-    refused (c .before .before .before .args .packed .now) (c .before .before .before .args .list .now) 0
-    (rw (sym (c .before .has-last-year .ensures) ∙ not-true (c .before .has-last-year .result) (c .if1 .taken)))
-
-has-length-requires : tie.Need-has-length-requires
-has-length-requires c κs = yes-1 c
-
-returns-2 : tie.Need-returns-2
-unfolding readAnswer firstNo
-returns-2 c =
-    refused (c .before .before .before .before .before .args .packed .now) (c .before .before .before .before .before .args .list .now) 1
-    (rw (yes-1 (c .before .before), sym (c .before .has-length .ensures) ∙ not-true (c .before .has-length .result) (c .if2 .taken)))
+    let s = c .before .before .before .args .packed .now in
+    let out = c .before .before .before .args .list .now in
+    let e = c .before .opens .ensures in
+    refused s out (c .before .opens .result) (c .if1 .taken) (e ∙ not-opened s out (λ z. c .if1 .taken (e ∙ z)))
 
 has-room-requires : tie.Need-has-room-requires
-has-room-requires c κs = years-known (c .before .before .before .before .before .args .packed .now) (yes-1 (c .before .before)) .0
+has-room-requires c κs =
+    let s = c .before .before .before .args .packed .now in
+    years-known s (opening-yes s (yes-opened c) .0) .0
 
-returns-3 : tie.Need-returns-3
-unfolding readAnswer firstNo
-returns-3 c =
-    refused (c .before .before .before .before .before .before .before .args .packed .now) (c .before .before .before .before .before .before .before .args .list .now) 2
-    (rw (yes-1 (c .before .before .before .before), yes-2 (c .before .before), sym (c .before .has-room .ensures) ∙ not-true (c .before .has-room .result) (c .if3 .taken)))
+returns-2 : tie.Need-returns-2
+returns-2 c =
+    let s = c .before .before .before .before .before .args .packed .now in
+    let out = c .before .before .before .before .before .args .list .now in
+    let no = sym (c .before .has-room .ensures) ∙ not-true (c .before .has-room .result) (c .if2 .taken) in
+    refused s out 3 (λ z. absurd (omega arith)) (no-room s out (yes-opened (c .before .before)) no)
 
-read-requires : tie.Need-read-requires
-read-requires c κs = (yes-1 (c .before .before .before .before), yes-2 (c .before .before))
-
-in-ranges-requires : tie.Need-in-ranges-requires
-in-ranges-requires c κs = few c
-
-returns-4 : tie.Need-returns-4
-returns-4 c =
-    let s = c .before .before .before .before .before .before .before .before .before .before .args .packed .now in
-    let list = c .before .before .before .before .before .before .before .before .before .before .args .list .now in
-    refused s list 3
-    (out-of-range s list (yes-1 (c .before .before .before .before .before .before .before)) (yes-2 (c .before .before .before .before .before)) (yes-3 (c .before .before .before))
-    (sym (ranges-asked (c .before)) ∙ not-true (c .before .in-ranges .result) (c .if4 .taken)))
-
-shares-sum-requires : tie.Need-shares-sum-requires
-shares-sum-requires c κs = (few (c .before .before .before), listed (c .before) .reporting)
-
-returns-5 : tie.Need-returns-5
-returns-5 c =
-    let s = c .before .before .before .before .before .before .before .before .before .before .before .before .before .args .packed .now in
-    let list = c .before .before .before .before .before .before .before .before .before .before .before .before .before .args .list .now in
-    refused s list 4
-    (other-sum s list (yes-1 (c .before .before .before .before .before .before .before .before .before .before)) (yes-2 (c .before .before .before .before .before .before .before .before)) (yes-3 (c .before .before .before .before .before .before)) (sym (ranges-asked (c .before .before .before .before)) ∙ yes-4 (c .before .before .before))
-    (sym (sum-asked (c .before)) ∙ not-true (c .before .shares-sum .result) (c .if5 .taken)))
-
-put-fields-requires : tie.Need-put-fields-requires
-put-fields-requires c κs = (listed (c .before .before .before .before), room (c .before .before .before .before .before .before .before) (c .before .before .before .before .before .before .read .result) (c .before .before .before .before .before .before .read .ensures))
+read-into-requires : tie.Need-read-into-requires
+read-into-requires c κs =
+    (yes-opened (c .before .before .before), roomy (c .before .before .before .before .before .before .args .packed .now) (c .before .before .before .before .before .before .args .list .now) (yes-room (c .before)))
 
 same-length : tie.Need-same-length
 same-length c = search needs
 
-returns-6 : tie.Need-returns-6
-unfolding readInto afterCall readingOf
-returns-6 c =
-    let s = c .before .before .before .before .before .before .before .before .before .before .before .before .before .before .before .before .args .packed .now in
-    let list = c .before .before .before .before .before .before .before .before .before .before .before .before .before .before .before .before .args .list .now in
-    let yes =
-    accepted s list (yes-1 (c .before .before .before .before .before .before .before .before .before .before .before .before .before)) (yes-2 (c .before .before .before .before .before .before .before .before .before .before .before)) (yes-3 (c .before .before .before .before .before .before .before .before .before)) (sym (ranges-asked (c .before .before .before .before .before .before .before)) ∙ yes-4 (c .before .before .before .before .before .before))
-    (sym (sum-asked (c .before .before .before .before)) ∙ not-false (c .before .before .before .before .shares-sum .result) (c .before .before .before .if5 .left)) in
-    let read = ap (λ (r : Reading). sets list 0 (listOf (r .figures))) (c .before .before .before .before .before .before .before .before .read .ensures) in
-    (sym yes, rw yes (c .before .put-fields .ensures ∙ read ∙ ap (sets list 0) (list-same s (passed (c .before .before .before .before .before .before .before .before .before .before .before)))))
+returns-3 : tie.Need-returns-3
+returns-3 c =
+    let s = c .before .before .before .before .before .before .before .before .args .packed .now in
+    let out = c .before .before .before .before .before .before .before .before .args .list .now in
+    asked s out (c .before .read-into .ensures .0) (c .before .read-into .ensures .1) (room s out (yes-opened (c .before .before .before .before .before)) (yes-room (c .before .before .before)))
 
 pub doonamurk-read-spec : {M : Type 1} → statement M
 doonamurk-read-spec =
     tie.close
-    (tie.spec
-    has-last-year-requires
-    returns
-    has-length-requires
-    returns-2
-    has-room-requires
-    returns-3
-    read-requires
-    in-ranges-requires
-    returns-4
-    shares-sum-requires
-    returns-5
-    put-fields-requires
-    same-length
-    returns-6)
+    (tie.spec opens-requires returns has-room-requires returns-2 read-into-requires same-length returns-3)

@@ -1,4 +1,4 @@
--- The three runs of entries follow one another (sets-append), and the numbers fit by their ranges. Assumes nothing.
+-- The three runs of entries follow one another (sets-append). Assumes nothing.
 use borrow.Author.Needs.{needs}
 use native.Mathlib.Omega.{arith}
 use mathlib.Core.Path.{_≡_}
@@ -8,69 +8,43 @@ use lib.IntN.{pos}
 use lib.ListN.{length, set, take}
 use denote.Ref.{now}
 use Rattle.laws.proofs.Joined.{sets-append}
-use Rattle.layout.proofs.Sizes.{fields-count}
 use Rattle.rules.specs.Record.{cells}
-use Rattle.reading.specs.Reading.{triangleOf}
-use Rattle.reading.proofs.Limits.{most}
 use Rattle.entries.proofs.Runs.{length-naturals}
+use Rattle.reading.specs.Reading.{triangleFields}
 use Rattle.reading.proofs.put_triangle.Statement.{statement}
 use Rattle.reading.proofs.put_triangle.Tie as tie
 
 put-natural-requires : tie.Need-put-natural-requires
-put-natural-requires c κs =
-    let s = c .before .before .before in
-    let k = s .args .f .k in
-    (omega (arith, fields-count k), omega arith)
-
-slice-aggregate-put-naturals : tie.Need-slice-aggregate-put-naturals
-slice-aggregate-put-naturals c = search needs
+put-natural-requires c κs = search needs
 
 add-put-naturals : tie.Need-add-put-naturals
 add-put-naturals c = search needs
 
 put-naturals-requires : tie.Need-put-naturals-requires
-put-naturals-requires c κs =
-    let s = c .before .before .before .before .before .before .before in
-    let f = s .args .f in
-    let long : length (f .exposures) ≡ 16 = search needs in
-    (omega arith, (omega (arith, fields-count (f .k)), λ i h. omega (arith, most 1 1000000 (f .k + 1) (f .exposures) i h (s .pre .0 .exposures))))
-
-slice-aggregate-put-integers : tie.Need-slice-aggregate-put-integers
-slice-aggregate-put-integers c = search needs
+put-naturals-requires c κs = (search needs, (search needs, λ i h. c .before .before .before .before .before .pre .1 .0 i))
 
 cells-of-requires : tie.Need-cells-of-requires
 cells-of-requires c κs = search needs
 
 put-integers-requires : tie.Need-put-integers-requires
-put-integers-requires c κs =
-    let s = c .before .before .before .before .before .before .before .before .before .before .before .before in
-    let f = s .args .f in
-    let long : length (f .increments) ≡ 136 = search needs in
-    (omega arith, omega (arith, fields-count (f .k)))
+put-integers-requires c κs = search needs
 
 same-length : tie.Need-same-length
 same-length c = search needs
 
 returns : tie.Need-returns
-unfolding triangleOf
+unfolding triangleFields
 returns c =
-    let s = c .before .before .before .before .before .before .before .before .before .before .before .before .before .before in
-    let f = s .args .f in
-    let list = now (s .args .list) in
-    let n = f .k + 1 in
-    let long : length (f .exposures) ≡ 16 = search needs in
-    let front = map pos (take n (f .exposures)) in
-    let size : length front ≡ n = length-naturals n (f .exposures) (omega arith) in (
-      omega arith,
-      rw (
-        c .before .put-integers .ensures .1,
-        c .before .before .before .before .before .before .put-naturals .ensures .1,
-        c .before .before .before .before .before .before .before .before .before .before .put-natural .ensures .1,
-        c .before .before .before .before .before .before .put-naturals .ensures .0,
-        c .before .before .before .before .before .before .before .before .before .before .put-natural .ensures .0,
-        c .before .before .cells-of .ensures .0,
-      )
-          (sets-append front (take (cells (f .k)) (f .increments)) (set list 0 (pos (f .k))) 1 (1 + n) (omega arith)),
+    let a = c .before .before .before .before .before .before .before .before .before .before .before .before .args in
+    let natural = c .before .before .before .before .before .before .before .before .before .before .put-natural in
+    let naturals = c .before .before .before .before .before .before .put-naturals in
+    let n = a .k + 1 in
+    let long : length (now (a .exposures)) ≡ 16 = search needs in
+    let front = map pos (take n (now (a .exposures))) in
+    let size : length front ≡ n = length-naturals n (now (a .exposures)) (omega arith) in (
+      search needs,
+      rw (c .before .put-integers .ensures .1, naturals .ensures .1, natural .ensures .1, naturals .ensures .0, natural .ensures .0, c .before .before .cells-of .ensures .0)
+          (sets-append front (take (cells (a .k)) (now (a .increments))) (set (now (a .list)) 0 (pos (a .k))) 1 (1 + n) (omega arith)),
     )
 
 pub put-triangle-spec : {M : Type 1} → statement M
@@ -78,10 +52,8 @@ put-triangle-spec =
     tie.close
     (tie.spec
     put-natural-requires
-    slice-aggregate-put-naturals
     add-put-naturals
     put-naturals-requires
-    slice-aggregate-put-integers
     cells-of-requires
     put-integers-requires
     same-length

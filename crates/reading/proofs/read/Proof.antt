@@ -1,58 +1,363 @@
--- Each row lies within the record (found), and the parts together are what the record says (made). Assumes nothing.
+-- Each row lies within the record (within) and is tested by its range (found); the first row out of range ends the reading (not-read). Assumes nothing.
 use borrow.Author.Needs.{needs}
+use borrow.Author.Tests.{not-true, not-false, eq-eqb, ne-eqb}
 use native.Mathlib.Omega.{arith}
-use Rattle.reading.proofs.Rows.{Whole, whole, years-known}
-use Rattle.reading.proofs.Made.{Found, found, made}
+use mathlib.Core.Path.{_≡_, sym, ap, _∙_}
+use mathlib.Core.Bool.{true, false}
+use mathlib.Core.List.{List, map}
+use Prim.Native.Nat.{ℕ, _+_}
+use lib.Dec.{eqb}
+use lib.ListN.{getD, take}
+use lib.Seq.{sets}
+use Rattle.rules.specs.Lists.{total, every, between}
+use Rattle.rules.specs.Record.{million, increment, valueOf}
+use Rattle.rules.specs.Reading.{sharesSum}
+use Rattle.packing.specs.Field.{rowAt}
+use Rattle.layout.specs.declared.Places.{Places}
+use Rattle.reading.specs.Reading.{rowRead}
+use Rattle.reading.proofs.Rows.{Whole, whole, opening-yes, years-known}
+use Rattle.reading.proofs.Ranges.{fits, Passed, passed-more, passed-first, not-read, in-ranges, out-of-range, Within, within, Found, found}
+use Rattle.reading.proofs.Answers.{answer-4, answer-5, answer-0, one-in, one-out, row-stored, stored-most, sum-at}
 use Rattle.reading.proofs.read.Statement.{statement}
 use Rattle.reading.proofs.read.Tie as tie
 
--- the record has passed questions 1 and 2
-passed : (c : tie.After-shared-slice-known) → Whole (c .before .args .s .now)
-passed c = whole (c .before .args .s .now) (λ i. omega (arith, c .shared-slice-known .given i)) (c .before .pre .0) (c .before .pre .1)
+-- the record, its last year, and the places of its rows
+abbrev bytes : tie.After-places-of → List ℕ
+bytes c = c .before .before .before .args .s .now
 
-places : (c : tie.After-places-of) → Found (c .before .before .before .args .s .now) (c .before .last-year-of .result) (c .places-of .result)
-places c = found (passed (c .before .before)) (c .before .last-year-of .result) (c .places-of .result) (c .before .last-year-of .ensures .0) (c .places-of .ensures)
+abbrev last-year : tie.After-places-of → ℕ
+last-year c = c .before .last-year-of .result
+
+abbrev places : tie.After-places-of → Places
+places c = c .places-of .result
+
+-- the way back from where a test has said yes
+abbrev at-1 : tie.Else1 → tie.After-places-of
+at-1 c = c .before .before .before
+
+abbrev else-1 : tie.Else2 → tie.Else1
+else-1 c = c .before .before .before
+
+abbrev at-2 : tie.Else2 → tie.After-places-of
+at-2 c = at-1 (else-1 c)
+
+abbrev else-2 : tie.Else3 → tie.Else2
+else-2 c = c .before .before .before
+
+abbrev at-3 : tie.Else3 → tie.After-places-of
+at-3 c = at-2 (else-2 c)
+
+abbrev else-3 : tie.Else4 → tie.Else3
+else-3 c = c .before .before .before
+
+abbrev at-4 : tie.Else4 → tie.After-places-of
+at-4 c = at-3 (else-3 c)
+
+abbrev else-4 : tie.Else5 → tie.Else4
+else-4 c = c .before .before
+
+abbrev at-5 : tie.Else5 → tie.After-places-of
+at-5 c = at-4 (else-4 c)
+
+abbrev else-5 : tie.Else6 → tie.Else5
+else-5 c = c .before .before .before
+
+abbrev at-6 : tie.Else6 → tie.After-places-of
+at-6 c = at-5 (else-5 c)
+
+-- the record has passed questions 1 and 2
+is-whole : (c : tie.After-places-of) → Whole (bytes c)
+is-whole c = whole (bytes c) (λ i. omega (arith, c .before .before .shared-slice-known .given i)) (c .before .before .before .pre)
+
+-- each row lies within it, and is tested by its range
+rows-within : (c : tie.After-places-of) → Within (bytes c) (last-year c) (places c)
+rows-within c = within (is-whole c) (last-year c) (places c) (c .before .last-year-of .ensures .0) (c .places-of .ensures)
+
+rows-found : (c : tie.After-places-of) → Found (bytes c) (last-year c) (places c)
+rows-found c = found (is-whole c) (last-year c) (places c) (c .before .last-year-of .ensures .0) (c .places-of .ensures)
+
+-- the exposures: whether they are in range, and their array
+fits-1 : (c : tie.After-fill-row) → fits (bytes (c .before .before)) 1 ≡ c .fill-row .result
+fits-1 c = rows-found (c .before .before) .exposures .same ∙ sym (c .fill-row .ensures .0)
+
+filled-1 : (c : tie.After-fill-row)
+    → c .fill-row .last .1 .1 .1 .1 .1 .1 .0 ≡ sets (c .before .before .before .before .before .args .exposures .now) 0 (rowRead (bytes (c .before .before)) 1)
+filled-1 c = rw (rows-found (c .before .before) .exposures .read (passed-first (bytes (c .before .before)) (is-whole (c .before .before)))) (c .fill-row .ensures .1)
+
+yes-1 : (c : tie.Else1) → Passed (bytes (at-1 c)) 2
+yes-1 c =
+    let call = c .before in
+    passed-more (bytes (at-1 c)) 1 (passed-first (bytes (call .before .before)) (is-whole (call .before .before))) (fits-1 call ∙ not-false (call .fill-row .result) (c .if1 .left))
+
+-- the increments: whether they are in range, and their array
+fits-2 : (c : tie.After-fill-increments) → fits (bytes (at-1 (c .before .before))) 2 ≡ c .fill-increments .result
+fits-2 c = rows-found (at-1 (c .before .before)) .increments .same ∙ sym (c .fill-increments .ensures .0)
+
+filled-2 : (c : tie.After-fill-increments)
+    → c .fill-increments .last .1 .1 .1 .0 ≡ sets (at-1 (c .before .before) .before .before .before .args .increments .now) 0 (map (valueOf increment) (rowRead (bytes (at-1 (c .before .before))) 2))
+filled-2 c = rw (rows-found (at-1 (c .before .before)) .increments .read (yes-1 (c .before .before))) (c .fill-increments .ensures .1)
+
+yes-2 : (c : tie.Else2) → Passed (bytes (at-2 c)) 3
+yes-2 c =
+    let call = c .before in
+    passed-more (bytes (at-2 c)) 2 (yes-1 (call .before .before)) (fits-2 call ∙ not-false (call .fill-increments .result) (c .if2 .left))
+
+-- the indices: whether they are in range, and their array
+fits-3 : (c : tie.After-fill-row2) → fits (bytes (at-2 (c .before .before))) 3 ≡ c .fill-row2 .result
+fits-3 c = rows-found (at-2 (c .before .before)) .indices .same ∙ sym (c .fill-row2 .ensures .0)
+
+filled-3 : (c : tie.After-fill-row2)
+    → c .fill-row2 .last .1 .1 .1 .1 .1 .1 .0 ≡ sets (at-2 (c .before .before) .before .before .before .args .indices .now) 0 (rowRead (bytes (at-2 (c .before .before))) 3)
+filled-3 c = rw (rows-found (at-2 (c .before .before)) .indices .read (yes-2 (c .before .before))) (c .fill-row2 .ensures .1)
+
+yes-3 : (c : tie.Else3) → Passed (bytes (at-3 c)) 4
+yes-3 c =
+    let call = c .before in
+    passed-more (bytes (at-3 c)) 3 (yes-2 (call .before .before)) (fits-3 call ∙ not-false (call .fill-row2 .result) (c .if3 .left))
+
+-- the reporting shares: whether they are in range, and their array
+fits-4 : (c : tie.After-fill-row3) → fits (bytes (at-3 (c .before .before))) 4 ≡ c .fill-row3 .result
+fits-4 c = rows-found (at-3 (c .before .before)) .reporting .same ∙ sym (c .fill-row3 .ensures .0)
+
+filled-4 : (c : tie.After-fill-row3)
+    → c .fill-row3 .last .1 .1 .1 .1 .1 .1 .0 ≡ sets (at-3 (c .before .before) .before .before .before .args .reporting .now) 0 (rowRead (bytes (at-3 (c .before .before))) 4)
+filled-4 c = rw (rows-found (at-3 (c .before .before)) .reporting .read (yes-3 (c .before .before))) (c .fill-row3 .ensures .1)
+
+yes-4 : (c : tie.Else4) → Passed (bytes (at-4 c)) 5
+yes-4 c =
+    let call = c .before in
+    passed-more (bytes (at-4 c)) 4 (yes-3 (call .before .before)) (fits-4 call ∙ not-false (call .fill-row3 .result) (c .if4 .left))
+
+-- the weight, where it is in range and where it is not
+yes-5 : (c : tie.Else5) → Passed (bytes (at-5 c)) 6
+yes-5 c =
+    let s = bytes (at-5 c) in
+    let at = places (at-5 c) .weight in
+    passed-more s 5 (yes-4 (else-4 c)) (rows-found (at-5 c) .weight .same ∙ one-in s at 20 million (c .before .field .result) (c .before .field .ensures) (c .if5 .left) .0)
+
+filled-5 : (c : tie.Else5) → c .before .field .result ≡ getD (rowRead (bytes (at-5 c)) 5) 0 0
+filled-5 c =
+    let s = bytes (at-5 c) in
+    let at = places (at-5 c) .weight in
+    rw (rows-found (at-5 c) .weight .read (yes-4 (else-4 c))) (sym (one-in s at 20 million (c .before .field .result) (c .before .field .ensures) (c .if5 .left) .1))
+
+no-5 : (c : tie.Then5) → fits (bytes (at-4 (c .before .before))) 5 ≡ false
+no-5 c =
+    let p = at-4 (c .before .before) in
+    rows-found p .weight .same ∙ one-out (bytes p) (places p .weight) 20 million (c .before .field .result) (c .before .field .ensures) (c .if5 .taken) .0
+
+none-5 : (c : tie.Then5) → 0 ≡ getD (rowRead (bytes (at-4 (c .before .before))) 5) 0 0
+none-5 c =
+    let p = at-4 (c .before .before) in
+    rw (rows-found p .weight .read (yes-4 (c .before .before)))
+    (sym (one-out (bytes p) (places p .weight) 20 million (c .before .field .result) (c .before .field .ensures) (c .if5 .taken) .1))
+
+-- the ULAE totals: whether they are in range, and their array
+fits-6 : (c : tie.After-fill-row4) → fits (bytes (at-5 (c .before .before))) 6 ≡ c .fill-row4 .result
+fits-6 c = rows-found (at-5 (c .before .before)) .ulae .same ∙ sym (c .fill-row4 .ensures .0)
+
+filled-6 : (c : tie.After-fill-row4)
+    → c .fill-row4 .last .1 .1 .1 .1 .1 .1 .0 ≡ sets (at-5 (c .before .before) .before .before .before .args .ulae .now) 0 (rowRead (bytes (at-5 (c .before .before))) 6)
+filled-6 c = rw (rows-found (at-5 (c .before .before)) .ulae .read (yes-5 (c .before .before))) (c .fill-row4 .ensures .1)
+
+yes-6 : (c : tie.Else6) → Passed (bytes (at-6 c)) 7
+yes-6 c =
+    let call = c .before in
+    passed-more (bytes (at-6 c)) 6 (yes-5 (call .before .before)) (fits-6 call ∙ not-false (call .fill-row4 .result) (c .if6 .left))
 
 last-year-of-requires : tie.Need-last-year-of-requires
-last-year-of-requires c κs = years-known (c .before .args .s .now) (c .before .pre .0) .0
+last-year-of-requires c κs = years-known (c .before .args .s .now) (opening-yes (c .before .args .s .now) (c .before .pre) .0) .0
 
 places-of-requires : tie.Need-places-of-requires
 places-of-requires c κs = search needs
 
-add-read-row : tie.Need-add-read-row
-add-read-row c = search needs
+add-n : tie.Need-add-n
+add-n c = search needs
 
-read-row-requires : tie.Need-read-row-requires
-read-row-requires c κs = (places c .exposures, omega arith)
-
-read-increments-requires : tie.Need-read-increments-requires
-read-increments-requires c κs = let p = places (c .before) in (p .increments, p .few)
-
-read-row-requires-2 : tie.Need-read-row-requires-2
-read-row-requires-2 c κs = (places (c .before .before) .indices, omega arith)
-
-add-read-row-2 : tie.Need-add-read-row-2
-add-read-row-2 c = search needs
-
-read-row-requires-3 : tie.Need-read-row-requires-3
-read-row-requires-3 c κs = (places (c .before .before .before) .reporting, omega arith)
-
-field-requires : tie.Need-field-requires
-field-requires c κs = let p = places (c .before .before .before .before) .weight in record { some = p .some; narrow = p .narrow; word = p .word; short = p .short; inside = p .inside }
-
-add-read-row-3 : tie.Need-add-read-row-3
-add-read-row-3 c = search needs
-
-read-row-requires-4 : tie.Need-read-row-requires-4
-read-row-requires-4 c κs = (places (c .before .before .before .before .before) .ulae, omega arith)
+fill-row-requires : tie.Need-fill-row-requires
+fill-row-requires c κs = (rows-within (c .before) .exposures, omega (arith, c .before .before .last-year-of .ensures .1))
 
 returns : tie.Need-returns
 returns c =
-    let p = c .before .before .before .before .before .before .before in
-    made (passed (p .before .before)) (p .before .last-year-of .result) (p .places-of .result) (c .before .before .before .before .before .read-increments .result) (c .before .before .before .before .before .before .read-row .result)
-    (c .before .before .before .before .read-row2 .result) (c .before .before .before .read-row3 .result) (c .before .before .field .result) (c .before .read-row4 .result) (p .before .last-year-of .ensures .0)
-    (p .places-of .ensures) (c .before .before .before .before .before .before .read-row .ensures) (c .before .before .before .before .before .read-increments .ensures) (c .before .before .before .before .read-row2 .ensures) (c .before .before .before .read-row3 .ensures)
-    (c .before .before .field .ensures) (c .before .read-row4 .ensures)
+    let call = c .before in
+    let at = call .before .before in
+    let s = bytes at in
+    let no = fits-1 call ∙ not-true (call .fill-row .result) (c .if1 .taken) in (
+      answer-4 s (out-of-range s (is-whole at) 1 (omega arith) no),
+      (
+        rw (not-read s 5 1 (omega arith) no),
+        (filled-1 call, (rw (not-read s 2 1 (omega arith) no), (rw (not-read s 3 1 (omega arith) no), (rw (not-read s 4 1 (omega arith) no), rw (not-read s 6 1 (omega arith) no))))),
+      ),
+    )
+
+fill-increments-requires : tie.Need-fill-increments-requires
+fill-increments-requires c κs = let rows = rows-within (at-1 (c .before)) in (rows .increments, rows .few)
+
+returns-2 : tie.Need-returns-2
+returns-2 c =
+    let call = c .before in
+    let e1 = call .before .before in
+    let at = at-1 e1 in
+    let s = bytes at in
+    let no = fits-2 call ∙ not-true (call .fill-increments .result) (c .if2 .taken) in (
+      answer-4 s (out-of-range s (is-whole at) 2 (omega arith) no),
+      (
+        rw (not-read s 5 2 (omega arith) no),
+        (filled-1 (e1 .before), (filled-2 call, (rw (not-read s 3 2 (omega arith) no), (rw (not-read s 4 2 (omega arith) no), rw (not-read s 6 2 (omega arith) no))))),
+      ),
+    )
+
+fill-row-requires-2 : tie.Need-fill-row-requires-2
+fill-row-requires-2 c κs = (rows-within (at-2 (c .before)) .indices, omega (arith, at-2 (c .before) .before .last-year-of .ensures .1))
+
+returns-3 : tie.Need-returns-3
+returns-3 c =
+    let call = c .before in
+    let e2 = call .before .before in
+    let e1 = else-1 e2 in
+    let at = at-1 e1 in
+    let s = bytes at in
+    let no = fits-3 call ∙ not-true (call .fill-row2 .result) (c .if3 .taken) in (
+      answer-4 s (out-of-range s (is-whole at) 3 (omega arith) no),
+      (
+        rw (not-read s 5 3 (omega arith) no),
+        (filled-1 (e1 .before), (filled-2 (e2 .before), (filled-3 call, (rw (not-read s 4 3 (omega arith) no), rw (not-read s 6 3 (omega arith) no))))),
+      ),
+    )
+
+fill-row-requires-3 : tie.Need-fill-row-requires-3
+fill-row-requires-3 c κs = (rows-within (at-3 (c .before)) .reporting, omega (arith, at-3 (c .before) .before .last-year-of .ensures .1))
+
+returns-4 : tie.Need-returns-4
+returns-4 c =
+    let call = c .before in
+    let e3 = call .before .before in
+    let e2 = else-2 e3 in
+    let e1 = else-1 e2 in
+    let at = at-1 e1 in
+    let s = bytes at in
+    let no = fits-4 call ∙ not-true (call .fill-row3 .result) (c .if4 .taken) in (
+      answer-4 s (out-of-range s (is-whole at) 4 (omega arith) no),
+      (
+        rw (not-read s 5 4 (omega arith) no),
+        (filled-1 (e1 .before), (filled-2 (e2 .before), (filled-3 (e3 .before), (filled-4 call, rw (not-read s 6 4 (omega arith) no))))),
+      ),
+    )
+
+field-requires : tie.Need-field-requires
+field-requires c κs =
+    let row = rows-within (at-4 c) .weight in
+    record { some = row .some; narrow = row .narrow; word = row .word; short = row .short; inside = row .inside }
+
+returns-5 : tie.Need-returns-5
+returns-5 c =
+    let call = c .before in
+    let e4 = call .before in
+    let e3 = else-3 e4 in
+    let e2 = else-2 e3 in
+    let e1 = else-1 e2 in
+    let at = at-1 e1 in
+    let s = bytes at in
+    let no = no-5 c in (
+      answer-4 s (out-of-range s (is-whole at) 5 (omega arith) no),
+      (
+        none-5 c,
+        (filled-1 (e1 .before), (filled-2 (e2 .before), (filled-3 (e3 .before), (filled-4 (e4 .before), rw (not-read s 6 5 (omega arith) no))))),
+      ),
+    )
+
+fill-row-requires-4 : tie.Need-fill-row-requires-4
+fill-row-requires-4 c κs = (rows-within (at-5 (c .before)) .ulae, omega (arith, at-5 (c .before) .before .last-year-of .ensures .1))
+
+returns-6 : tie.Need-returns-6
+returns-6 c =
+    let call = c .before in
+    let e5 = call .before .before in
+    let e4 = else-4 e5 in
+    let e3 = else-3 e4 in
+    let e2 = else-2 e3 in
+    let e1 = else-1 e2 in
+    let at = at-1 e1 in
+    let s = bytes at in
+    let no = fits-6 call ∙ not-true (call .fill-row4 .result) (c .if6 .taken) in (
+      answer-4 s (out-of-range s (is-whole at) 6 (omega arith) no),
+      (
+        filled-5 e5,
+        (filled-1 (e1 .before), (filled-2 (e2 .before), (filled-3 (e3 .before), (filled-4 (e4 .before), filled-6 call)))),
+      ),
+    )
+
+-- the reporting shares in their array, and their sum
+abbrev shares-row : tie.After-places-of → List ℕ
+shares-row c = rowAt (bytes c) (places c .reporting) 20 (last-year c + 1)
+
+in-range : (c : tie.Else4) → every (between 0 million) (shares-row (at-4 c)) ≡ true
+in-range c = sym (c .before .fill-row3 .ensures .0) ∙ not-false (c .before .fill-row3 .result) (c .if4 .left)
+
+abbrev shares-array : tie.After-sum-of-arg2 → List ℕ
+shares-array c = else-4 (else-5 (c .before .before)) .before .fill-row3 .last .1 .1 .1 .1 .1 .1 .0
+
+shares : (c : tie.After-sum-of-arg2) → take (last-year (at-6 (c .before .before)) + 1) (shares-array c) ≡ shares-row (at-6 (c .before .before))
+shares c =
+    let p = at-6 (c .before .before) in
+    let e4 = else-4 (else-5 (c .before .before)) in
+    row-stored (bytes p) (places p .reporting) 20 (last-year p + 1) 0 million (p .before .before .before .args .reporting .now) (shares-array c)
+    (e4 .before .fill-row3 .ensures .1) (omega (arith, c .sum-of-arg2 .given .0, p .before .last-year-of .ensures .1)) (in-range e4)
+
+sum-asked : (c : tie.After-sum-of) → sharesSum (bytes (at-6 (c .before .before .before))) ≡ eqb (c .sum-of .result) million
+sum-asked c =
+    let p = at-6 (c .before .before .before) in
+    sum-at (is-whole p) (last-year p) (places p) (p .before .last-year-of .ensures .0) (p .places-of .ensures)
+    ∙ ap (λ (n : ℕ). eqb n million) (ap total (sym (shares (c .before))) ∙ sym (c .sum-of .ensures))
+
+sum-of-requires : tie.Need-sum-of-requires
+sum-of-requires c κs =
+    let p = at-6 (c .before .before) in
+    let few = p .before .last-year-of .ensures .1 in (
+      omega (arith, c .sum-of-arg2 .given .0),
+      (
+        omega arith,
+        λ i h. omega (arith, stored-most 0 million (last-year p + 1) (shares-array c) (shares-row p) (shares c) (in-range (else-4 (else-5 (c .before .before)))) i h),
+      ),
+    )
+
+returns-7 : tie.Need-returns-7
+returns-7 c =
+    let e6 = c .before .before .before .before in
+    let e5 = else-5 e6 in
+    let e4 = else-4 e5 in
+    let e3 = else-3 e4 in
+    let e2 = else-2 e3 in
+    let e1 = else-1 e2 in
+    let s = bytes (at-1 e1) in
+    let answer =
+    answer-5 s (in-ranges s (is-whole (at-1 e1)) (yes-6 e6))
+    (sum-asked (c .before) ∙ ne-eqb (c .before .sum-of .result) million (c .if7 .taken)) in (
+      answer,
+      (
+        filled-5 e5,
+        (filled-1 (e1 .before), (filled-2 (e2 .before), (filled-3 (e3 .before), (filled-4 (e4 .before), filled-6 (e6 .before))))),
+      ),
+    )
+
+returns-8 : tie.Need-returns-8
+returns-8 c =
+    let e6 = c .before .before .before .before in
+    let e5 = else-5 e6 in
+    let e4 = else-4 e5 in
+    let e3 = else-3 e4 in
+    let e2 = else-2 e3 in
+    let e1 = else-1 e2 in
+    let s = bytes (at-1 e1) in
+    let answer =
+    answer-0 s (in-ranges s (is-whole (at-1 e1)) (yes-6 e6))
+    (sum-asked (c .before) ∙ eq-eqb (c .before .sum-of .result) million (c .if7 .left)) in (
+      answer,
+      (
+        filled-5 e5,
+        (filled-1 (e1 .before), (filled-2 (e2 .before), (filled-3 (e3 .before), (filled-4 (e4 .before), filled-6 (e6 .before))))),
+      ),
+    )
 
 pub read-spec : {M : Type 1} → statement M
 read-spec =
@@ -60,13 +365,19 @@ read-spec =
     (tie.spec
     last-year-of-requires
     places-of-requires
-    add-read-row
-    read-row-requires
-    read-increments-requires
-    read-row-requires-2
-    add-read-row-2
-    read-row-requires-3
+    add-n
+    fill-row-requires
+    returns
+    fill-increments-requires
+    returns-2
+    fill-row-requires-2
+    returns-3
+    fill-row-requires-3
+    returns-4
     field-requires
-    add-read-row-3
-    read-row-requires-4
-    returns)
+    returns-5
+    fill-row-requires-4
+    returns-6
+    sum-of-requires
+    returns-7
+    returns-8)

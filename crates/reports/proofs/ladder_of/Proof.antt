@@ -8,11 +8,11 @@ use native.Mathlib.Omega.{arith}
 use Prim.Native.Nat.{ℕ, suc, _+_, _-_, _≤_}
 use lib.IntN.{pos, natAbs}
 use lib.ListN.{getD, set}
+use Rattle.rules.specs.Triangle.{futureStart}
 use Rattle.rules.specs.Lists.{upTo, padded}
-use Rattle.rules.specs.Demand.{futureStart}
 use Rattle.laws.proofs.Padded.{filled-none, filled-more}
 use Rattle.page.specs.Page.{ladderUltimate}
-use Rattle.page.proofs.Sections.{start-more}
+use Rattle.listing.proofs.Known.{start-more}
 use Rattle.reports.proofs.Accepted.{ladder-room, ladder-entry}
 use Rattle.reports.proofs.ladder_of.Statement.{statement}
 use Rattle.reports.proofs.ladder_of.Tie as tie

@@ -1,75 +1,66 @@
--- The figures that are read again are those of the run (figures-are), so the page is the report (page-is). Assumes nothing.
-use mathlib.Core.Path.{sym}
-use native.Mathlib.Omega.{arith}
-use Rattle.rules.specs.Packing.{Fit}
-use Rattle.composing.proofs.Puts.{put-same}
-use Rattle.page.proofs.Sections.{at-starts}
-use Rattle.reports.proofs.Accepted.{years, long, sound, cumulatives, ladder-small, page-is, figures-are}
+-- The page of the list and of what is paid is the report (page-is). Assumes nothing.
 use borrow.Author.Needs.{needs}
+use mathlib.Core.Path.{refl}
+use Rattle.rules.specs.Record.{figuresOf}
+use Rattle.composing.proofs.Puts.{put-same}
+use Rattle.listing.proofs.Known.{at-starts}
+use Rattle.reading.proofs.Rows.{years-known, opening-yes}
+use Rattle.reports.proofs.Accepted.{opening, ladder-fits, page-is}
 use Rattle.reports.proofs.put_accepted.Statement.{statement}
 use Rattle.reports.proofs.put_accepted.Tie as tie
 
-read-requires : tie.Need-read-requires
-read-requires c κs =
+last-year-of-requires : tie.Need-last-year-of-requires
+last-year-of-requires c κs =
     let s = c .before .before in
-    (years (s .args .packed .now) (s .pre .0), long (s .args .packed .now) (s .pre .0))
-
-paid-of-requires : tie.Need-paid-of-requires
-paid-of-requires c κs =
-    let s = c .before .before .before .before in
     let packed = s .args .packed .now in
-    let ok = s .pre .0 in
-    let bytes : Fit 8 packed = λ i. omega (arith, c .before .before .shared-slice-known .given i) in
-    let figures = figures-are packed (c .before .read .result) (c .before .read .ensures) in
-    rw figures (sound packed ok bytes, cumulatives packed ok)
+    years-known packed (opening-yes packed (opening packed (s .pre .0)) .0) .0
+
+fill-paid-requires : tie.Need-fill-paid-requires
+fill-paid-requires c κs = (c .before .before .before .before .pre .0, refl)
 
 starts-of-requires : tie.Need-starts-of-requires
-starts-of-requires c κs =
-    let s = c .before .before .before .before .before .before in
-    let packed = s .args .packed .now in
-    let ok = s .pre .0 in
-    let bytes : Fit 8 packed = λ i. omega (arith, c .before .before .before .before .shared-slice-known .given i) in
-    let figures = figures-are packed (c .before .before .before .read .result) (c .before .before .before .read .ensures) in
-    rw figures (sound packed ok bytes .few)
+starts-of-requires c κs = c .before .before .before .last-year-of .ensures .1
 
 ladder-of-requires : tie.Need-ladder-of-requires
 ladder-of-requires c κs =
-    let s = c .before .before .before .before .before .before .before in
-    let packed = s .args .packed .now in
-    let ok = s .pre .0 in
-    let bytes : Fit 8 packed = λ i. omega (arith, c .before .before .before .before .before .shared-slice-known .given i) in
-    let figures = figures-are packed (c .before .before .before .before .read .result) (c .before .before .before .before .read .ensures) in
-    let few = rw (sym figures) at (sound packed ok bytes .few) in
-    (few, at-starts (c .starts-of .result) (c .before .before .before .before .read .result .figures .k) (c .starts-of .ensures) .completed)
+    let year = c .before .before .before .before in
+    (year .last-year-of .ensures .1, at-starts (c .starts-of .result) (year .last-year-of .result) (c .starts-of .ensures) .completed)
 
 put-form-requires : tie.Need-put-form-requires
+unfolding figuresOf
 put-form-requires c κs =
-    let s = c .before .before .before .before .before .before .before .before .before .before .before in
-    let packed = s .args .packed .now in
-    let ok = s .pre .0 in
-    let bytes : Fit 8 packed = λ i. omega (arith, c .before .before .before .before .before .before .before .before .before .shared-slice-known .given i) in
-    let figures = figures-are packed (c .before .before .before .before .before .before .before .before .read .result) (c .before .before .before .before .before .before .before .before .read .ensures) in
-    let paid = c .before .before .before .before .before .before .paid-of in
-    let small = ladder-small packed ok bytes (paid .result) (paid .ensures .1) in
-    (rw figures (sound packed ok bytes .few), (paid .ensures .1, rw (c .before .before .before .ladder-of .ensures, s .pre .1, figures) small))
+    let year = c .before .before .before .before .before .before .before .before in
+    let s = year .before .before .before in
+    let paid = c .before .before .before .before .before .before .fill-paid in (
+      year .last-year-of .ensures .1,
+      (
+        paid .ensures .1,
+        ladder-fits (s .args .packed .now) (s .pre .0) (year .last-year-of .result) (s .args .list .now) _ _ (year .last-year-of .ensures .0) (s .pre .1) (paid .ensures .1)
+            (c .before .before .before .ladder-of .ensures),
+      ),
+    )
 
 same-length : tie.Need-same-length
 same-length c = search needs
 
 returns : tie.Need-returns
 returns c =
-    let s = c .before .before .before .before .before .before .before .before .before .before .before .before .before .before in
-    let packed = s .args .packed .now in
-    let figures = figures-are packed (c .before .before .before .before .before .before .before .before .before .before .before .read .result) (c .before .before .before .before .before .before .before .before .before .before .before .read .ensures) in
-    let page = page-is packed (s .pre .0) (s .args .html) (c .before .before .before .before .before .before .before .before .before .before .before .read .result .figures) (s .args .list .now) (c .before .before .before .before .before .before .before .before .before .paid-of .result) (c .before .before .before .before .before .before .ladder-of .result) figures (s .pre .1) (c .before .before .before .before .before .before .before .before .before .paid-of .ensures .0) (c .before .before .before .before .before .before .ladder-of .ensures) in
-    put-same page (c .before .before .put-form .ensures)
+    let put = c .before .before in
+    let ladder = put .before in
+    let year = ladder .before .before .before .before .before .before .before .before in
+    let s = year .before .before .before in
+    let paid = ladder .before .before .before .before .before .before .fill-paid in
+    put-same
+    (page-is (s .args .packed .now) (s .pre .0) (s .args .html) (year .last-year-of .result) (s .args .list .now) _ _ (year .last-year-of .ensures .0) (s .pre .1) (paid .ensures .0)
+    (ladder .before .before .before .ladder-of .ensures))
+    (put .put-form .ensures)
 
 pub put-accepted-spec : {M : Type 1} → statement M
 put-accepted-spec =
     tie.close
     (tie.spec
-    read-requires
-    paid-of-requires
+    last-year-of-requires
+    fill-paid-requires
     starts-of-requires
     ladder-of-requires
     put-form-requires

@@ -1,11 +1,8 @@
 -- The measures are 2 × h for the share and 2 × h + 1 for the level: each call falls by one. Assumes nothing.
+use mathlib.Core.Path.{_∙_}
 use native.Mathlib.Nat.{le-refl}
 use native.Mathlib.Omega.{arith}
-use mathlib.Core.Path.{ap₂, _∙_}
-use mathlib.Core.Logic.{⊎-elim}
-use Rattle.rules.specs.declared.Factors.{Factors}
-use Rattle.separation.specs.Walk.{withLevel, levelWalk}
-use Rattle.separation.proofs.Steps.{ready-below, share-first, share-next}
+use Rattle.separation.proofs.Steps.{ready-below, first-year, next-year}
 use Prim.Native.Nat.{ℕ, _+_, _-_, _*_, _<_}
 use borrow.Fn.Kinds.{In}
 use borrow.Fn.PlainCycle.{Measures, is, falls, and}
@@ -18,6 +15,7 @@ use Rattle.separation.proofs.+level_step+share_step.Lts-share_step as s
 use Rattle.separation.proofs.level_of.Reads as level-of-reads
 use Rattle.separation.proofs.no_factors.Reads as no-factors-reads
 use Rattle.separation.proofs.running_below.Reads as running-below-reads
+use Rattle.separation.proofs.with_year.Reads as with-year-reads
 use Rattle.separation.proofs.+level_step+share_step.{statement}
 use Rattle.separation.proofs.+level_step+share_step.Tie.{close}
 
@@ -25,7 +23,7 @@ abbrev μ-level-step : Measures 3 level-step-kinds.ps ℕ
 μ-level-step κs a = 2 * a .1 .1 .1 .1 .1 .0 + 1
 
 abbrev μ-share-step : Measures 3 share-step-kinds.ps ℕ
-μ-share-step κs a = 2 * a .1 .1 .1 .1 .1 .0
+μ-share-step κs a = 2 * a .1 .1 .1 .1 .1 .1 .0
 
 abbrev level-step-at : ℕ → In 3 level-step-kinds.ps
 level-step-at t =
@@ -57,23 +55,7 @@ level-step-share-step-requires : (t : ℕ) → level-step-lts.Need-share-step-re
   share-step-below t,
   share-step.Post,
 ) (level-step-at t) level-step.Post
-level-step-share-step-requires t c κs = (omega arith, c .before .pre .1)
-
-level-step-mul-f : (t : ℕ) → level-step-lts.Need-mul-f (
-  level-of-reads.Asked,
-  level-of-reads.Learnt,
-  share-step-below t,
-  share-step.Post,
-) (level-step-at t) level-step.Post
-level-step-mul-f t c = omega arith
-
-level-step-element-write-f : (t : ℕ) → level-step-lts.Need-element-write-f (
-  level-of-reads.Asked,
-  level-of-reads.Learnt,
-  share-step-below t,
-  share-step.Post,
-) (level-step-at t) level-step.Post
-level-step-element-write-f t c = omega arith
+level-step-share-step-requires t c κs = (omega arith, (c .before .pre .1 .0, (c .before .pre .1 .1 .0, (c .before .pre .1 .1 .1, c .level-of .ensures))))
 
 level-step-returns : (t : ℕ) → level-step-lts.Need-returns (
   level-of-reads.Asked,
@@ -81,16 +63,15 @@ level-step-returns : (t : ℕ) → level-step-lts.Need-returns (
   share-step-below t,
   share-step.Post,
 ) (level-step-at t) level-step.Post
-unfolding levelWalk
-level-step-returns t c =
-    let s = c .before .before in
-    ap₂ (λ (f : Factors) (l : ℕ). withLevel f (s .args .h) l) (c .share-step .ensures) (c .before .level-of .ensures)
+level-step-returns t c = c .share-step .ensures
 
 share-step-running-below-requires : (t : ℕ) → share-step-lts.Need-running-below-requires (
   running-below-reads.Asked,
   running-below-reads.Learnt,
   level-step-below t,
   level-step.Post,
+  with-year-reads.Asked,
+  with-year-reads.Learnt,
   no-factors-reads.Asked,
   no-factors-reads.Learnt,
 ) (share-step-at t) share-step.Post
@@ -98,13 +79,15 @@ share-step-running-below-requires t c κs =
     let s = c .before in
     let r = s .pre .1 .0 in
     let h = s .args .h in
-    (r .rest h (omega arith) (le-refl h), (r .corner h (le-refl h), s .pre .1 .1))
+    (r .rest h (omega arith) (le-refl h), (r .corner h (le-refl h), (s .pre .1 .1 .0, s .pre .1 .1 .1 .0)))
 
 share-step-sub-level-step : (t : ℕ) → share-step-lts.Need-sub-level-step (
   running-below-reads.Asked,
   running-below-reads.Learnt,
   level-step-below t,
   level-step.Post,
+  with-year-reads.Asked,
+  with-year-reads.Learnt,
   no-factors-reads.Asked,
   no-factors-reads.Learnt,
 ) (share-step-at t) share-step.Post
@@ -115,6 +98,8 @@ share-step-level-step-requires : (t : ℕ) → share-step-lts.Need-level-step-re
   running-below-reads.Learnt,
   level-step-below t,
   level-step.Post,
+  with-year-reads.Asked,
+  with-year-reads.Learnt,
   no-factors-reads.Asked,
   no-factors-reads.Learnt,
 ) (share-step-at t) share-step.Post
@@ -124,64 +109,88 @@ share-step-level-step-requires t c κs =
     let low = ready-below (s .args .columns .now) (s .args .diagonals .now) (s .args .corners .now) h (h - 1) (omega arith) (s .pre .1 .0) in
     (omega arith, (low, (omega (arith, c .running-below .ensures .1), omega arith)))
 
-share-step-sub-share : (t : ℕ) → share-step-lts.Need-sub-share (
+share-step-sub-with-year : (t : ℕ) → share-step-lts.Need-sub-with-year (
   running-below-reads.Asked,
   running-below-reads.Learnt,
   level-step-below t,
   level-step.Post,
+  with-year-reads.Asked,
+  with-year-reads.Learnt,
   no-factors-reads.Asked,
   no-factors-reads.Learnt,
 ) (share-step-at t) share-step.Post
-share-step-sub-share t c = omega (arith, c .before .running-below .ensures .1)
+share-step-sub-with-year t c = omega (arith, c .before .running-below .ensures .1)
 
-share-step-no-factors-requires : (t : ℕ) → share-step-lts.Need-no-factors-requires (
+share-step-with-year-requires : (t : ℕ) → share-step-lts.Need-with-year-requires (
   running-below-reads.Asked,
   running-below-reads.Learnt,
   level-step-below t,
   level-step.Post,
+  with-year-reads.Asked,
+  with-year-reads.Learnt,
   no-factors-reads.Asked,
   no-factors-reads.Learnt,
 ) (share-step-at t) share-step.Post
-share-step-no-factors-requires t c κs = tt
-
-share-step-mul-f : (t : ℕ) → share-step-lts.Need-mul-f (
-  running-below-reads.Asked,
-  running-below-reads.Learnt,
-  level-step-below t,
-  level-step.Post,
-  no-factors-reads.Asked,
-  no-factors-reads.Learnt,
-) (share-step-at t) share-step.Post
-share-step-mul-f t c = omega arith
-
-share-step-element-write-f : (t : ℕ) → share-step-lts.Need-element-write-f (
-  running-below-reads.Asked,
-  running-below-reads.Learnt,
-  level-step-below t,
-  level-step.Post,
-  no-factors-reads.Asked,
-  no-factors-reads.Learnt,
-) (share-step-at t) share-step.Post
-share-step-element-write-f t c = omega arith
+share-step-with-year-requires t c κs = omega arith
 
 share-step-returns : (t : ℕ) → share-step-lts.Need-returns (
   running-below-reads.Asked,
   running-below-reads.Learnt,
   level-step-below t,
   level-step.Post,
+  with-year-reads.Asked,
+  with-year-reads.Learnt,
   no-factors-reads.Asked,
   no-factors-reads.Learnt,
 ) (share-step-at t) share-step.Post
-share-step-returns t c =
-    let s = c .before in
-    let v = s .args .columns .now in
-    let d = s .args .diagonals .now in
-    let t = s .args .corners .now in
-    ⊎-elim
-    (λ w.
-    share-next v d t (s .args .a) (s .args .k) (s .args .h) _ _ _ (w .0 .taken) (w .1 .ensures .0) (w .3 ∙ w .2 .ensures) (w .4))
-    (λ w. share-first v d t (s .args .a) (s .args .k) (s .args .h) _ _ (w .0 .left) (w .2 ∙ w .1 .ensures) (w .3))
-    (c .if1 .came)
+share-step-returns t c s of corners l e =
+    let g = c .before .before .before .before in
+    let f = c .before in
+    let next = f .before .running-below in
+    c .with-year .ensures
+    ∙ next-year (g .args .k) (g .args .columns .now) (g .args .diagonals .now) (g .args .corners .now) (g .args .a) (g .args .level) (g .args .h) (next .result) (f .level-step .result)
+    (omega arith) (omega arith) (next .ensures .0) (g .pre .1 .1 .1 .1) (f .level-step .ensures) s of corners l e
+
+share-step-no-factors-requires : (t : ℕ) → share-step-lts.Need-no-factors-requires (
+  running-below-reads.Asked,
+  running-below-reads.Learnt,
+  level-step-below t,
+  level-step.Post,
+  with-year-reads.Asked,
+  with-year-reads.Learnt,
+  no-factors-reads.Asked,
+  no-factors-reads.Learnt,
+) (share-step-at t) share-step.Post
+share-step-no-factors-requires t c κs = tt
+
+share-step-with-year-requires-2 : (t : ℕ) → share-step-lts.Need-with-year-requires-2 (
+  running-below-reads.Asked,
+  running-below-reads.Learnt,
+  level-step-below t,
+  level-step.Post,
+  with-year-reads.Asked,
+  with-year-reads.Learnt,
+  no-factors-reads.Asked,
+  no-factors-reads.Learnt,
+) (share-step-at t) share-step.Post
+share-step-with-year-requires-2 t c κs = omega arith
+
+share-step-returns-2 : (t : ℕ) → share-step-lts.Need-returns-2 (
+  running-below-reads.Asked,
+  running-below-reads.Learnt,
+  level-step-below t,
+  level-step.Post,
+  with-year-reads.Asked,
+  with-year-reads.Learnt,
+  no-factors-reads.Asked,
+  no-factors-reads.Learnt,
+) (share-step-at t) share-step.Post
+share-step-returns-2 t c s of corners l e =
+    let g = c .before .before .before in
+    let f = c .before .no-factors in
+    c .with-year2 .ensures
+    ∙ first-year (g .args .k) (g .args .columns .now) (g .args .diagonals .now) (g .args .corners .now) (g .args .a) (g .args .level) (g .args .h) (f .result)
+    (omega arith) (f .ensures) (g .pre .1 .1 .1 .1) s of corners l e
 
 pub +level-step+share-step-spec : {M : Type 1} → statement M
 +level-step+share-step-spec = close μ-level-step μ-share-step (λ t. level-step-lts.spec (
@@ -194,14 +203,14 @@ pub +level-step+share-step-spec : {M : Type 1} → statement M
     level-step.Post
     (level-step-level-of-requires t)
     (level-step-share-step-requires t)
-    (level-step-mul-f t)
-    (level-step-element-write-f t)
     (level-step-returns t))
     λ t. share-step-lts.spec (
       running-below-reads.Asked,
       running-below-reads.Learnt,
       level-step-below t,
       level-step.Post,
+      with-year-reads.Asked,
+      with-year-reads.Learnt,
       no-factors-reads.Asked,
       no-factors-reads.Learnt,
     )
@@ -210,8 +219,9 @@ pub +level-step+share-step-spec : {M : Type 1} → statement M
     (share-step-running-below-requires t)
     (share-step-sub-level-step t)
     (share-step-level-step-requires t)
-    (share-step-sub-share t)
-    (share-step-no-factors-requires t)
-    (share-step-mul-f t)
-    (share-step-element-write-f t)
+    (share-step-sub-with-year t)
+    (share-step-with-year-requires t)
     (share-step-returns t)
+    (share-step-no-factors-requires t)
+    (share-step-with-year-requires-2 t)
+    (share-step-returns-2 t)

@@ -1,13 +1,10 @@
 -- A division by 0 is 0, and no diagonal is above S, so that the product fits. Assumes nothing.
 use borrow.Author.Needs.{needs}
-use mathlib.Core.Path.{refl}
 use native.Mathlib.Nat.{div-zero}
-use Rattle.separation.specs.Walk.{levelAt}
 use Rattle.separation.proofs.level_of.Statement.{statement}
 use Rattle.separation.proofs.level_of.Tie as tie
 
 returns : tie.Need-returns
-unfolding levelAt
 returns c = rw (c .if1 .taken, div-zero)
 
 mul-result : tie.Need-mul-result
@@ -23,8 +20,7 @@ div-result : tie.Need-div-result
 div-result c = search needs
 
 returns-2 : tie.Need-returns-2
-unfolding levelAt
-returns-2 c = refl
+returns-2 c = search needs
 
 pub level-of-spec : {M : Type 1} → statement M
 level-of-spec =

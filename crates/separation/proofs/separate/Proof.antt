@@ -1,119 +1,180 @@
--- Question 7 of the totals is question 7 of the square, and the walk over their sizes answers the rest. Assumes nothing.
-use borrow.Author.Needs.{needs}
-use borrow.Author.Tests.{not-true, not-false}
-use mathlib.Core.Path.{_≡_, sym, _∙_}
+-- Question 7 of the totals, question 8 of the totals T, and questions 9 and 10 of the factors of the walk: each that says no gives its number.
+-- Assumes nothing.
+use mathlib.Core.Path.{_≡_, refl, sym, ap, _∙_}
 use mathlib.Core.Bool.{true}
 use Prim.Native.Nat.{ℕ, _≤_}
+use native.Mathlib.Nat.{le-refl}
 use native.Mathlib.Omega.{arith}
+use borrow.Author.Needs.{needs}
+use borrow.Author.Tests.{not-true, not-false}
 use lib.IntN.{pos, natAbs}
 use lib.ListN.{getD}
 use Rattle.rules.specs.Triangle.{columnTotal, diagonalTotal}
-use Rattle.rules.specs.Separation.{columnOf, diagonalOf, totalsPass}
-use Rattle.separation.proofs.Sizes.{Sizes, column-small, diagonal-small, total-at, totals-small, size-at}
-use Rattle.separation.proofs.Totals.{walkable}
-use Rattle.separation.proofs.Questions.{seven, refuse-seven, walk-is}
+use Rattle.rules.specs.Separation.{columnOf, diagonalOf, totalsPass, restsPass, separateAnswer, factorsOf}
+use Rattle.totals.proofs.Most.{diagonal-most}
+use Rattle.separation.specs.Walk.{TotalsOf, CornersOf, factorsTo}
+use Rattle.separation.proofs.Totals.{listed, column-small, ready}
+use Rattle.separation.proofs.Steps.{latest-running}
+use Rattle.separation.proofs.Questions.{seven, answer-seven, answer-eight, answer-factors, none-back, factors-back}
 use Rattle.separation.proofs.separate.Statement.{statement}
 use Rattle.separation.proofs.separate.Tie as tie
 
-column-totals-requires : tie.Need-column-totals-requires
-column-totals-requires c κs = search needs
+fill-columns-requires : tie.Need-fill-columns-requires
+fill-columns-requires c κs = search needs
 
-diagonal-totals-requires : tie.Need-diagonal-totals-requires
-diagonal-totals-requires c κs = search needs
+fill-diagonals-requires : tie.Need-fill-diagonals-requires
+fill-diagonals-requires c κs = search needs
 
 add-totals-pass : tie.Need-add-totals-pass
 add-totals-pass c = search needs
 
--- the totals are far from wrapping
-columns-small : (c : tie.After-column-totals) (i : ℕ) → natAbs (getD (c .column-totals .result) i (pos 0)) ≤ 100000000000000
-columns-small c =
-    let s = c .before in
-    totals-small (columnTotal (s .args .square .now)) _ (c .column-totals .ensures) _ (column-small (s .args .square .now) (s .pre .1 .0))
+-- the columns and the diagonals in their lists
+column-at : (c : tie.After-d) (i : ℕ) → i ≤ c .before .before .before .before .before .before .before .before .args .k
+    → getD (c .before .before .before .before .before .before .fill-columns .last .1 .1 .0) i (pos 0) ≡ columnTotal (c .before .before .before .before .before .before .before .before .args .square .now) i
+column-at c =
+    let at = c .before .before .before .before .before .before in
+    let s = at .before .before in
+    listed (columnTotal (s .args .square .now)) (s .args .k) _ (s .pre .0) (at .fill-columns .ensures)
 
-diagonals-small : (c : tie.After-diagonal-totals) (i : ℕ) → natAbs (getD (c .diagonal-totals .result) i (pos 0)) ≤ 100000000000000
-diagonals-small c =
-    let s = c .before .before in
-    totals-small (diagonalTotal (s .args .square .now)) _ (c .diagonal-totals .ensures) _ (diagonal-small (s .args .square .now) (s .pre .1 .0))
+diagonal-at : (c : tie.After-d) (i : ℕ) → i ≤ c .before .before .before .before .before .before .before .before .args .k
+    → getD (c .before .before .before .before .fill-diagonals .last .1 .1 .0) i (pos 0) ≡ diagonalTotal (c .before .before .before .before .before .before .before .before .args .square .now) i
+diagonal-at c =
+    let at = c .before .before .before .before in
+    let s = at .before .before .before .before in
+    listed (diagonalTotal (s .args .square .now)) (s .args .k) _ (s .pre .0) (at .fill-diagonals .ensures)
 
 totals-pass-requires : tie.Need-totals-pass-requires
-totals-pass-requires c κs = (omega arith, columns-small (c .before .before .before))
+totals-pass-requires c κs =
+    let s = c .before .before .before .before .before .before .before .before in (
+      omega arith,
+      (λ i l. rw (column-at c i (omega arith)) (column-small (s .args .square .now) (s .pre .1 .0) i (omega arith)), (refl, refl)),
+    )
 
 -- what question 7 answers
-asked : (c : tie.After-totals-pass) →
-    let s = c .before .before .before .before .before in
-    c .totals-pass .result ≡ totalsPass (s .args .square .now) (s .args .k)
+abbrev start : tie.After-totals-pass → tie.Start
+start c = c .before .before .before .before .before .before .before .before .before
+
+asked : (c : tie.After-totals-pass) → c .totals-pass .result ≡ totalsPass (start c .args .square .now) (start c .args .k)
 asked c =
-    let diagonals = c .before .before .before in
-    let columns = diagonals .before in
-    let s = columns .before in
-    c .totals-pass .ensures
-    ∙ seven (s .args .square .now) (s .args .k) (s .pre .0) (s .pre .1 .1) (columns .column-totals .result) (diagonals .diagonal-totals .result)
-    (λ i l. total-at (columnTotal (s .args .square .now)) _ (columns .column-totals .ensures) i (omega arith))
-    (λ i l. total-at (diagonalTotal (s .args .square .now)) _ (diagonals .diagonal-totals .ensures) i (omega arith))
+    let s = start c in
+    let diagonals = c .before .before .before .before .before in
+    c .totals-pass .ensures .0
+    ∙ seven (s .args .square .now) (s .args .k) (s .pre .0) (s .pre .1 .1) (diagonals .before .before .fill-columns .last .1 .1 .0) (diagonals .fill-diagonals .last .1 .1 .0)
+    (column-at (c .before)) (diagonal-at (c .before))
 
 refused-requires : tie.Need-refused-requires
 refused-requires c κs = search needs
 
 returns : tie.Need-returns
 returns c =
-    let at = c .before .before in
-    let s = at .before .before .before .before .before in
-    let no = refuse-seven (s .args .square .now) (s .args .k) (sym (asked at) ∙ not-true _ (c .before .if1 .taken)) in
-    (c .refused .ensures .0 ∙ sym (no .0), c .refused .ensures .1 ∙ sym (no .1))
+    let s = start (c .before .before) in
+    let no = answer-seven (s .args .square .now) (s .args .k) (sym (asked (c .before .before)) ∙ not-true _ (c .before .if1 .taken)) in
+    (c .refused .ensures .0 ∙ no, c .refused .ensures .1 ∙ none-back (s .args .square .now) (s .args .k) 7 no (λ z. absurd (omega arith)))
 
-sizes-of-requires : tie.Need-sizes-of-requires
-sizes-of-requires c κs = columns-small (c .before .before .before .before .before .before)
-
-sizes-of-requires-2 : tie.Need-sizes-of-requires-2
-sizes-of-requires-2 c κs = diagonals-small (c .before .before .before .before .before .before .before)
-
--- the walk is made over the sizes of the totals, which question 7 has passed
-yes-seven : (c : tie.Else1) →
-    let s = c .before .before .before .before .before .before in
-    totalsPass (s .args .square .now) (s .args .k) ≡ true
-yes-seven c = sym (asked (c .before)) ∙ not-false _ (c .if1 .left)
-
-sized : (c : tie.After-sizes-of2) →
-    let s = c .before .before .before .before .before .before .before .before .before .before in
-    Sizes (s .args .square .now) (s .args .k) (c .before .before .sizes-of .result) (c .sizes-of2 .result)
+-- where it says yes, the lists hold the totals
+totals : (c : tie.Else1) → TotalsOf (start (c .before) .args .square .now) (start (c .before) .args .k) (c .before .totals-pass .last .1 .1 .1 .0) (c .before .totals-pass .last .1 .1 .1 .1 .0)
 unfolding columnOf diagonalOf
-sized c =
-    let diagonals = c .before .before .before .before .before .before .before .before in
-    let columns = diagonals .before in
-    let s = columns .before in
+totals c =
+    let s = start (c .before) in
+    let pass = not-false _ (c .if1 .left) in
+    let sizes = c .before .totals-pass .ensures .1 pass in
     record {
-      column = λ h l.
-          size-at (columnTotal (s .args .square .now)) _ (columns .column-totals .ensures) _ (c .before .before .sizes-of .ensures) h (omega arith);
-      diagonal = λ h l.
-          size-at (diagonalTotal (s .args .square .now)) _ (diagonals .diagonal-totals .ensures) _ (c .sizes-of2 .ensures) h (omega arith);
+      few = s .pre .0;
+      outside = s .pre .1 .1;
+      pass = sym (asked (c .before)) ∙ pass;
+      column = λ h l. sizes .0 h (omega arith) ∙ ap natAbs (column-at (c .before .before) h l);
+      diagonal = λ h l. sizes .1 h (omega arith) ∙ ap natAbs (diagonal-at (c .before .before) h l);
     }
 
-walk-requires : tie.Need-walk-requires
-walk-requires c κs =
-    let at = c .before .before in
-    let passed = at .before .before .before .before in
-    let s = passed .before .before .before .before .before .before in
-    walkable (s .args .square .now) (s .args .k) (s .pre .0) (s .pre .1 .1) (yes-seven passed) _ _ (sized at)
+fill-corners-requires : tie.Need-fill-corners-requires
+fill-corners-requires c κs =
+    let at = c .before .before .before in
+    let s = start (at .before) in
+    let of = totals at in (
+      s .pre .0,
+      (λ i l. rw (of .diagonal i l) (diagonal-most (s .args .square .now) (s .args .k) (s .pre .0) (s .pre .1 .1) (of .pass) i l), refl),
+    )
+
+refused-requires-2 : tie.Need-refused-requires-2
+refused-requires-2 c κs = search needs
 
 returns-2 : tie.Need-returns-2
 returns-2 c =
+    let at = c .before .before .before .before .before .before in
+    let s = start (at .before) in
+    let of = totals at in
+    let rests = sym (c .before .before .fill-corners .ensures (s .args .square .now) of .0) ∙ not-true _ (c .before .if2 .taken) in
+    let no = answer-eight (s .args .square .now) (s .args .k) (of .pass) rests in
+    (c .refused2 .ensures .0 ∙ no, c .refused2 .ensures .1 ∙ none-back (s .args .square .now) (s .args .k) 8 no (λ z. absurd (omega arith)))
+
+-- where question 8 says yes, the list holds the totals T
+abbrev passed : tie.Else2 → tie.Else1
+passed c = c .before .before .before .before .before
+
+abbrev first : tie.Else2 → tie.Start
+first c = start (passed c .before)
+
+yes-eight : (c : tie.Else2) → restsPass (first c .args .square .now) (first c .args .k) ≡ true
+yes-eight c = sym (c .before .fill-corners .ensures (first c .args .square .now) (totals (passed c)) .0) ∙ not-false _ (c .if2 .left)
+
+corners : (c : tie.Else2) → CornersOf (first c .args .square .now) (first c .args .k) (c .before .fill-corners .last .1 .1 .1 .0)
+corners c = c .before .fill-corners .ensures (first c .args .square .now) (totals (passed c)) .1 (not-false _ (c .if2 .left))
+
+level-step-requires : tie.Need-level-step-requires
+level-step-requires c κs =
     let at = c .before .before .before in
-    let passed = at .before .before .before .before in
-    let s = passed .before .before .before .before .before .before in
-    let e = walk-is (s .args .square .now) (s .args .k) (s .pre .0) (s .pre .1 .1) (yes-seven passed) _ _ (sized at) in
-    (c .walk .ensures .0 ∙ e .0, c .walk .ensures .1 ∙ e .1)
+    let s = first at in
+    (ready (s .args .square .now) (s .args .k) _ _ _ (totals (passed at)) (yes-eight at) (corners at), (omega arith, s .pre .0))
+
+-- the factors are those of the square
+found : (c : tie.After-level-step) → c .level-step .result ≡ factorsOf (first (c .before .before .before .before) .args .square .now) (first (c .before .before .before .before) .args .k)
+unfolding factorsTo factorsOf
+found c =
+    let at = c .before .before .before .before in
+    let s = first at in
+    c .level-step .ensures (s .args .square .now) (totals (passed at)) (corners at) (le-refl (s .args .k)) (latest-running (s .args .square .now) (s .args .k))
+
+factors-answer-requires : tie.Need-factors-answer-requires
+unfolding factorsOf
+factors-answer-requires c κs = rw (found c) (first (c .before .before .before .before) .pre .0)
+
+-- and give the answer
+answered : (c : tie.After-factors-answer) → c .factors-answer .result ≡ separateAnswer (first (c .before .before .before .before .before) .args .square .now) (first (c .before .before .before .before .before) .args .k)
+answered c =
+    let at = c .before .before .before .before .before in
+    let s = first at in
+    c .factors-answer .ensures ∙ answer-factors (s .args .square .now) (s .args .k) (totals (passed at) .pass) (yes-eight at) _ (found (c .before))
+
+refused-requires-3 : tie.Need-refused-requires-3
+refused-requires-3 c κs = search needs
+
+returns-3 : tie.Need-returns-3
+returns-3 c =
+    let at = c .before .before in
+    let s = first (at .before .before .before .before .before) in
+    (c .refused3 .ensures .0 ∙ answered at, c .refused3 .ensures .1 ∙ none-back (s .args .square .now) (s .args .k) _ (answered at) (c .before .if3 .taken))
+
+returns-4 : tie.Need-returns-4
+returns-4 c =
+    let at = c .before in
+    let s = first (at .before .before .before .before .before) in
+    (answered at, found (at .before) ∙ factors-back (s .args .square .now) (s .args .k) _ (answered at) (c .if3 .left))
 
 pub separate-spec : {M : Type 1} → statement M
 separate-spec =
     tie.close
     (tie.spec
-    column-totals-requires
-    diagonal-totals-requires
+    fill-columns-requires
+    fill-diagonals-requires
     add-totals-pass
     totals-pass-requires
     refused-requires
     returns
-    sizes-of-requires
-    sizes-of-requires-2
-    walk-requires
-    returns-2)
+    fill-corners-requires
+    refused-requires-2
+    returns-2
+    level-step-requires
+    factors-answer-requires
+    refused-requires-3
+    returns-3
+    returns-4)

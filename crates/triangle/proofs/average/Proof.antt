@@ -2,7 +2,7 @@
 -- Assumes nothing.
 use mathlib.Core.Path.{_≡_}
 use borrow.Author.Needs.{needs}
-use lib.IntN.{ℤ, _+ℤ_, _-ℤ_}
+use lib.IntN.{_+ℤ_, _-ℤ_}
 use mir.Syntax.{w64}
 use mir.Val.{toZ}
 use Rattle.triangle.proofs.Rounding.{scaled, away, product-fits, dividend-below, dividend-above, divisor-fits, dividend-fits, quotient-fits, quotient-is}

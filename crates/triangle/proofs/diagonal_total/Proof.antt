@@ -6,6 +6,7 @@ use lib.IntN.{ℤ, natAbs}
 use mir.Syntax.{w64}
 use mir.Val.{ofZ}
 use Rattle.rules.specs.Triangle.{cellOf, sumTo}
+use Rattle.triangle.specs.Bounds.{mostAverage}
 use Rattle.totals.proofs.Walk.{diagonal-walk}
 use Rattle.laws.proofs.Adding.{sumTo-read, sumTo-step, step-fits}
 use Rattle.triangle.proofs.diagonal_total.Statement.{statement}
@@ -24,7 +25,7 @@ add-n c = omega arith
 abbrev at : tie.Start Inv-loop μ-loop → ℕ → ℤ
 at s r = cellOf (s .args .square .now) r (s .args .h - r)
 
-bound : (s : tie.Start Inv-loop μ-loop) (r : ℕ) → natAbs (at s r) ≤ 1000000000000
+bound : (s : tie.Start Inv-loop μ-loop) (r : ℕ) → natAbs (at s r) ≤ mostAverage
 bound s r = s .pre .0 r (s .args .h - r)
 
 loop-holds : tie.Need-loop-holds Inv-loop μ-loop
@@ -35,13 +36,13 @@ loop-again : tie.Need-loop-again Inv-loop μ-loop
 unfolding cellOf
 loop-again c =
     let s = c .before .before .before in
-    (omega arith, ap (ofZ w64) (sumTo-step (at s) 1000000000000 (bound s) (c .before .before .loop .i) _ (omega arith) (c .before .before .loop .inv .1)))
+    (omega arith, ap (ofZ w64) (sumTo-step (at s) mostAverage (bound s) (c .before .before .loop .i) _ (omega arith) (c .before .before .loop .inv .1)))
 
 returns : tie.Need-returns Inv-loop μ-loop
 returns c =
     let s = c .before .before in
     let e : c .before .loop .i ≡ suc (s .args .h) = omega arith in
-    sumTo-read (at s) 1000000000000 (bound s) (c .before .loop .i) _ (omega arith) (c .before .loop .inv .1)
+    sumTo-read (at s) mostAverage (bound s) (c .before .loop .i) _ (omega arith) (c .before .loop .inv .1)
     ∙ ap (sumTo (at s)) e
     ∙ sym (diagonal-walk (s .args .square .now) (s .args .h) (s .pre .1))
 
@@ -64,7 +65,7 @@ add-sum : tie.Need-add-sum Inv-loop μ-loop
 unfolding cellOf
 add-sum c =
     let s = c .before .before .before in
-    step-fits (at s) 1000000000000 (bound s) (c .before .before .loop .i) _ (omega arith) (c .before .before .loop .inv .1)
+    step-fits (at s) mostAverage (bound s) (c .before .before .loop .i) _ (omega arith) (c .before .before .loop .inv .1)
 
 add-i : tie.Need-add-i Inv-loop μ-loop
 add-i c = omega arith

@@ -6,8 +6,7 @@ use native.Mathlib.Omega.{arith}
 use Prim.Native.Nat.{_+_, _-_, _≤_, max}
 use lib.IntN.{pos}
 use lib.ListN.{getD}
-use Rattle.page.specs.Page.{entry}
-use Rattle.web_page.specs.Web.{limited, largestIn}
+use Rattle.web_page.specs.Web.{entry, limited, largestIn}
 use Rattle.web_page.proofs.Sizes.{largest-none, largest-more}
 use borrow.Author.Needs.{needs, sfits-of}
 use Rattle.web_page.proofs.largest_in.Statement.{statement}
@@ -24,27 +23,6 @@ loop-holds : tie.Need-loop-holds Inv-loop μ-loop
 loop-holds c =
     let s = c in
     (omega arith, largest-none (s .args .list .now) (s .args .p))
-
-add-limited-size : tie.Need-add-limited-size Inv-loop μ-loop
-add-limited-size c = omega arith
-
-mul-limited-size : tie.Need-mul-limited-size Inv-loop μ-loop
-mul-limited-size c = omega arith
-
-element-copy-out-limited-size : tie.Need-element-copy-out-limited-size Inv-loop μ-loop
-element-copy-out-limited-size c = omega arith
-
-limited-size-requires : tie.Need-limited-size-requires Inv-loop μ-loop
-limited-size-requires c κs = search needs
-
-larger-requires : tie.Need-larger-requires Inv-loop μ-loop
-larger-requires c κs = search needs
-
-add-j : tie.Need-add-j Inv-loop μ-loop
-add-j c = omega arith
-
-loop-less : tie.Need-loop-less Inv-loop μ-loop
-loop-less c = omega arith
 
 loop-again : tie.Need-loop-again Inv-loop μ-loop
 loop-again c =
@@ -67,12 +45,12 @@ largest-in-spec =
     Inv-loop
     μ-loop
     loop-holds
-    add-limited-size
-    mul-limited-size
-    element-copy-out-limited-size
-    limited-size-requires
-    larger-requires
-    add-j
-    loop-less
+    (λ c. omega arith)
+    (λ c. omega arith)
+    (λ c. omega arith)
+    (λ c κs. search needs)
+    (λ c κs. search needs)
+    (λ c. omega arith)
+    (λ c. omega arith)
     loop-again
     returns)

@@ -3,14 +3,11 @@ use mathlib.Core.Path.{ap₂, _∙_}
 use native.Mathlib.Omega.{arith}
 use Prim.Native.Nat.{max}
 use Rattle.laws.proofs.Rows.{cells-most}
-use Rattle.page.proofs.Sections.{known}
+use Rattle.listing.proofs.Known.{known}
 use Rattle.web_page.specs.Web.{largestLevel}
 use borrow.Author.Needs.{needs}
 use Rattle.web_page.proofs.largest_level.Statement.{statement}
 use Rattle.web_page.proofs.largest_level.Tie as tie
-
-add-largest-in : tie.Need-add-largest-in
-add-largest-in c = search needs
 
 largest-in-requires : tie.Need-largest-in-requires
 largest-in-requires c κs =
@@ -28,9 +25,6 @@ largest-in-requires-2 c κs =
     let most = cells-most k (s .pre .0) in
     omega (arith, s .pre .1 .1)
 
-larger-requires : tie.Need-larger-requires
-larger-requires c κs = search needs
-
 returns : tie.Need-returns
 unfolding largestLevel
 returns c =
@@ -42,4 +36,4 @@ returns c =
 pub largest-level-spec : {M : Type 1} → statement M
 largest-level-spec =
     tie.close
-    (tie.spec add-largest-in largest-in-requires largest-in-requires-2 larger-requires returns)
+    (tie.spec (λ c. search needs) largest-in-requires largest-in-requires-2 (λ c κs. search needs) returns)

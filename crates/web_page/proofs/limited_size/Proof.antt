@@ -5,9 +5,6 @@ use borrow.Author.Needs.{needs}
 use Rattle.web_page.proofs.limited_size.Statement.{statement}
 use Rattle.web_page.proofs.limited_size.Tie as tie
 
-size-of-requires : tie.Need-size-of-requires
-size-of-requires c κs = search needs
-
 returns : tie.Need-returns
 returns c =
     let kept = toZ-ofZ (c .before .before .fits .x) in
@@ -21,4 +18,4 @@ returns-2 c =
     omega arith
 
 pub limited-size-spec : {M : Type 1} → statement M
-limited-size-spec = tie.close (tie.spec size-of-requires returns returns-2)
+limited-size-spec = tie.close (tie.spec (λ c κs. search needs) returns returns-2)

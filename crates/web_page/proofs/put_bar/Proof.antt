@@ -6,24 +6,6 @@ use borrow.Author.Needs.{needs}
 use Rattle.web_page.proofs.put_bar.Statement.{statement}
 use Rattle.web_page.proofs.put_bar.Tie as tie
 
-mul-x : tie.Need-mul-x
-mul-x c = search needs
-
-add-x : tie.Need-add-x
-add-x c = search needs
-
-put-shape-requires : tie.Need-put-shape-requires
-put-shape-requires c κs = search needs
-
-put-value-requires : tie.Need-put-value-requires
-put-value-requires c κs = search needs
-
-put-label-requires : tie.Need-put-label-requires
-put-label-requires c κs = search needs
-
-same-length : tie.Need-same-length
-same-length c = search needs
-
 returns : tie.Need-returns
 unfolding bar
 returns c =
@@ -37,10 +19,10 @@ pub put-bar-spec : {M : Type 1} → statement M
 put-bar-spec =
     tie.close
     (tie.spec
-    mul-x
-    add-x
-    put-shape-requires
-    put-value-requires
-    put-label-requires
-    same-length
+    (λ c. search needs)
+    (λ c. search needs)
+    (λ c κs. search needs)
+    (λ c κs. search needs)
+    (λ c κs. search needs)
+    (λ c. search needs)
     returns)

@@ -2,8 +2,7 @@
 use mathlib.Core.Path.{_≡_}
 use native.Mathlib.Omega.{arith}
 use Prim.Native.Nat.{_+_, _-_, _≤_}
-use Rattle.rules.specs.Lists.{upTo}
-use Rattle.rules.specs.Results.{joined}
+use Rattle.rules.specs.Lists.{upTo, joined}
 use Rattle.composing.specs.Text.{Put}
 use Rattle.composing.proofs.Puts.{put-first, put-more, put-length}
 use mir.Syntax.{w64}
@@ -24,27 +23,6 @@ abbrev μ-loop : tie.MeasureT-loop
 
 loop-holds : tie.Need-loop-holds Inv-loop μ-loop
 loop-holds c = (omega arith, put-first _ _ _)
-
-add-put-level : tie.Need-add-put-level Inv-loop μ-loop
-add-put-level c = omega arith
-
-add-put-level-2 : tie.Need-add-put-level-2 Inv-loop μ-loop
-add-put-level-2 c = omega arith
-
-mul-put-level : tie.Need-mul-put-level Inv-loop μ-loop
-mul-put-level c = omega arith
-
-element-copy-out-put-level : tie.Need-element-copy-out-put-level Inv-loop μ-loop
-element-copy-out-put-level c = omega arith
-
-put-level-requires : tie.Need-put-level-requires Inv-loop μ-loop
-put-level-requires c κs = omega arith
-
-add-h : tie.Need-add-h Inv-loop μ-loop
-add-h c = omega arith
-
-loop-less : tie.Need-loop-less Inv-loop μ-loop
-loop-less c = omega arith
 
 loop-again : tie.Need-loop-again Inv-loop μ-loop
 unfolding levelBar
@@ -69,13 +47,13 @@ put-levels-spec =
     Inv-loop
     μ-loop
     loop-holds
-    add-put-level
-    add-put-level-2
-    mul-put-level
-    element-copy-out-put-level
-    put-level-requires
-    add-h
-    loop-less
+    (λ c. omega arith)
+    (λ c. omega arith)
+    (λ c. omega arith)
+    (λ c. omega arith)
+    (λ c κs. omega arith)
+    (λ c. omega arith)
+    (λ c. omega arith)
     loop-again
     same-length
     returns)

@@ -1,12 +1,9 @@
 -- The two plots follow one another (put-append); the sections start where starts_of says. Assumes nothing.
 use Rattle.composing.proofs.Puts.{put-append}
-use Rattle.page.proofs.Sections.{at-starts}
+use Rattle.listing.proofs.Known.{at-starts}
 use borrow.Author.Needs.{needs}
 use Rattle.web_page.proofs.put_plots.Statement.{statement}
 use Rattle.web_page.proofs.put_plots.Tie as tie
-
-starts-of-requires : tie.Need-starts-of-requires
-starts-of-requires c κs = search needs
 
 largest-level-requires : tie.Need-largest-level-requires
 largest-level-requires c κs =
@@ -26,9 +23,6 @@ put-shares-plot-requires c κs =
     let at = at-starts (c .before .before .before .before .before .before .starts-of .result) (s .args .k) (c .before .before .before .before .before .before .starts-of .ensures) in
     (s .pre, at .shares)
 
-same-length : tie.Need-same-length
-same-length c = search needs
-
 returns : tie.Need-returns
 returns c = put-append (c .before .before .before .before .before .before .put-levels-plot .ensures) (c .before .before .put-shares-plot .ensures)
 
@@ -36,9 +30,9 @@ pub put-plots-spec : {M : Type 1} → statement M
 put-plots-spec =
     tie.close
     (tie.spec
-    starts-of-requires
+    (λ c κs. search needs)
     largest-level-requires
     put-levels-plot-requires
     put-shares-plot-requires
-    same-length
+    (λ c. search needs)
     returns)

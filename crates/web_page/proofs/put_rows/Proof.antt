@@ -2,35 +2,29 @@
 use mathlib.Core.Path.{_≡_}
 use native.Mathlib.Omega.{arith}
 use Prim.Native.Nat.{_+_, _-_, _≤_}
-use Rattle.rules.specs.Lists.{upTo}
+use Rattle.rules.specs.Lists.{upTo, joined}
 use Rattle.rules.specs.Triangle.{rowStart}
-use Rattle.rules.specs.Results.{joined, placeOf}
+use Rattle.rules.specs.Results.{averageSection, sectionStart}
 use Rattle.laws.proofs.Rows.{row-room, start-more}
 use Rattle.composing.specs.Text.{Put}
 use Rattle.composing.proofs.Puts.{put-first, put-more, put-length}
-use Rattle.page.proofs.Sections.{known}
+use Rattle.listing.proofs.Known.{known}
 use Rattle.web_page.specs.Web.{shadedRow}
 use Rattle.web_page.proofs.put_rows.Statement.{statement}
 use Rattle.web_page.proofs.put_rows.Tie as tie
 
 abbrev Inv-loop : tie.InvT-loop
 Inv-loop out₀ at list largest k end₀ p₀ n i₀ out end p i =
-    (i ≤ n) × (p ≡ placeOf k 0 + rowStart k i) × Put out₀ out at end (joined (upTo (shadedRow k list largest) i))
+    (i ≤ n) × (p ≡ sectionStart k averageSection + rowStart k i) × Put out₀ out at end (joined (upTo (shadedRow k list largest) i))
 
 abbrev μ-loop : tie.MeasureT-loop
 μ-loop out₀ at list largest k end₀ p₀ n i₀ out end p i = n - i
-
-add-n : tie.Need-add-n Inv-loop μ-loop
-add-n c = omega arith
 
 loop-holds : tie.Need-loop-holds Inv-loop μ-loop
 unfolding rowStart
 loop-holds c =
     let place = known (c .before .args .k) in
     (omega arith, omega (arith, place .averages), put-first _ _ _)
-
-sub-count : tie.Need-sub-count Inv-loop μ-loop
-sub-count c = omega arith
 
 put-row-requires : tie.Need-put-row-requires Inv-loop μ-loop
 put-row-requires c κs =
@@ -43,12 +37,6 @@ add-p c =
     let l = c .before .before .before .before .before .loop in
     let s = c .before .before .before .before .before .before .before in
     omega (arith, l .inv .1, known (s .args .k) .averages, row-room (s .args .k) (l .i) (s .pre) (omega arith))
-
-add-i : tie.Need-add-i Inv-loop μ-loop
-add-i c = omega arith
-
-loop-less : tie.Need-loop-less Inv-loop μ-loop
-loop-less c = omega arith
 
 loop-again : tie.Need-loop-again Inv-loop μ-loop
 unfolding shadedRow
@@ -76,13 +64,13 @@ put-rows-spec =
     (tie.spec
     Inv-loop
     μ-loop
-    add-n
+    (λ c. omega arith)
     loop-holds
-    sub-count
+    (λ c. omega arith)
     put-row-requires
     add-p
-    add-i
-    loop-less
+    (λ c. omega arith)
+    (λ c. omega arith)
     loop-again
     same-length
     returns)

@@ -2,16 +2,14 @@
 use mathlib.Core.Path.{_≡_}
 use native.Mathlib.Omega.{arith}
 use Prim.Native.Nat.{_+_, _-_, _≤_}
-use Rattle.rules.specs.Lists.{upTo}
-use Rattle.rules.specs.Results.{joined}
+use Rattle.rules.specs.Lists.{upTo, joined}
 use Rattle.composing.specs.Text.{Put}
 use Rattle.composing.proofs.Puts.{put-first, put-more, put-length}
 use mir.Syntax.{w64}
 use mir.Facts.{toZ-ofZ}
 use lib.IntN.{pos}
 use lib.ListN.{getD}
-use Rattle.page.specs.Page.{entry}
-use Rattle.web_page.specs.Web.{shadedCell, shadedCells}
+use Rattle.web_page.specs.Web.{entry, shadedCell, shadedCells}
 use borrow.Author.Needs.{needs, sfits-of}
 use Rattle.web_page.proofs.put_shaded_cells.Statement.{statement}
 use Rattle.web_page.proofs.put_shaded_cells.Tie as tie
@@ -26,24 +24,6 @@ abbrev μ-loop : tie.MeasureT-loop
 loop-holds : tie.Need-loop-holds Inv-loop μ-loop
 unfolding shadedCells
 loop-holds c = (omega arith, put-first _ _ _)
-
-add-put-shaded : tie.Need-add-put-shaded Inv-loop μ-loop
-add-put-shaded c = omega arith
-
-mul-put-shaded : tie.Need-mul-put-shaded Inv-loop μ-loop
-mul-put-shaded c = omega arith
-
-element-copy-out-put-shaded : tie.Need-element-copy-out-put-shaded Inv-loop μ-loop
-element-copy-out-put-shaded c = omega arith
-
-put-shaded-requires : tie.Need-put-shaded-requires Inv-loop μ-loop
-put-shaded-requires c κs = search needs
-
-add-j : tie.Need-add-j Inv-loop μ-loop
-add-j c = omega arith
-
-loop-less : tie.Need-loop-less Inv-loop μ-loop
-loop-less c = omega arith
 
 loop-again : tie.Need-loop-again Inv-loop μ-loop
 loop-again c =
@@ -68,12 +48,12 @@ put-shaded-cells-spec =
     Inv-loop
     μ-loop
     loop-holds
-    add-put-shaded
-    mul-put-shaded
-    element-copy-out-put-shaded
-    put-shaded-requires
-    add-j
-    loop-less
+    (λ c. omega arith)
+    (λ c. omega arith)
+    (λ c. omega arith)
+    (λ c κs. search needs)
+    (λ c. omega arith)
+    (λ c. omega arith)
     loop-again
     same-length
     returns)

@@ -6,18 +6,6 @@ use borrow.Author.Needs.{needs}
 use Rattle.web_page.proofs.put_share.Statement.{statement}
 use Rattle.web_page.proofs.put_share.Tie as tie
 
-scaled-to-requires : tie.Need-scaled-to-requires
-scaled-to-requires c κs = search needs
-
-cast-put-bar : tie.Need-cast-put-bar
-cast-put-bar c = search needs
-
-put-bar-requires : tie.Need-put-bar-requires
-put-bar-requires c κs = search needs
-
-same-length : tie.Need-same-length
-same-length c = search needs
-
 returns : tie.Need-returns
 returns c =
     let s = c .before .before .before .before .before .before in
@@ -26,4 +14,4 @@ returns c =
 
 pub put-share-spec : {M : Type 1} → statement M
 put-share-spec =
-    tie.close (tie.spec scaled-to-requires cast-put-bar put-bar-requires same-length returns)
+    tie.close (tie.spec (λ c κs. search needs) (λ c. search needs) (λ c κs. search needs) (λ c. search needs) returns)

@@ -7,12 +7,10 @@ use native.Mathlib.Numerals.{add-one}
 use Prim.Native.Nat.{suc, _+_, _-_, _≤_}
 use lib.IntN.{pos}
 use lib.ListN.{getD}
-use Rattle.rules.specs.Lists.{upTo}
-use Rattle.rules.specs.Results.{joined}
+use Rattle.rules.specs.Lists.{upTo, joined}
 use Rattle.composing.specs.Text.{Put}
 use Rattle.composing.proofs.Puts.{put-first, put-more, put-length}
-use Rattle.page.specs.Page.{entry}
-use Rattle.web_page.specs.Web.{shareOf, runningShare, shareBar}
+use Rattle.web_page.specs.Web.{entry, shareOf, runningShare, shareBar}
 use Rattle.web_page.proofs.Sizes.{running-none, running-suc, running-most}
 use borrow.Author.Needs.{needs, sfits-of}
 use Rattle.web_page.proofs.put_shares.Statement.{statement}
@@ -30,18 +28,6 @@ loop-holds c =
     let s = c .before in
     (omega arith, running-none (s .args .list .now) (s .args .p), put-first _ _ _)
 
-add-share-of : tie.Need-add-share-of Inv-loop μ-loop
-add-share-of c = omega arith
-
-mul-share-of : tie.Need-mul-share-of Inv-loop μ-loop
-mul-share-of c = omega arith
-
-element-copy-out-share-of : tie.Need-element-copy-out-share-of Inv-loop μ-loop
-element-copy-out-share-of c = omega arith
-
-share-of-requires : tie.Need-share-of-requires Inv-loop μ-loop
-share-of-requires c κs = search needs
-
 add-running : tie.Need-add-running Inv-loop μ-loop
 add-running c =
     let s = c .before .before .before .before .before in
@@ -53,12 +39,6 @@ put-share-requires c κs =
     let s = c .before .before .before .before .before .before in
     let l = c .before .before .before .before .loop in
     (omega arith, omega (arith, l .inv .1, c .before .share-of .ensures, running-most (s .args .list .now) (s .args .p) (l .h)))
-
-add-h : tie.Need-add-h Inv-loop μ-loop
-add-h c = omega arith
-
-loop-less : tie.Need-loop-less Inv-loop μ-loop
-loop-less c = omega arith
 
 loop-again : tie.Need-loop-again Inv-loop μ-loop
 unfolding shareBar
@@ -89,14 +69,14 @@ put-shares-spec =
     Inv-loop
     μ-loop
     loop-holds
-    add-share-of
-    mul-share-of
-    element-copy-out-share-of
-    share-of-requires
+    (λ c. omega arith)
+    (λ c. omega arith)
+    (λ c. omega arith)
+    (λ c κs. search needs)
     add-running
     put-share-requires
-    add-h
-    loop-less
+    (λ c. omega arith)
+    (λ c. omega arith)
     loop-again
     same-length
     returns)

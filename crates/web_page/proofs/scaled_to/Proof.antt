@@ -11,9 +11,6 @@ mul-result c =
     let s = c .before in
     omega (arith, product-most (s .args .full) (s .args .size) (s .pre .0) (s .pre .1))
 
-div-result : tie.Need-div-result
-div-result c = search needs
-
 returns : tie.Need-returns
 returns c =
     let s = c .before in
@@ -25,4 +22,4 @@ returns-2 c =
     (refl, scaled-most (s .args .full) (s .args .size) (s .args .largest) (s .pre .0) (s .pre .1))
 
 pub scaled-to-spec : {M : Type 1} → statement M
-scaled-to-spec = tie.close (tie.spec mul-result div-result returns returns-2)
+scaled-to-spec = tie.close (tie.spec mul-result (λ c. search needs) returns returns-2)

@@ -5,9 +5,6 @@ use borrow.Author.Needs.{needs}
 use Rattle.web_page.proofs.share_of.Statement.{statement}
 use Rattle.web_page.proofs.share_of.Tie as tie
 
-size-of-requires : tie.Need-size-of-requires
-size-of-requires c κs = search needs
-
 returns : tie.Need-returns
 returns c =
     let kept = toZ-ofZ (c .before .before .fits .x) in
@@ -21,4 +18,4 @@ returns-2 c =
     omega arith
 
 pub share-of-spec : {M : Type 1} → statement M
-share-of-spec = tie.close (tie.spec size-of-requires returns returns-2)
+share-of-spec = tie.close (tie.spec (λ c κs. search needs) returns returns-2)

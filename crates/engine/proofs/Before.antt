@@ -1,0 +1,67 @@
+-- What the rows and the separation leave: the square, the column sums, the paid cumulatives and the factors of the figures. Assumes nothing.
+use Prim.Native.Nat.{ℕ, _+_, _<_}
+use mathlib.Core.Path.{_≡_, _∙_}
+use mathlib.Core.Bool.{true}
+use mathlib.Core.List.{List, map}
+use lib.IntN.{ℤ, pos}
+use lib.ListN.{getD, replicate}
+use lib.Seq.{sets}
+use Rattle.rules.specs.Lists.{upTo, padded}
+use Rattle.rules.specs.Questions.{afterCall}
+use Rattle.rules.specs.Record.{Figures, increment, valueOf, lastYearOf, figuresOf}
+use Rattle.rules.specs.Triangle.{cumulativesPass, averageRow, averagesOf, ZeroOutside, paidTo}
+use Rattle.rules.specs.Separation.{separateAnswer, separated}
+use Rattle.rules.specs.Results.{squareOf, factorsIn, paidIn}
+use Rattle.rules.specs.declared.Factors.{Factors}
+use Rattle.triangle.specs.Bounds.{Cells}
+use Rattle.triangle.specs.Columns.{columnSum, rowsPassing}
+use Rattle.triangle.proofs.Square.{cells-bounded}
+use Rattle.triangle.proofs.Passed.{rows-all}
+use Rattle.totals.proofs.Square.{zero-outside}
+use Rattle.reading.specs.Sound.{Sound}
+use Rattle.reading.specs.Reading.{rowRead}
+use Rattle.reading.proofs.Accepted.{Filled}
+use Rattle.engine.specs.Stages.{figures}
+
+module _ (f : Figures) (six : cumulativesPass (f .k) (f .increments) ≡ true) where
+  -- every row has passed question 6
+  all-rows : rowsPassing (f .k) (f .increments) ≡ f .k + 1
+  all-rows = rows-all (f .k) (f .increments) six
+
+  pub square-is : (s : List (List ℤ)) → s ≡ padded 16 (replicate 16 (pos 0)) (upTo (averageRow (f .k) (f .exposures) (f .increments)) (rowsPassing (f .k) (f .increments))) → s ≡ squareOf f
+  unfolding squareOf averagesOf
+  square-is s e = e ∙ rw all-rows
+
+  pub columns-are : (v : List ℕ) → v ≡ upTo (columnSum (f .k) (f .increments) (rowsPassing (f .k) (f .increments))) 16 → v ≡ upTo (columnSum (f .k) (f .increments) (f .k + 1)) 16
+  columns-are v e = e ∙ rw all-rows
+
+  pub paid-are : (c : List ℕ) → c ≡ padded 16 0 (upTo (paidTo (f .k) (f .increments)) (rowsPassing (f .k) (f .increments))) → c ≡ paidIn f
+  unfolding paidIn
+  paid-are c e = e ∙ rw all-rows
+
+module _ (f : Figures) (q : List (List ℤ)) (e : q ≡ squareOf f) where
+  -- the square can be separated
+  pub separable : Sound f → (f .k < 16) × (Cells q × ZeroOutside q (f .k))
+  unfolding squareOf
+  separable h =
+      rw e (
+        h .few,
+        (
+          cells-bounded (f .k) (f .exposures) (f .increments) (h .few) (h .exposures) (h .increments),
+          zero-outside (f .k) (f .exposures) (f .increments) (h .few),
+        ),
+      )
+
+  -- the factors of an accepted separation
+  pub factors-are : (g : Factors) → g ≡ separated q (f .k) → separateAnswer (squareOf f) (f .k) ≡ 0 → g ≡ factorsIn f
+  unfolding separated afterCall factorsIn
+  factors-are g h a = rw (h, e, a)
+
+-- what was read are the figures of the record
+pub figures-are : (s : List ℕ) → Filled s → (k : ℕ) (n : List ℕ) (p : List ℤ) (e b : List ℕ) (w : ℕ) (u : List ℕ) → k ≡ lastYearOf s
+    → n ≡ sets (replicate 16 0) 0 (rowRead s 1) → p ≡ sets (replicate 136 (pos 0)) 0 (map (valueOf increment) (rowRead s 2))
+    → e ≡ sets (replicate 16 0) 0 (rowRead s 3) → b ≡ sets (replicate 16 0) 0 (rowRead s 4) → w ≡ getD (rowRead s 5) 0 0
+    → u ≡ sets (replicate 16 0) 0 (rowRead s 6) → figures k n p e b w u ≡ figuresOf s
+unfolding figuresOf
+figures-are s h k n p e b w u ek en ep ee eb ew eu =
+    rw (ek, en ∙ h .exposures, ep ∙ h .increments, ee ∙ h .indices, eb ∙ h .reporting, ew ∙ h .weight, eu ∙ h .ulae)

@@ -1,0 +1,281 @@
+-- What each stage after the separation requires, and that it leaves the figures' own arrays and answers. Assumes nothing.
+use Prim.Native.Nat.{ℕ, _+_, _-_, _≤_, _<_}
+use native.Mathlib.Nat.{le-trans}
+use native.Mathlib.Omega.{arith}
+use borrow.Author.Tests.{leb-true}
+use mathlib.Core.Path.{_≡_, refl, sym, ap₂, _∙_}
+use mathlib.Core.Bool.{true}
+use mathlib.Core.List.{List}
+use lib.Dec.{leb}
+use lib.IntN.{ℤ, pos}
+use lib.ListN.{getD, take, replicate}
+use lib.Seq.{sets}
+use Rattle.rules.specs.Lists.{total, upTo, padded, joined, every}
+use Rattle.rules.specs.Record.{Figures, cells, mostAmount}
+use Rattle.rules.specs.Triangle.{mostCumulative, paidTo}
+use Rattle.rules.specs.Separation.{billion, shareOf, levelOf, factorsOf, levelsPass, totalsPass, separationQuestions, separateAnswer}
+use Rattle.rules.specs.Completion.{futureLevel, futureLevels, paymentRow, payments, provision, provisions, ultimate, mostUltimate, ultimatesPass}
+use Rattle.rules.specs.Expense.{paidTotal, ulaeTotal, ratioPass, ratioOf}
+use Rattle.rules.specs.Ladder.{developed, base, developmentFactor, developmentFactors, mostFactor, factorPasses, factorsPass, completedRow, completedAll, completedPass}
+use Rattle.rules.specs.Results.{squareOf, latestOf, factorsIn, paidIn, levelsIn, provisionsIn, developmentIn, ratioIn, sections, resultsOf}
+use Rattle.laws.proofs.Lists.{length-upTo, upTo-ext, every-same, total-most, both-left, take-padded}
+use Rattle.laws.proofs.Padded.{filled-at}
+use Rattle.laws.proofs.Joined.{sets-filled, future-length, future-cells, future-most}
+use Rattle.laws.proofs.Questions.{said, yes-said}
+use Rattle.totals.proofs.Most.{diagonal-most, latest-level}
+use Rattle.totals.proofs.Square.{zero-outside}
+use Rattle.triangle.proofs.Passed.{column-developed, column-base, paid-most, column-sum-most, paid-total}
+use Rattle.completion.specs.Asked.{Completable, rowsAsked}
+use Rattle.entries.specs.Leading.{leading, passing}
+use Rattle.entries.proofs.Leading.{leading-all, asked-all, passing-all}
+use Rattle.ladder.specs.Columns.{developedIn, baseIn, Ladderable}
+use Rattle.allowance.proofs.Rates.{ratio-most}
+use Rattle.results.proofs.Places.{length-payments, length-completed}
+use Rattle.results.proofs.Limits.{shares-most, levels-most, ahead-most, ultimates-most, addable-payments, addable-provisions, factors-most, addable-completed}
+use Rattle.engine.specs.Stages.{Separated, Printable, printedList}
+
+module _ (f : Figures) (s : List (List ℤ)) (v c r l : List ℕ) (h : Separated f s v c r l) where
+  abbrev k : ℕ
+  k = f .k
+
+  -- what a question of the separation has said
+  say : (n : ℕ) → said n (separationQuestions (squareOf f) (f .k)) ≡ true
+  unfolding separateAnswer separationQuestions every
+  say n = yes-said n (separationQuestions (squareOf f) k) refl (h .accepted)
+
+  totals-yes : totalsPass (squareOf f) (f .k) ≡ true
+  unfolding separationQuestions
+  totals-yes = say 7
+
+  levels-yes : levelsPass (squareOf f) (f .k) ≡ true
+  unfolding separationQuestions
+  levels-yes = say 10
+
+  -- the latest level is the latest diagonal, at most S
+  latest-most : latestOf f ≤ billion
+  unfolding latestOf squareOf
+  latest-most = diagonal-most (squareOf f) k (h .sound .few) (zero-outside k (f .exposures) (f .increments) (h .sound .few)) totals-yes k (omega arith)
+
+  pub latest-is : getD l (f .k) 0 ≡ latestOf f
+  unfolding latestOf factorsIn factorsOf
+  latest-is = rw (h .levels) (filled-at 16 0 (levelOf (squareOf f) k) (k + 1) k 0 (omega arith) ∙ latest-level (squareOf f) k)
+
+  pub latest-fits : getD l (f .k) 0 ≤ billion
+  latest-fits = rw latest-is latest-most
+
+  -- no paid cumulative is above 10^11
+  pub paid-fits : (i : ℕ) → getD c i 0 ≤ mostCumulative
+  unfolding paidIn
+  paid-fits = rw (h .paid) (paid-most k (f .increments) (h .cumulatives))
+
+  -- the future levels
+  module _ (a : List ℕ) (e : a ≡ sets (replicate 16 0) 0 (futureLevels (f .k) (getD l (f .k) 0) (f .indices))) where
+    pub ahead-is : a ≡ levelsIn f
+    unfolding levelsIn futureLevels
+    ahead-is =
+        e ∙ rw latest-is (sets-filled 16 0 (futureLevels k (latestOf f) (f .indices)) (omega (arith, length-upTo (λ t. futureLevel (latestOf f) (getD (f .indices) t 0)) k, h .sound .few)))
+
+    pub completable : Completable (f .k) (f .exposures) r a
+    completable = record {
+      few = h .sound .few;
+      exposures = h .sound .exposures-most;
+      shares = rw (h .shares) (shares-most f);
+      levels = rw ahead-is (ahead-most f latest-most (h .sound .indices));
+    }
+
+    -- question 11
+    pub eleven-is : ultimatesPass (f .k) c (padded 16 0 (provisions (f .k) (f .exposures) r a)) ≡ ultimatesPass (f .k) (paidIn f) (provisionsIn f)
+    unfolding provisionsIn
+    eleven-is = rw (h .paid, h .shares, ahead-is)
+
+    module _ (eleven : ultimatesPass (f .k) (paidIn f) (provisionsIn f) ≡ true) where
+      -- every row was completed
+      all-rows : rowsAsked (f .k) (f .exposures) r a c ≡ f .k + 1
+      unfolding rowsAsked ultimatesPass
+      all-rows = asked-all (λ i. leb (ultimate c (padded 16 0 (provisions k (f .exposures) r a)) i) mostUltimate) (k + 1) (eleven-is ∙ eleven)
+
+      pub payments-are : (y : List ℕ) → y ≡ sets (replicate 120 0) 0 (joined (upTo (paymentRow (f .k) (f .exposures) r a) (rowsAsked (f .k) (f .exposures) r a c)))
+          → y ≡ padded 120 0 (payments (f .k) (f .exposures) (factorsIn f .shares) (levelsIn f))
+      unfolding payments
+      payments-are y p =
+          let row = paymentRow k (f .exposures) (factorsIn f .shares) (levelsIn f) in
+          let size = future-length row (length-payments k (f .exposures) (factorsIn f .shares) (levelsIn f)) (k + 1) in
+          p ∙ rw (all-rows, h .shares, ahead-is) (sets-filled 120 0 (joined (upTo row (k + 1))) (omega (arith, size, future-most (k + 1) (omega (arith, h .sound .few)))))
+
+      pub provisions-are : (q : List ℕ) → q ≡ sets (replicate 16 0) 0 (upTo (provision (f .k) (f .exposures) r a) (rowsAsked (f .k) (f .exposures) r a c)) → q ≡ provisionsIn f
+      unfolding provisionsIn provisions
+      provisions-are q p =
+          let one = provision k (f .exposures) (factorsIn f .shares) (levelsIn f) in
+          p ∙ rw (all-rows, h .shares, ahead-is) (sets-filled 16 0 (upTo one (k + 1)) (omega (arith, length-upTo one (k + 1), h .sound .few)))
+
+  -- question 12
+  pub spent-fits : ulaeTotal (f .k) (f .ulae) ≤ 160000000000
+  unfolding ulaeTotal
+  spent-fits = omega (arith, total-most mostAmount (f .ulae) (h .sound .ulae) (k + 1), h .sound .few)
+
+  paid-all : pos (total (take (f .k + 1) c)) ≡ paidTotal (f .k) (f .increments)
+  unfolding paidIn
+  paid-all = rw (h .paid) (sym (paid-total k (f .increments) (h .cumulatives) (h .sound .few)))
+
+  pub twelve-is : (n m : ℕ) → n ≡ total (take (f .k + 1) c) → m ≡ total (take (f .k + 1) (f .ulae))
+      → ratioPass (pos n) m ≡ ratioPass (paidTotal (f .k) (f .increments)) (ulaeTotal (f .k) (f .ulae))
+  unfolding ulaeTotal
+  twelve-is n m p q = rw (p, q, paid-all)
+
+  pub paid-least : (n m : ℕ) → ratioPass (pos n) m ≡ true → 1 ≤ n
+  unfolding ratioPass
+  paid-least n m q = leb-true 1 n (both-left (leb 1 n) (leb m n) q)
+
+  pub ratio-is : (n m : ℕ) → n ≡ total (take (f .k + 1) c) → m ≡ total (take (f .k + 1) (f .ulae)) → ratioOf (pos n) m ≡ ratioIn f
+  unfolding ulaeTotal ratioIn
+  ratio-is n m p q = rw (p, q, paid-all)
+
+  -- question 13
+  paid-at : (i : ℕ) → i ≤ f .k → getD c i 0 ≡ paidTo (f .k) (f .increments) i
+  unfolding paidIn
+  paid-at i le = rw (h .paid) (filled-at 16 0 (paidTo k (f .increments)) (k + 1) i 0 (omega arith))
+
+  developed-is : (j : ℕ) → j < f .k → developedIn v j ≡ developed (f .k) (f .increments) j
+  unfolding developedIn
+  developed-is j lt = rw (h .columns) (column-developed k (f .increments) (h .sound .few) j lt)
+
+  column-is : (j : ℕ) → j < f .k → getD v j 0 ≡ base (f .k) (f .increments) j + paidTo (f .k) (f .increments) (f .k - j)
+  column-is j lt = rw (h .columns) (column-base k (f .increments) (h .sound .few) j lt)
+
+  base-is : (j : ℕ) → j < f .k → baseIn (f .k) v c j ≡ base (f .k) (f .increments) j
+  unfolding baseIn
+  base-is j lt = omega (arith, column-is j lt, paid-at (k - j) (omega arith))
+
+  pub ladderable : Ladderable (f .k) v c
+  ladderable = record {
+    few = h .sound .few;
+    columns = rw (h .columns) (column-sum-most k (f .increments) (h .cumulatives) (h .sound .few));
+    paid = λ j lt. omega (arith, column-is j lt, paid-at (k - j) (omega arith));
+  }
+
+  pub thirteen-is : factorsPass (f .k) (developedIn v) (baseIn (f .k) v c) ≡ factorsPass (f .k) (developed (f .k) (f .increments)) (base (f .k) (f .increments))
+  unfolding factorsPass
+  thirteen-is = every-same _ _ (λ j. j) (λ j. j) k (λ j lt. ap₂ factorPasses (developed-is j lt) (base-is j lt))
+
+  module _ (thirteen : factorsPass (f .k) (developed (f .k) (f .increments)) (base (f .k) (f .increments)) ≡ true) where
+    pub factors-are : (m : List ℕ) → m ≡ sets (replicate 16 0) 0
+        (upTo (λ j. developmentFactor (developedIn v j) (baseIn (f .k) v c j)) (leading (λ j. factorPasses (developedIn v j) (baseIn (f .k) v c j)) (f .k))) → m ≡ developmentIn f
+    unfolding developmentIn developmentFactors factorsPass
+    factors-are m p =
+        let one : ℕ → ℕ = λ j. developmentFactor (developed k (f .increments) j) (base k (f .increments) j) in
+        let all = leading-all (λ j. factorPasses (developedIn v j) (baseIn k v c j)) k (thirteen-is ∙ thirteen) in
+        p
+        ∙ rw (all, upTo-ext (λ j. developmentFactor (developedIn v j) (baseIn k v c j)) one k (λ j lt. ap₂ developmentFactor (developed-is j lt) (base-is j lt)))
+        (sets-filled 16 0 (upTo one k) (omega (arith, length-upTo one k, h .sound .few)))
+
+    pub factors-fit : (m : List ℕ) → m ≡ developmentIn f → (j : ℕ) → getD m j 0 ≤ mostFactor
+    factors-fit m p = rw p (factors-most f thirteen)
+
+    -- question 14
+    pub fourteen-is : (m : List ℕ) → m ≡ developmentIn f → completedPass (completedAll (f .k) c m) ≡ completedPass (completedAll (f .k) (paidIn f) (developmentIn f))
+    fourteen-is m p = rw (p, h .paid)
+
+    pub completed-are : (m x : List ℕ) → m ≡ developmentIn f → completedPass (completedAll (f .k) (paidIn f) (developmentIn f)) ≡ true
+        → x ≡ sets (replicate 120 0) 0 (passing (λ z. leb z mostCumulative) (completedAll (f .k) c m)) → x ≡ padded 120 0 (completedAll (f .k) (paidIn f) (developmentIn f))
+    unfolding completedPass completedAll
+    completed-are m x p q e =
+        let row = completedRow k (paidIn f) (developmentIn f) in
+        let all = joined (upTo row (k + 1)) in
+        let size = future-length row (length-completed k (paidIn f) (developmentIn f)) (k + 1) in
+        e ∙ rw (h .paid, p, passing-all (λ z. leb z mostCumulative) all q) (sets-filled 120 0 all (omega (arith, size, future-most (k + 1) (omega (arith, h .sound .few)))))
+
+-- all that was worked out of figures that pass every question: the future levels a, the payments y, the provisions q, the ratio p, the development
+-- factors m and the completed cumulatives x
+pub record Worked (f : Figures) (a y q : List ℕ) (p : ℕ) (m x : List ℕ) : Type 0 where
+  pub eleven : ultimatesPass (f .k) (paidIn f) (provisionsIn f) ≡ true
+  pub twelve : ratioPass (paidTotal (f .k) (f .increments)) (ulaeTotal (f .k) (f .ulae)) ≡ true
+  pub thirteen : factorsPass (f .k) (developed (f .k) (f .increments)) (base (f .k) (f .increments)) ≡ true
+  pub fourteen : completedPass (completedAll (f .k) (paidIn f) (developmentIn f)) ≡ true
+  pub ahead : a ≡ levelsIn f
+  pub payments : y ≡ padded 120 0 (payments (f .k) (f .exposures) (factorsIn f .shares) (levelsIn f))
+  pub provisions : q ≡ provisionsIn f
+  pub ratio : p ≡ ratioIn f
+  pub factors : m ≡ developmentIn f
+  pub completed : x ≡ padded 120 0 (completedAll (f .k) (paidIn f) (developmentIn f))
+
+pub worked : (f : Figures) {a y q : List ℕ} {p : ℕ} {m x : List ℕ} → ultimatesPass (f .k) (paidIn f) (provisionsIn f) ≡ true
+    → ratioPass (paidTotal (f .k) (f .increments)) (ulaeTotal (f .k) (f .ulae)) ≡ true
+    → factorsPass (f .k) (developed (f .k) (f .increments)) (base (f .k) (f .increments)) ≡ true
+    → completedPass (completedAll (f .k) (paidIn f) (developmentIn f)) ≡ true → a ≡ levelsIn f
+    → y ≡ padded 120 0 (payments (f .k) (f .exposures) (factorsIn f .shares) (levelsIn f)) → q ≡ provisionsIn f → p ≡ ratioIn f → m ≡ developmentIn f
+    → x ≡ padded 120 0 (completedAll (f .k) (paidIn f) (developmentIn f)) → Worked f a y q p m x
+worked f q11 q12 q13 q14 ea ey eq ep em ex = record {
+  eleven = q11;
+  twelve = q12;
+  thirteen = q13;
+  fourteen = q14;
+  ahead = ea;
+  payments = ey;
+  provisions = eq;
+  ratio = ep;
+  factors = em;
+  completed = ex;
+}
+
+-- the lists that are put are found again in their arrays
+module _ (f : Figures) where
+  take-shares : take (f .k + 1) (factorsIn f .shares) ≡ upTo (shareOf (squareOf f) (f .k)) (f .k + 1)
+  unfolding factorsIn factorsOf
+  take-shares = take-padded 16 (f .k + 1) 0 _ (length-upTo (shareOf (squareOf f) (f .k)) (f .k + 1))
+
+  take-levels : take (f .k + 1) (factorsIn f .levels) ≡ upTo (levelOf (squareOf f) (f .k)) (f .k + 1)
+  unfolding factorsIn factorsOf
+  take-levels = take-padded 16 (f .k + 1) 0 _ (length-upTo (levelOf (squareOf f) (f .k)) (f .k + 1))
+
+  take-ahead : take (f .k) (levelsIn f) ≡ futureLevels (f .k) (latestOf f) (f .indices)
+  unfolding levelsIn futureLevels
+  take-ahead = take-padded 16 (f .k) 0 _ (length-upTo (λ t. futureLevel (latestOf f) (getD (f .indices) t 0)) (f .k))
+
+  take-payments : take (cells (f .k) - (f .k + 1)) (padded 120 0 (payments (f .k) (f .exposures) (factorsIn f .shares) (levelsIn f))) ≡ payments (f .k) (f .exposures) (factorsIn f .shares) (levelsIn f)
+  unfolding payments
+  take-payments =
+      let row = paymentRow (f .k) (f .exposures) (factorsIn f .shares) (levelsIn f) in
+      take-padded 120 (cells (f .k) - (f .k + 1)) 0 (joined (upTo row (f .k + 1)))
+      (omega (arith, future-length row (length-payments (f .k) (f .exposures) (factorsIn f .shares) (levelsIn f)) (f .k + 1), future-cells (f .k)))
+
+  take-provisions : take (f .k + 1) (provisionsIn f) ≡ provisions (f .k) (f .exposures) (factorsIn f .shares) (levelsIn f)
+  unfolding provisionsIn provisions
+  take-provisions = take-padded 16 (f .k + 1) 0 _ (length-upTo (provision (f .k) (f .exposures) (factorsIn f .shares) (levelsIn f)) (f .k + 1))
+
+  take-factors : take (f .k) (developmentIn f) ≡ developmentFactors (f .k) (developed (f .k) (f .increments)) (base (f .k) (f .increments))
+  unfolding developmentIn developmentFactors
+  take-factors = take-padded 16 (f .k) 0 _ (length-upTo (λ j. developmentFactor (developed (f .k) (f .increments) j) (base (f .k) (f .increments) j)) (f .k))
+
+  take-completed : take (cells (f .k) - (f .k + 1)) (padded 120 0 (completedAll (f .k) (paidIn f) (developmentIn f))) ≡ completedAll (f .k) (paidIn f) (developmentIn f)
+  unfolding completedAll
+  take-completed =
+      let row = completedRow (f .k) (paidIn f) (developmentIn f) in
+      take-padded 120 (cells (f .k) - (f .k + 1)) 0 (joined (upTo row (f .k + 1)))
+      (omega (arith, future-length row (length-completed (f .k) (paidIn f) (developmentIn f)) (f .k + 1), future-cells (f .k)))
+
+module _ (f : Figures) (s : List (List ℤ)) (v c r l : List ℕ) (h : Separated f s v c r l) (a y q : List ℕ) (p : ℕ) (m x : List ℕ) (w : Worked f a y q p m x) where
+  pub printable : Printable (f .k) r l a y q c (f .reporting) (f .weight) p m x
+  unfolding ratioIn
+  printable = record {
+    few = h .sound .few;
+    shares = rw (h .shares) (λ j. le-trans (shares-most f j) (omega arith));
+    levels = rw (h .levels) (λ j. le-trans (levels-most f (levels-yes f s v c r l h) j) (omega arith));
+    ahead = rw (w .ahead) (λ t. le-trans (ahead-most f (latest-most f s v c r l h) (h .sound .indices) t) (omega arith));
+    payments = rw (w .payments) (addable-payments f (w .eleven));
+    provisions = rw (w .provisions) (addable-provisions f (w .eleven));
+    reserves = record {
+      few = h .sound .few;
+      ultimates = rw (h .paid, w .provisions) (ultimates-most f (w .eleven));
+      reporting = h .sound .reporting-sum;
+      weight = h .sound .weight;
+      ratio = rw (w .ratio) (ratio-most (paidTotal (f .k) (f .increments)) (ulaeTotal (f .k) (f .ulae)) (w .twelve));
+    };
+    factors = rw (w .factors) (λ j. le-trans (factors-most f (w .thirteen) j) (omega arith));
+    completed = rw (w .completed) (addable-completed (completedAll (f .k) (paidIn f) (developmentIn f)) (w .fourteen));
+  }
+
+  -- the list that is put is the figures' own
+  pub printed-is : printedList (f .k) s r l a y q c (f .reporting) (f .weight) p m x ≡ resultsOf f
+  unfolding printedList resultsOf sections
+  printed-is =
+      rw (h .square, h .paid, h .shares, h .levels, w .ahead, w .payments, w .provisions, w .ratio, w .factors, w .completed, take-shares f, take-levels f, take-ahead f, take-payments f, take-provisions f, take-factors f, take-completed f)

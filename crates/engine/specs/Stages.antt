@@ -1,0 +1,60 @@
+-- The figures as the engine holds them, each list in its array, what it has shown of them after the separation, and what it puts into the list.
+-- Assumes nothing.
+use Prim.Native.Nat.{ℕ, _+_, _-_, _<_}
+use mathlib.Core.Path.{_≡_}
+use mathlib.Core.Bool.{Bool, true}
+use mathlib.Core.List.{List, _++_}
+use lib.IntN.{ℤ}
+use lib.ListN.{take}
+use lib.Seq.{sets}
+use Rattle.rules.specs.Lists.{upTo, joined}
+use Rattle.rules.specs.Questions.{firstNo, afterCall}
+use Rattle.rules.specs.Record.{Figures, cells}
+use Rattle.rules.specs.Triangle.{cumulativesPass}
+use Rattle.rules.specs.Separation.{separateAnswer}
+use Rattle.rules.specs.Expense.{notReported, reserve}
+use Rattle.rules.specs.Results.{separationSections, completionSections, reserveSections, ladderSections, squareOf, factorsIn, paidIn, resultsOf}
+use Rattle.triangle.specs.Columns.{columnSum}
+use Rattle.expense.specs.Reservable.{Reservable}
+use Rattle.listing.specs.Starts.{Addable}
+use Rattle.reading.specs.Sound.{Sound}
+
+-- the figures with the exposures n, the increments p, the indices e, the reporting shares b, the weight w and the ULAE totals u
+abbrev pub figures : ℕ → List ℕ → List ℤ → List ℕ → List ℕ → ℕ → List ℕ → Figures
+figures k n p e b w u = record { k = k; exposures = n; increments = p; indices = e; reporting = b; weight = w; ulae = u }
+
+-- figures whose separation was accepted: their square s, the sums v of the cumulatives' columns, the paid cumulatives c, the shares r and the levels l
+pub record Separated (f : Figures) (s : List (List ℤ)) (v c r l : List ℕ) : Type 0 where
+  pub sound : Sound f
+  pub cumulatives : cumulativesPass (f .k) (f .increments) ≡ true
+  pub square : s ≡ squareOf f
+  pub columns : v ≡ upTo (columnSum (f .k) (f .increments) (f .k + 1)) 16
+  pub paid : c ≡ paidIn f
+  pub accepted : separateAnswer (squareOf f) (f .k) ≡ 0
+  pub shares : r ≡ factorsIn f .shares
+  pub levels : l ≡ factorsIn f .levels
+
+-- what is put into the list: shares r, levels l, future levels a, payments y, provisions q, paid cumulatives c, reporting shares b, the weight w, the
+-- ratio, development factors m and completed cumulatives x, each within its limits
+pub record Printable (k : ℕ) (r l a y q c b : List ℕ) (w ratio : ℕ) (m x : List ℕ) : Type 0 where
+  pub few : k < 16
+  pub shares : Addable r
+  pub levels : Addable l
+  pub ahead : Addable a
+  pub payments : Addable y
+  pub provisions : Addable q
+  pub reserves : Reservable k c q b w ratio
+  pub factors : Addable m
+  pub completed : Addable x
+
+-- the list of a square s and of these
+unfoldable pub printedList : ℕ → List (List ℤ) → List ℕ → List ℕ → List ℕ → List ℕ → List ℕ → List ℕ → List ℕ → ℕ → ℕ → List ℕ → List ℕ → List ℤ
+printedList k s r l a y q c b w ratio m x =
+    joined
+    (separationSections k s (take (k + 1) r) (take (k + 1) l)
+    ++ (completionSections (take k a) (take (cells k - (k + 1)) y) (take (k + 1) q)
+    ++ (reserveSections (upTo (notReported k b c q) (k + 1)) (upTo (reserve k ratio w b c q) (k + 1)) ratio ++ ladderSections (take k m) (take (cells k - (k + 1)) x))))
+
+-- what a function that asks the questions qs of the figures f answers, n, and leaves in the buffer that held `out`
+abbrev pub Answers : List (ℕ × Bool) → Figures → List ℤ → List ℤ → ℕ → Type 0
+Answers qs f out left n = (n ≡ firstNo qs) × (left ≡ afterCall (firstNo qs) (sets out 0 (resultsOf f)) out)
