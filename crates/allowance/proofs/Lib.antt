@@ -1,3 +1,4 @@
 pub mod Within
 pub mod Rates
 pub mod Carried
+pub mod Sharp

@@ -60,8 +60,9 @@ module _ (f : Figures) (s : List (List ℤ)) (v c r l : List ℕ) (h : Separated
   unfolding latestOf factorsIn factorsOf
   latest-is = rw (h .levels) (filled-at 16 0 (levelOf (squareOf f) k) (k + 1) k 0 (omega arith) ∙ latest-level (squareOf f) k)
 
-  pub latest-fits : getD l (f .k) 0 ≤ billion
-  latest-fits = rw latest-is latest-most
+  -- no level is above S
+  pub levels-fit : (j : ℕ) → getD l j 0 ≤ billion
+  levels-fit j = rw (h .levels) (levels-most f levels-yes j)
 
   -- no paid cumulative is above 10^11
   pub paid-fits : (i : ℕ) → getD c i 0 ≤ mostCumulative

@@ -4,6 +4,7 @@ use printing::put_lines;
 use printing::put_number;
 use printing::put_text;
 use reading::doonamurk_read;
+use rules::MOST_FIELDS;
 ghost use Prim.Native.Nat.{_<_};
 
 // k, the first four bits of a record's first byte.
@@ -16,7 +17,7 @@ fn last_year(first: u8) -> usize
 fn main() {
     let mut buffer = io::buffer();
     let n = io::read_full(0, &mut buffer);
-    let mut list = [0i64; 201];
+    let mut list = [0i64; MOST_FIELDS];
     let answer = doonamurk_read(&buffer[..n], &mut list);
     if answer == 0 {
         let count = fields_of(last_year(buffer[0]));

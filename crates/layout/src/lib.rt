@@ -1,7 +1,7 @@
 // The places of a record's rows by k, and its sizes.
 ghost use mathlib.Core.Path.{_≡_};
 ghost use Prim.Native.Nat.{_+_, _<_, _≤_};
-ghost use Rattle.rules.specs.Record.{cells, byteCount, fieldCount};
+ghost use Rattle.rules.specs.Record.{cells, byteCount, fieldCount, mostBytes, mostFields};
 ghost use Rattle.layout.specs.Places.{placesOf};
 
 // How many cells the triangle has, the bit places at which the increments and the rows after them start, and where the fields end.
@@ -47,7 +47,7 @@ pub fn places_of(k: usize) -> Places
 // How many bytes a record takes.
 pub fn bytes_of(k: usize) -> usize
     requires { ⌜ k < 16 ⌝ }
-    ensures { λ r. ⌜ (r ≡ byteCount k) × (r ≤ 790) ⌝ }
+    ensures { λ r. ⌜ (r ≡ byteCount k) × (r ≤ mostBytes) ⌝ }
 {
     (places_of(k).end + 7) / 8
 }
@@ -55,7 +55,7 @@ pub fn bytes_of(k: usize) -> usize
 // How many fields a record has.
 pub fn fields_of(k: usize) -> usize
     requires { ⌜ k < 16 ⌝ }
-    ensures { λ r. ⌜ (r ≡ fieldCount k) × (r ≤ 201) ⌝ }
+    ensures { λ r. ⌜ (r ≡ fieldCount k) × (r ≤ mostFields) ⌝ }
 {
     cells_of(k) + 4 * k + 5
 }

@@ -11,7 +11,7 @@ ghost use lib.ListN.{length, take};
 ghost use lib.Seq.{sets};
 ghost use Rattle.rules.specs.Lists.{joined, upTo};
 ghost use Rattle.rules.specs.Record.{cells};
-ghost use Rattle.rules.specs.Results.{resultCount, separationSections, completionSections, ladderSections};
+ghost use Rattle.rules.specs.Results.{resultCount, separationSections, completionSections, ladderSections, mostEntries};
 ghost use Rattle.listing.specs.Starts.{startsOf, averageRowOf, Addable};
 
 // Where the sections after the averages start.
@@ -67,7 +67,7 @@ pub fn starts_of(k: usize) -> Starts
 // How many entries the result list has.
 pub fn entries_of(k: usize) -> usize
     requires { ⌜ k < 16 ⌝ }
-    ensures { λ r. ⌜ (r ≡ resultCount k) × (r ≤ 489) ⌝ }
+    ensures { λ r. ⌜ (r ≡ resultCount k) × (r ≤ mostEntries) ⌝ }
 {
     3 * cells_of(k) + 5 * k + 6
 }

@@ -2,10 +2,11 @@
 use libc::STDERR_FILENO;
 use printing::put_first;
 use printing::put_output;
+use rules::MOST_BYTES;
 use sheet_packing::pack_text;
 
 // The first n bytes on standard output.
-fn put_record(packed: &[u8; 790], n: usize) {
+fn put_record(packed: &[u8; MOST_BYTES], n: usize) {
     put_output(packed, n);
 }
 
@@ -16,7 +17,7 @@ fn main() {
         put_first(STDERR_FILENO, b"the text is longer than 65,535 bytes\n", 64);
         return;
     }
-    let mut packed = [0u8; 790];
+    let mut packed = [0u8; MOST_BYTES];
     let mut message = [0u8; 256];
     let outcome = pack_text(&text[..n], &mut packed, &mut message);
     put_record(&packed, outcome.size);

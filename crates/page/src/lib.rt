@@ -9,12 +9,13 @@ use entries::size_of;
 use entries::sum_of;
 use listing::Starts;
 use listing::starts_of;
+use rules::MOST_ENTRIES;
 ghost use mathlib.Core.Path.{_≡_};
 ghost use mathlib.Core.List.{_++_};
 ghost use Prim.Native.Nat.{_+_, _-_, _≤_, _<_};
 ghost use lib.IntN.{pos, _-ℤ_};
 ghost use Rattle.rules.specs.Lists.{upTo, total, joined};
-ghost use Rattle.rules.specs.Results.{factorSection, sectionStart};
+ghost use Rattle.rules.specs.Results.{factorSection, sectionStart, mostEntries};
 ghost use Rattle.composing.specs.Text.{ascii, decimal, fixed, right, Put};
 ghost use Rattle.page.specs.Page.{year, cell, whole, lineEnd, entry, yearsLine, cellsFrom, line, nextRow, lines, entriesIn, triangle, averagesTable, paymentsTable, completedTable, factorLine, factorsTable, developmentTable, separationAmounts, ladderAmounts, amountsLine, totalsLine, amountsTable, ratioLine, pageOf};
 ghost use Rattle.listing.specs.Starts.{startsOf, Addable};
@@ -50,16 +51,30 @@ fn put_years(out: &mut [u8], at: usize, k: usize) -> usize
 }
 
 // Entry p of the list with d decimals, at the right of w places.
-fn put_entry(out: &mut [u8], at: usize, list: &[i64; 489], w: usize, d: usize, p: usize) -> usize
-    requires { ⌜ p < 489 ⌝ }
+fn put_entry(
+    out: &mut [u8],
+    at: usize,
+    list: &[i64; MOST_ENTRIES],
+    w: usize,
+    d: usize,
+    p: usize,
+) -> usize
+    requires { ⌜ p < mostEntries ⌝ }
     ensures { λ r. ⌜ Put (now (out .entry)) (now (out .exit)) at r (right w (fixed d (entry (now (list .entry)) p))) ⌝ }
 {
     put_right_fixed(out, at, w, d, list[p])
 }
 
 // n cells from place p of the list on, with d decimals.
-fn put_cells(out: &mut [u8], at: usize, list: &[i64; 489], d: usize, p: usize, n: usize) -> usize
-    requires { ⌜ p + n ≤ 489 ⌝ }
+fn put_cells(
+    out: &mut [u8],
+    at: usize,
+    list: &[i64; MOST_ENTRIES],
+    d: usize,
+    p: usize,
+    n: usize,
+) -> usize
+    requires { ⌜ p + n ≤ mostEntries ⌝ }
     ensures { λ r. ⌜ Put (now (out .entry)) (now (out .exit)) at r (cellsFrom (now (list .entry)) d p n) ⌝ }
 {
     let mut end = at;
@@ -73,14 +88,14 @@ fn put_cells(out: &mut [u8], at: usize, list: &[i64; 489], d: usize, p: usize, n
 fn put_line(
     out: &mut [u8],
     at: usize,
-    list: &[i64; 489],
+    list: &[i64; MOST_ENTRIES],
     d: usize,
     y: usize,
     blank: usize,
     n: usize,
     p: usize,
 ) -> usize
-    requires { ⌜ (blank ≤ 16) × (p + n ≤ 489) ⌝ }
+    requires { ⌜ (blank ≤ 16) × (p + n ≤ mostEntries) ⌝ }
     ensures { λ r. ⌜ Put (now (out .entry)) (now (out .exit)) at r (line (now (list .entry)) d y blank n p) ⌝ }
 {
     let a = put_right_decimal(out, at, 6, y as u64);
@@ -98,7 +113,7 @@ fn less(a: usize, b: usize) -> usize
 
 // The line after a line of r.
 fn next_row(r: Rows) -> Rows
-    requires { ⌜ (r .count ≤ 489) × (r .up ≤ 1) ⌝ }
+    requires { ⌜ (r .count ≤ mostEntries) × (r .up ≤ 1) ⌝ }
     ensures { λ s. ⌜ s ≡ nextRow r ⌝ }
 {
     Rows {
@@ -113,14 +128,14 @@ fn next_row(r: Rows) -> Rows
 fn put_lines(
     out: &mut [u8],
     at: usize,
-    list: &[i64; 489],
+    list: &[i64; MOST_ENTRIES],
     d: usize,
     n: usize,
     y: usize,
     rows: Rows,
     p: usize,
 ) -> usize
-    requires { ⌜ (y + n ≤ 32) × ((rows .blank ≤ 16) × ((rows .up ≤ 1) × (p + entriesIn n rows ≤ 489))) ⌝ }
+    requires { ⌜ (y + n ≤ 32) × ((rows .blank ≤ 16) × ((rows .up ≤ 1) × (p + entriesIn n rows ≤ mostEntries))) ⌝ }
     ensures { λ r. ⌜ Put (now (out .entry)) (now (out .exit)) at r (lines (now (list .entry)) d n y rows p) ⌝ }
 {
     let mut end = at;
@@ -139,13 +154,13 @@ fn put_triangle(
     out: &mut [u8],
     at: usize,
     title: &[u8],
-    list: &[i64; 489],
+    list: &[i64; MOST_ENTRIES],
     k: usize,
     d: usize,
     rows: Rows,
     p: usize,
 ) -> usize
-    requires { ⌜ (k < 16) × ((rows .blank ≤ 16) × ((rows .up ≤ 1) × (p + entriesIn (k + 1) rows ≤ 489))) ⌝ }
+    requires { ⌜ (k < 16) × ((rows .blank ≤ 16) × ((rows .up ≤ 1) × (p + entriesIn (k + 1) rows ≤ mostEntries))) ⌝ }
     ensures { λ r. ⌜ Put (now (out .entry)) (now (out .exit)) at r (triangle (now (title .entry)) k (now (list .entry)) d rows p) ⌝ }
 {
     let a = put_bytes(out, at, title);
@@ -157,12 +172,12 @@ fn put_triangle(
 fn put_factor_line(
     out: &mut [u8],
     at: usize,
-    list: &[i64; 489],
+    list: &[i64; MOST_ENTRIES],
     h: usize,
     p: usize,
     q: usize,
 ) -> usize
-    requires { ⌜ (p < 489) × (q < 489) ⌝ }
+    requires { ⌜ (p < mostEntries) × (q < mostEntries) ⌝ }
     ensures { λ r. ⌜ Put (now (out .entry)) (now (out .exit)) at r
         (year (decimal h) ++ (cell (fixed 9 (entry (now (list .entry)) p)) ++ (cell (fixed 2 (entry (now (list .entry)) q)) ++ lineEnd))) ⌝ }
 {
@@ -176,12 +191,12 @@ fn put_factor_line(
 fn put_factor_lines(
     out: &mut [u8],
     at: usize,
-    list: &[i64; 489],
+    list: &[i64; MOST_ENTRIES],
     p: usize,
     q: usize,
     n: usize,
 ) -> usize
-    requires { ⌜ (p + n ≤ 489) × (q + n ≤ 489) ⌝ }
+    requires { ⌜ (p + n ≤ mostEntries) × (q + n ≤ mostEntries) ⌝ }
     ensures { λ r. ⌜ Put (now (out .entry)) (now (out .exit)) at r (joined (upTo (factorLine (now (list .entry)) p q) n)) ⌝ }
 {
     let mut end = at;
@@ -192,7 +207,13 @@ fn put_factor_lines(
 }
 
 // The shares and the levels.
-fn put_factors(out: &mut [u8], at: usize, list: &[i64; 489], k: usize, places: Starts) -> usize
+fn put_factors(
+    out: &mut [u8],
+    at: usize,
+    list: &[i64; MOST_ENTRIES],
+    k: usize,
+    places: Starts,
+) -> usize
     requires { ⌜ (k < 16) × (places ≡ startsOf k) ⌝ }
     ensures { λ r. ⌜ Put (now (out .entry)) (now (out .exit)) at r (factorsTable k (now (list .entry))) ⌝ }
 {
@@ -212,7 +233,13 @@ fn put_factors(out: &mut [u8], at: usize, list: &[i64; 489], k: usize, places: S
 }
 
 // The averages, the shares and levels, and the completed payments.
-fn put_separation(out: &mut [u8], at: usize, list: &[i64; 489], k: usize, places: Starts) -> usize
+fn put_separation(
+    out: &mut [u8],
+    at: usize,
+    list: &[i64; MOST_ENTRIES],
+    k: usize,
+    places: Starts,
+) -> usize
     requires { ⌜ (k < 16) × (places ≡ startsOf k) ⌝ }
     ensures { λ r. ⌜ Put (now (out .entry)) (now (out .exit)) at r
         (averagesTable k (now (list .entry)) ++ (factorsTable k (now (list .entry)) ++ paymentsTable k (now (list .entry)))) ⌝ }
@@ -256,11 +283,11 @@ fn put_separation(out: &mut [u8], at: usize, list: &[i64; 489], k: usize, places
 fn put_separation_amounts(
     out: &mut [u8],
     at: usize,
-    list: &[i64; 489],
+    list: &[i64; MOST_ENTRIES],
     paid: u64,
     p: usize,
 ) -> usize
-    requires { ⌜ (paid ≤ 20000000000000) × (p < 489) ⌝ }
+    requires { ⌜ (paid ≤ 20000000000000) × (p < mostEntries) ⌝ }
     ensures { λ r. ⌜ Put (now (out .entry)) (now (out .exit)) at r (separationAmounts (now (list .entry)) paid p) ⌝ }
 {
     let a = put_right_decimal(out, at, 17, paid);
@@ -280,12 +307,12 @@ fn difference(x: u64, y: u64) -> i64
 fn put_ladder_amounts(
     out: &mut [u8],
     at: usize,
-    list: &[i64; 489],
+    list: &[i64; MOST_ENTRIES],
     r: usize,
     paid: u64,
     ladder: u64,
 ) -> usize
-    requires { ⌜ (r < 489) × ((paid ≤ 20000000000000) × (ladder ≤ 20000000000000)) ⌝ }
+    requires { ⌜ (r < mostEntries) × ((paid ≤ 20000000000000) × (ladder ≤ 20000000000000)) ⌝ }
     ensures { λ x. ⌜ Put (now (out .entry)) (now (out .exit)) at x (ladderAmounts (now (list .entry)) r paid ladder) ⌝ }
 {
     let a = put_entry(out, at, list, 17, 0, r);
@@ -298,7 +325,7 @@ fn put_ladder_amounts(
 fn put_amounts_line(
     out: &mut [u8],
     at: usize,
-    list: &[i64; 489],
+    list: &[i64; MOST_ENTRIES],
     i: usize,
     paid: u64,
     ladder: u64,
@@ -306,7 +333,7 @@ fn put_amounts_line(
     q: usize,
     r: usize,
 ) -> usize
-    requires { ⌜ (p < 489) × ((q < 489) × ((r < 489) × ((paid ≤ 20000000000000) × (ladder ≤ 20000000000000)))) ⌝ }
+    requires { ⌜ (p < mostEntries) × ((q < mostEntries) × ((r < mostEntries) × ((paid ≤ 20000000000000) × (ladder ≤ 20000000000000)))) ⌝ }
     ensures { λ x. ⌜ Put (now (out .entry)) (now (out .exit)) at x
         (year (decimal i)
         ++ (separationAmounts (now (list .entry)) paid p
@@ -322,7 +349,7 @@ fn put_amounts_line(
 fn put_amounts_lines(
     out: &mut [u8],
     at: usize,
-    list: &[i64; 489],
+    list: &[i64; MOST_ENTRIES],
     paid: &[u64; 16],
     ladder: &[u64; 16],
     p: usize,
@@ -330,7 +357,7 @@ fn put_amounts_lines(
     r: usize,
     n: usize,
 ) -> usize
-    requires { ⌜ (n ≤ 16) × ((p + n ≤ 489) × ((q + n ≤ 489) × ((r + n ≤ 489) × (Addable (now paid) × Addable (now ladder))))) ⌝ }
+    requires { ⌜ (n ≤ 16) × ((p + n ≤ mostEntries) × ((q + n ≤ mostEntries) × ((r + n ≤ mostEntries) × (Addable (now paid) × Addable (now ladder))))) ⌝ }
     ensures { λ x. ⌜ Put (now (out .entry)) (now (out .exit)) at x
         (joined (upTo (amountsLine (now (list .entry)) (now (paid .entry)) (now (ladder .entry)) p q r) n)) ⌝ }
 {
@@ -345,13 +372,13 @@ fn put_amounts_lines(
 fn put_totals_line(
     out: &mut [u8],
     at: usize,
-    list: &[i64; 489],
+    list: &[i64; MOST_ENTRIES],
     paid: u64,
     ladder: u64,
     p: usize,
     r: usize,
 ) -> usize
-    requires { ⌜ (p < 489) × ((r < 489) × ((paid ≤ 20000000000000) × (ladder ≤ 20000000000000))) ⌝ }
+    requires { ⌜ (p < mostEntries) × ((r < mostEntries) × ((paid ≤ 20000000000000) × (ladder ≤ 20000000000000))) ⌝ }
     ensures { λ x. ⌜ Put (now (out .entry)) (now (out .exit)) at x (totalsLine (now (list .entry)) paid ladder p r) ⌝ }
 {
     let a = put_right(out, at, 6, b"total");
@@ -372,7 +399,7 @@ fn sum_all(xs: &[u64; 16]) -> u64
 fn put_amounts(
     out: &mut [u8],
     at: usize,
-    list: &[i64; 489],
+    list: &[i64; MOST_ENTRIES],
     paid: &[u64; 16],
     ladder: &[u64; 16],
     k: usize,
@@ -409,8 +436,8 @@ fn put_amounts(
 }
 
 // The ULAE ratio, at place p of the list.
-fn put_ratio(out: &mut [u8], at: usize, list: &[i64; 489], p: usize) -> usize
-    requires { ⌜ p < 489 ⌝ }
+fn put_ratio(out: &mut [u8], at: usize, list: &[i64; MOST_ENTRIES], p: usize) -> usize
+    requires { ⌜ p < mostEntries ⌝ }
     ensures { λ r. ⌜ Put (now (out .entry)) (now (out .exit)) at r (ascii "\nULAE ratio " ++ (fixed 6 (entry (now (list .entry)) p) ++ lineEnd)) ⌝ }
 {
     let a = put_bytes(out, at, b"\nULAE ratio ");
@@ -419,8 +446,14 @@ fn put_ratio(out: &mut [u8], at: usize, list: &[i64; 489], p: usize) -> usize
 }
 
 // The development factors, which start at place p.
-fn put_development(out: &mut [u8], at: usize, list: &[i64; 489], k: usize, p: usize) -> usize
-    requires { ⌜ (k < 16) × ((p ≡ sectionStart k factorSection) × (p + k ≤ 489)) ⌝ }
+fn put_development(
+    out: &mut [u8],
+    at: usize,
+    list: &[i64; MOST_ENTRIES],
+    k: usize,
+    p: usize,
+) -> usize
+    requires { ⌜ (k < 16) × ((p ≡ sectionStart k factorSection) × (p + k ≤ mostEntries)) ⌝ }
     ensures { λ r. ⌜ Put (now (out .entry)) (now (out .exit)) at r (developmentTable k (now (list .entry))) ⌝ }
 {
     let a = put_bytes(
@@ -438,7 +471,13 @@ fn put_development(out: &mut [u8], at: usize, list: &[i64; 489], k: usize, p: us
 }
 
 // The ULAE ratio and the chain ladder.
-fn put_ladder(out: &mut [u8], at: usize, list: &[i64; 489], k: usize, places: Starts) -> usize
+fn put_ladder(
+    out: &mut [u8],
+    at: usize,
+    list: &[i64; MOST_ENTRIES],
+    k: usize,
+    places: Starts,
+) -> usize
     requires { ⌜ (k < 16) × (places ≡ startsOf k) ⌝ }
     ensures { λ r. ⌜ Put (now (out .entry)) (now (out .exit)) at r
         (ratioLine k (now (list .entry)) ++ (developmentTable k (now (list .entry)) ++ completedTable k (now (list .entry)))) ⌝ }
@@ -467,7 +506,7 @@ fn put_ladder(out: &mut [u8], at: usize, list: &[i64; 489], k: usize, places: St
 pub fn put_page(
     out: &mut [u8],
     at: usize,
-    list: &[i64; 489],
+    list: &[i64; MOST_ENTRIES],
     paid: &[u64; 16],
     ladder: &[u64; 16],
     k: usize,

@@ -6,6 +6,7 @@ use printing::put_number;
 use printing::put_text;
 use rules::MOST_ENTRIES;
 ghost use Prim.Native.Nat.{_≤_, _<_};
+ghost use Rattle.rules.specs.Results.{mostEntries};
 
 // k, the first four bits of a record's first byte.
 fn last_year(first: u8) -> usize
@@ -16,7 +17,7 @@ fn last_year(first: u8) -> usize
 
 // How many entries the result list of the record with this first byte has.
 fn count_of(first: u8) -> usize
-    ensures { λ r. ⌜ r ≤ 489 ⌝ }
+    ensures { λ r. ⌜ r ≤ mostEntries ⌝ }
 {
     entries_of(last_year(first))
 }

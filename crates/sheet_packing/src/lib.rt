@@ -1,5 +1,7 @@
 // Figures typed as text, packed into a record, or in words what is wrong with them.
 use entries::size_of;
+use rules::MOST_BYTES;
+use rules::MOST_FIELDS;
 use sheet_reading::pack;
 use sheet_reading::read_sheet;
 use sheet_writing::put_problem;
@@ -19,14 +21,14 @@ pub struct Outcome {
 fn put_wrong(text: &[u8], message: &mut [u8]) -> usize
     ensures { λ r. ⌜ Put (now (message .entry)) (now (message .exit)) 0 r (wrongText (readSheet (now (text .entry)))) ⌝ }
 {
-    let mut list = [0i64; 201];
+    let mut list = [0i64; MOST_FIELDS];
     let found = read_sheet(text, &mut list);
     let k = size_of(list[0]);
     put_problem(message, found.problem, found.line, k, found.place)
 }
 
 // Packs the figures of a text into the record, or says in the message what is wrong with them.
-pub fn pack_text(text: &[u8], packed: &mut [u8; 790], message: &mut [u8]) -> Outcome
+pub fn pack_text(text: &[u8], packed: &mut [u8; MOST_BYTES], message: &mut [u8]) -> Outcome
     ensures { λ r. ⌜ (now (packed .exit) ≡ packInto (readSheet (now (text .entry))) (now (packed .entry)))
         × ((r .size ≡ sizeOf (readSheet (now (text .entry))))
         × Put (now (message .entry)) (now (message .exit)) 0 (r .said) (saidOf (readSheet (now (text .entry))))) ⌝ }

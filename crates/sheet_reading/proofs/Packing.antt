@@ -7,7 +7,7 @@ use borrow.Author.Tests.{ne-eqb}
 use lib.IntN.{ℤ, pos, natAbs}
 use lib.ListN.{length, getD, take, drop, replicate, length-replicate, List·getD-append}
 use lib.Seq.{sets, sets-eq, length-sets}
-use Rattle.rules.specs.Record.{byteCount}
+use Rattle.rules.specs.Record.{byteCount, mostFields}
 use Rattle.rules.specs.Writing.{givenIn, writeAnswer, writeInto}
 use Rattle.laws.proofs.Rows.{cells-most}
 use Rattle.sheet.specs.Sheet.{Typed, lastYearIn, packAnswer, packInto}
@@ -43,21 +43,21 @@ pub record AsDue (t : Typed) (f : Found) (list : List ℤ) (k : ℕ) : Type 0 wh
   pub found : f ≡ foundOf t
   pub right : f .problem ≡ 0
   pub whole : Whole (t .numbers)
-  pub stored : list ≡ sets (replicate 201 (pos 0)) 0 (t .numbers)
+  pub stored : list ≡ sets (replicate mostFields (pos 0)) 0 (t .numbers)
   pub first : k ≡ natAbs (getD list 0 (pos 0))
 
 module _ {t : Typed} {f : Found} {list : List ℤ} {k : ℕ} (r : AsDue t f list k) where
   -- what stands in the list after the numbers
   rest : List ℤ
-  rest = drop (0 + length (t .numbers)) (replicate 201 (pos 0))
+  rest = drop (0 + length (t .numbers)) (replicate mostFields (pos 0))
 
   list-is : list ≡ t .numbers ++ rest
   unfolding rest
   list-is =
       let w = r .whole in
       r .stored
-      ∙ sets-eq (t .numbers) (replicate 201 (pos 0)) 0
-      (omega (arith, w .count, w .most, length-replicate 201 (pos 0), cells-most (lastYearIn (t .numbers)) (omega (arith, w .most))))
+      ∙ sets-eq (t .numbers) (replicate mostFields (pos 0)) 0
+      (omega (arith, w .count, w .most, length-replicate mostFields (pos 0), cells-most (lastYearIn (t .numbers)) (omega (arith, w .most))))
 
   years-are : k ≡ lastYearIn (t .numbers)
   years-are =
@@ -68,8 +68,8 @@ module _ {t : Typed} {f : Found} {list : List ℤ} {k : ℕ} (r : AsDue t f list
   pub few-years : k < 16
   few-years = omega (arith, years-are, r .whole .most)
 
-  pub list-long : length list ≡ 201
-  list-long = ap length (r .stored) ∙ (length-sets (replicate 201 (pos 0)) 0 (t .numbers) ∙ length-replicate 201 (pos 0))
+  pub list-long : length list ≡ mostFields
+  list-long = ap length (r .stored) ∙ (length-sets (replicate mostFields (pos 0)) 0 (t .numbers) ∙ length-replicate mostFields (pos 0))
 
   -- what the writer is given
   given-are : givenAt k list ≡ givenIn (t .numbers)

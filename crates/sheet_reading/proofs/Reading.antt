@@ -12,7 +12,7 @@ use lib.IntN.{ℤ}
 use lib.ListN.{length, drop, length-drop, length-map, drop-of-length-le}
 use lib.Seq.{sets}
 use Rattle.rules.specs.Lists.{total, every, upTo}
-use Rattle.rules.specs.Record.{cells}
+use Rattle.rules.specs.Record.{cells, mostFields}
 use Rattle.rules.specs.Triangle.{rowStart}
 use Rattle.laws.proofs.Questions.{yes-at}
 use Rattle.laws.proofs.Joined.{sets-append}
@@ -256,7 +256,7 @@ room-all k =
     )
 
 -- they are at most 201
-pub room-most : (k : ℕ) → k < 16 → roomAt k 0 ≤ 201
+pub room-most : (k : ℕ) → k < 16 → roomAt k 0 ≤ mostFields
 room-most k h = omega (arith, room-all k, cells-most k h)
 
 -- what reading found so far, and what is left to be read and stored
@@ -278,14 +278,14 @@ goes-more l₀ t₀ l at t g ws l′ n t′ e f h = record {
 -- a turn of the loop: the line of the text is as due at its place, ws comes after its label, and there is room for all that is due
 pub record Turn (k place at : ℕ) (xs line ws : List ℕ) : Type 0 where
   pub within : place ≤ k + 7
-  pub room : at + roomAt k place ≤ 201
+  pub room : at + roomAt k place ≤ mostFields
   pub cut : line ≡ uncommented (firstLine xs)
   pub as-due : answerAt k place line ≡ 0
   pub after : ws ≡ afterWord line
 
 module _ {k place at : ℕ} {xs line ws : List ℕ} (turn : Turn k place at xs line ws) where
   -- there is room for its numbers
-  pub turned-room : at + length (wordsIn ws) ≤ 201
+  pub turned-room : at + length (wordsIn ws) ≤ mostFields
   turned-room = rw (turn .after) (omega (arith, turn .room, turn-room k place line (turn .within) (turn .as-due)))
 
   -- m is 1 where the line has words, and n the place after its numbers
@@ -293,7 +293,7 @@ module _ {k place at : ℕ} {xs line ws : List ℕ} (turn : Turn k place at xs l
     pub turned-place : place + m ≤ k + 7
     turned-place = rw (c) (turn-place k place line (turn .within) (turn .as-due))
 
-    pub turned-left : n + roomAt k (place + m) ≤ 201
+    pub turned-left : n + roomAt k (place + m) ≤ mostFields
     turned-left =
         rw (c)
         (omega

@@ -8,7 +8,7 @@ use lib.IntN.{ℤ, pos, natAbs}
 use lib.ListN.{length, getD, set, take, drop, replicate, length-append, length-drop, length-map}
 use lib.Seq.{take-suc, take-at, take-append-le, drop-append-le, length-take-le, getD-drop, drop-drop}
 use Rattle.rules.specs.Lists.{padded, total}
-use Rattle.rules.specs.Record.{Kind, cells, layout, section, exposuresIn, incrementsIn, indicesIn, reportingIn, weightIn, ulaeIn}
+use Rattle.rules.specs.Record.{Kind, cells, layout, section, exposuresIn, incrementsIn, indicesIn, reportingIn, weightIn, ulaeIn, mostFields}
 use Rattle.rules.specs.Writing.{Given, given, writeInto}
 use Rattle.laws.proofs.Lists.{padded-more}
 use Rattle.laws.proofs.Rows.{cells-most}
@@ -103,7 +103,7 @@ module _ (n : ℕ) (xs ys : List ℕ) (e : xs ≡ padded 16 0 ys) (l : length ys
   array-front : take n xs ≡ ys
   array-front = rw (e) (front 16 n 0 ys l)
 
-module _ (k : ℕ) (vs : List ℤ) (h : k < 16) (l : length vs ≡ 201) where
+module _ (k : ℕ) (vs : List ℤ) (h : k < 16) (l : length vs ≡ mostFields) where
   exposures-count : length (exposuresIn k vs) ≡ k + 1
   exposures-count = ap length (exposures-at k vs) ∙ row-length (k + 1) 1 vs (omega arith)
 

@@ -2,6 +2,8 @@
 use entries::size_of;
 use layout::bytes_of;
 use layout::cells_of;
+use rules::MOST_BYTES;
+use rules::MOST_FIELDS;
 use scanning::after_line;
 use scanning::after_word;
 use scanning::all_numbers;
@@ -19,7 +21,7 @@ ghost use lib.IntN.{natAbs};
 ghost use lib.ListN.{length, getD, take, drop};
 ghost use lib.Seq.{sets};
 ghost use Rattle.rules.specs.Lists.{padded};
-ghost use Rattle.rules.specs.Record.{byteCount};
+ghost use Rattle.rules.specs.Record.{byteCount, mostBytes, mostFields};
 ghost use Rattle.rules.specs.Writing.{writeAnswer, writeInto};
 ghost use Rattle.sheet.specs.Sheet.{sameText, dueLines, readLines, readSheet, packInto};
 ghost use Rattle.sheet_reading.specs.Lines.{labels, rowAt, countAt, lineAs, problemOf, counted, answerAt, linesIn, foundOf};
@@ -238,7 +240,7 @@ fn read_first(text: &[u8], last: usize) -> First
 
 // Reads the lines of a text that gives the years 0 to k.
 fn read_lines(text: &[u8], k: usize, last: usize, list: &mut [i64]) -> Found
-    requires { ⌜ (k < 16) × (length (now list) ≡ 201) ⌝ }
+    requires { ⌜ (k < 16) × (length (now list) ≡ mostFields) ⌝ }
     ensures { λ r. ⌜ (r ≡ foundOf (readLines last 0 [] (dueLines k) (linesIn 1 (now (text .entry)))))
         × (now (list .exit) ≡ sets (now (list .entry)) 0 (readLines last 0 [] (dueLines k) (linesIn 1 (now (text .entry))) .numbers)) ⌝ }
 {
@@ -277,7 +279,7 @@ fn read_lines(text: &[u8], k: usize, last: usize, list: &mut [i64]) -> Found
 }
 
 // Reads the figures of a text into the list. Where something is wrong, the list has the numbers of the lines before.
-pub fn read_sheet(text: &[u8], list: &mut [i64; 201]) -> Found
+pub fn read_sheet(text: &[u8], list: &mut [i64; MOST_FIELDS]) -> Found
     ensures { λ r. ⌜ (r ≡ foundOf (readSheet (now (text .entry))))
         × (now (list .exit) ≡ sets (now (list .entry)) 0 (readSheet (now (text .entry)) .numbers)) ⌝ }
 {
@@ -307,7 +309,7 @@ fn sizes_of(list: &[i64], at: usize, n: usize) -> [u64; 16]
 
 // The rows of natural numbers of the years 0 to k, of a list that starts with the fields.
 fn rows_of(list: &[i64], k: usize) -> Rows
-    requires { ⌜ (k < 16) × (length (now list) ≡ 201) ⌝ }
+    requires { ⌜ (k < 16) × (length (now list) ≡ mostFields) ⌝ }
     ensures { λ r. ⌜ r ≡ rowsOf k (now (list .entry)) ⌝ }
 {
     let n = k + 1;
@@ -330,7 +332,7 @@ fn rows_of(list: &[i64], k: usize) -> Rows
 
 // Writes the record of the years 0 to k into the front of the buffer, from a list that starts with the fields.
 fn write_fields(list: &[i64], k: usize, buffer: &mut [u8]) -> u64
-    requires { ⌜ (k < 16) × ((length (now list) ≡ 201) × (length (now buffer) ≡ 790)) ⌝ }
+    requires { ⌜ (k < 16) × ((length (now list) ≡ mostFields) × (length (now buffer) ≡ mostBytes)) ⌝ }
     ensures { λ r. ⌜ (r ≡ writeAnswer (givenAt k (now (list .entry))) (byteCount k))
         × (now (buffer .exit)
         ≡ writeInto (givenAt k (now (list .entry))) (take (byteCount k) (now (buffer .entry))) ++ drop (byteCount k) (now (buffer .entry))) ⌝ }
@@ -357,11 +359,11 @@ fn write_fields(list: &[i64], k: usize, buffer: &mut [u8]) -> u64
 }
 
 // Packs the figures of a text into the buffer.
-pub fn pack(text: &[u8], buffer: &mut [u8; 790]) -> Packed
+pub fn pack(text: &[u8], buffer: &mut [u8; MOST_BYTES]) -> Packed
     ensures { λ r. ⌜ (r ≡ packedOf (readSheet (now (text .entry))))
         × (now (buffer .exit) ≡ packInto (readSheet (now (text .entry))) (now (buffer .entry))) ⌝ }
 {
-    let mut list = [0i64; 201];
+    let mut list = [0i64; MOST_FIELDS];
     let found = read_sheet(text, &mut list);
     if found.problem == 6 {
         return Packed {

@@ -10,7 +10,7 @@ use lib.ListN.{length, getD, take, drop, drop-of-length-le}
 use lib.Seq.{take-all, sets-eq, length-take-le}
 use Rattle.rules.specs.Packing.{Fit}
 use Rattle.rules.specs.Questions.{afterCall}
-use Rattle.rules.specs.Record.{fieldCount, lastYearOf, fieldsOf}
+use Rattle.rules.specs.Record.{fieldCount, lastYearOf, fieldsOf, mostFields}
 use Rattle.rules.specs.Reading.{readAnswer, readInto}
 use Rattle.rules.specs.Writing.{givenIn, writeAnswer, writeInto}
 use Rattle.layout.proofs.Sizes.{fields-count, years-lt}
@@ -99,12 +99,12 @@ module _ (s : List ℕ) (m : ℕ) (h : Fit 8 s) (r : readAnswer s m ≡ 0) where
       rw (shown-back, size-is) (w .0, ap (λ (l : List ℕ). l ++ drop (length s) buffer) (w .1))
 
 -- packing what an accepted record is shown as, in a buffer of at least 4544 bytes, makes the record again
-pub unpacked-packed : (s : List ℕ) → Fit 8 s → readAnswer s 201 ≡ 0 → {a b : List ℕ} {j : ℕ} → Put a b 0 j (shownText s) → 4544 ≤ length a
+pub unpacked-packed : (s : List ℕ) → Fit 8 s → readAnswer s mostFields ≡ 0 → {a b : List ℕ} {j : ℕ} → Put a b 0 j (shownText s) → 4544 ≤ length a
     → (buffer : List ℕ) → length s ≤ length buffer
     → (packAnswer (readSheet (take j b)) ≡ 0) × (packInto (readSheet (take j b)) buffer ≡ s ++ drop (length s) buffer)
 unfolding shownText afterCall
 unpacked-packed s h r {a} {b} {j} p long buffer room =
-    let years : lastYearIn (fieldsOf s) < 16 = rw (ap natAbs (accepted-fields s 201 h r .first)) (years-lt s h) in
+    let years : lastYearIn (fieldsOf s) < 16 = rw (ap natAbs (accepted-fields s mostFields h r .first)) (years-lt s h) in
     let text : Put a b 0 j (sheetOf (fieldsOf s)) = rw r at p in
     let back : take j b ≡ sheetOf (fieldsOf s) = put-back text (omega (arith, sheet-length (fieldsOf s) years)) in
-    rw back (packed-again s 201 h r buffer room)
+    rw back (packed-again s mostFields h r buffer room)

@@ -8,7 +8,7 @@ use lib.ListN.{length, getD, drop, length-drop, List·getD-append}
 use lib.Seq.{sets-eq, take-append-le, drop-append-le}
 use Rattle.rules.specs.Packing.{Fit}
 use Rattle.rules.specs.Questions.{afterCall}
-use Rattle.rules.specs.Record.{fieldCount, lastYearOf, fieldsOf}
+use Rattle.rules.specs.Record.{fieldCount, lastYearOf, fieldsOf, mostFields}
 use Rattle.rules.specs.Reading.{readAnswer, readInto}
 use Rattle.layout.proofs.Sizes.{fields-count, years-lt}
 use Rattle.record.proofs.Answers.{reader-yes}
@@ -55,29 +55,29 @@ accepted-fields s m h r =
     let a = reader-yes s m r in
     record-read s h (a .size) (a .filled) (a .ranges) .0
 
-module _ (s : List ℕ) (h : Fit 8 s) (r : readAnswer s 201 ≡ 0) (out : List ℤ) (long : length out ≡ 201) where
+module _ (s : List ℕ) (h : Fit 8 s) (r : readAnswer s mostFields ≡ 0) (out : List ℤ) (long : length out ≡ mostFields) where
   -- the list that it was read into: the fields and what follows them
   read-list : readInto s out ≡ fieldsOf s ++ drop (0 + length (fieldsOf s)) out
   unfolding readInto afterCall
   read-list =
-      let f = accepted-fields s 201 h r in
-      rw (long, r) (sets-eq (fieldsOf s) out 0 (omega (arith, f .size, reader-yes s 201 r .room)))
+      let f = accepted-fields s mostFields h r in
+      rw (long, r) (sets-eq (fieldsOf s) out 0 (omega (arith, f .size, reader-yes s mostFields r .room)))
 
   -- k is below 16
   pub read-years : lastYearIn (readInto s out) < 16
   read-years =
-      let f = accepted-fields s 201 h r in
+      let f = accepted-fields s mostFields h r in
       rw (read-list, years-first (lastYearOf s) (fieldsOf s) (drop (0 + length (fieldsOf s)) out) (f .size) (f .first)) (years-lt s h)
 
   -- the text is that of the record
   pub read-sheet : sheetOf (readInto s out) ≡ shownText s
   unfolding shownText afterCall
   read-sheet =
-      let f = accepted-fields s 201 h r in
+      let f = accepted-fields s mostFields h r in
       rw (r, read-list) (sheet-first (lastYearOf s) (fieldsOf s) _ (f .size) (f .first))
 
 -- a refused record is shown as nothing
-pub put-nothing : (s a : List ℕ) (n : ℕ) → n ≡ readAnswer s 201 → (n ≡ 0 → ⊥) → Put a a 0 0 (shownText s)
+pub put-nothing : (s a : List ℕ) (n : ℕ) → n ≡ readAnswer s mostFields → (n ≡ 0 → ⊥) → Put a a 0 0 (shownText s)
 unfolding shownText afterCall
 put-nothing s a zero e h = absurd (h refl)
 put-nothing s a (suc n) e h = rw (← e) (put-none a 0)

@@ -5,7 +5,7 @@ use lib.IntN.{ℤ}
 use lib.ListN.{take, drop}
 use Rattle.rules.specs.Lists.{upTo}
 use Rattle.rules.specs.Questions.{afterCall}
-use Rattle.rules.specs.Record.{fieldsOf}
+use Rattle.rules.specs.Record.{fieldsOf, mostFields}
 use Rattle.rules.specs.Reading.{readAnswer}
 use Rattle.sheet.specs.Sheet.{Due, due, duePaid, spaced, sheetOf}
 
@@ -25,4 +25,4 @@ lineFrom label vs from n = label ++ (spaced (take n (drop from vs)) ++ (10 ∷ [
 
 -- the text that a record is shown as: its fields, and nothing for a record that is refused
 unfoldable pub shownText : List ℕ → List ℕ
-shownText s = afterCall (readAnswer s 201) (sheetOf (fieldsOf s)) []
+shownText s = afterCall (readAnswer s mostFields) (sheetOf (fieldsOf s)) []

@@ -7,11 +7,12 @@ use entries::size_of;
 use layout::cells_of;
 use reading::doonamurk_read;
 use rules::ACCEPTED;
+use rules::MOST_FIELDS;
 ghost use mathlib.Core.Path.{_≡_};
 ghost use Prim.Native.Nat.{_+_, _*_, _^_, _<_, _≤_};
 ghost use mathlib.Core.List.{_++_};
 ghost use lib.ListN.{length, take, drop};
-ghost use Rattle.rules.specs.Record.{cells};
+ghost use Rattle.rules.specs.Record.{cells, mostFields};
 ghost use Rattle.rules.specs.Reading.{readAnswer};
 ghost use Rattle.composing.specs.Text.{Put};
 ghost use Rattle.sheet.specs.Sheet.{spaced, linesOf, lastYearIn, sheetOf};
@@ -77,7 +78,7 @@ fn put_rest(out: &mut [u8], at: usize, list: &[i64], k: usize, from: usize) -> u
 }
 
 // The fields of a record, first in the list, as text.
-pub fn put_sheet(out: &mut [u8], list: &[i64; 201]) -> usize
+pub fn put_sheet(out: &mut [u8], list: &[i64; MOST_FIELDS]) -> usize
     requires { ⌜ lastYearIn (now list) < 16 ⌝ }
     ensures { λ r. ⌜ Put (now (out .entry)) (now (out .exit)) 0 r (sheetOf (now (list .entry))) ⌝ }
 {
@@ -95,10 +96,10 @@ pub struct Shown {
 
 // Puts the fields of a record as text into the buffer and answers 0, or leaves the buffer and answers the number of the reader's question.
 pub fn unpack(packed: &[u8], out: &mut [u8]) -> Shown
-    ensures { λ r. ⌜ (r .answer ≡ readAnswer (now (packed .entry)) 201)
+    ensures { λ r. ⌜ (r .answer ≡ readAnswer (now (packed .entry)) mostFields)
         × Put (now (out .entry)) (now (out .exit)) 0 (r .end) (shownText (now (packed .entry))) ⌝ }
 {
-    let mut list = [0i64; 201];
+    let mut list = [0i64; MOST_FIELDS];
     let answer = doonamurk_read(packed, &mut list);
     if answer != ACCEPTED {
         return Shown { answer, end: 0 };

@@ -6,12 +6,13 @@ use entries::size_of;
 use layout::cells_of;
 use listing::starts_of;
 use page::put_page;
+use rules::MOST_ENTRIES;
 ghost use mathlib.Core.Path.{_≡_};
 ghost use mathlib.Core.List.{_++_};
 ghost use Prim.Native.Nat.{_+_, _-_, _*_, _≤_, _<_, max};
 ghost use lib.IntN.{pos};
 ghost use Rattle.rules.specs.Lists.{upTo, joined};
-ghost use Rattle.rules.specs.Results.{shareSection, levelSection, futureLevelSection, sectionStart};
+ghost use Rattle.rules.specs.Results.{shareSection, levelSection, futureLevelSection, sectionStart, mostEntries};
 ghost use Rattle.composing.specs.Text.{ascii, fixed, Put};
 ghost use Rattle.listing.specs.Starts.{Addable};
 ghost use Rattle.web_page.specs.Web.{limited, largestIn, scaled, shadedCell, shadedCells, yearCell, shadedRow, shadedTable, barShape, barValue, barYear, bar, plotStart, levelBar, largestLevel, levelsPlot, shareOf, shareBar, sharesPlot, styleText, webStart, webPageOf};
@@ -35,8 +36,8 @@ fn larger(a: u64, b: u64) -> u64
 }
 
 // The largest of n entries from place p of the list on.
-fn largest_in(list: &[i64; 489], p: usize, n: usize) -> u64
-    requires { ⌜ p + n ≤ 489 ⌝ }
+fn largest_in(list: &[i64; MOST_ENTRIES], p: usize, n: usize) -> u64
+    requires { ⌜ p + n ≤ mostEntries ⌝ }
     ensures { λ r. ⌜ r ≡ largestIn (now (list .entry)) p n ⌝ }
 {
     let mut largest: u64 = 0;
@@ -84,12 +85,12 @@ fn put_shaded(out: &mut [u8], at: usize, largest: u64, z: i64) -> usize
 fn put_shaded_cells(
     out: &mut [u8],
     at: usize,
-    list: &[i64; 489],
+    list: &[i64; MOST_ENTRIES],
     largest: u64,
     p: usize,
     n: usize,
 ) -> usize
-    requires { ⌜ p + n ≤ 489 ⌝ }
+    requires { ⌜ p + n ≤ mostEntries ⌝ }
     ensures { λ r. ⌜ Put (now (out .entry)) (now (out .exit)) at r (shadedCells (now (list .entry)) largest p n) ⌝ }
 {
     let mut end = at;
@@ -123,13 +124,13 @@ fn put_years(out: &mut [u8], at: usize, n: usize) -> usize
 fn put_row(
     out: &mut [u8],
     at: usize,
-    list: &[i64; 489],
+    list: &[i64; MOST_ENTRIES],
     largest: u64,
     i: usize,
     p: usize,
     n: usize,
 ) -> usize
-    requires { ⌜ p + n ≤ 489 ⌝ }
+    requires { ⌜ p + n ≤ mostEntries ⌝ }
     ensures { λ r. ⌜ Put (now (out .entry)) (now (out .exit)) at r
         (ascii "<tr>" ++ (yearCell i ++ (shadedCells (now (list .entry)) largest p n ++ ascii "</tr>\n"))) ⌝ }
 {
@@ -140,7 +141,7 @@ fn put_row(
 }
 
 // The origin years of the averages.
-fn put_rows(out: &mut [u8], at: usize, list: &[i64; 489], largest: u64, k: usize) -> usize
+fn put_rows(out: &mut [u8], at: usize, list: &[i64; MOST_ENTRIES], largest: u64, k: usize) -> usize
     requires { ⌜ k < 16 ⌝ }
     ensures { λ r. ⌜ Put (now (out .entry)) (now (out .exit)) at r (joined (upTo (shadedRow k (now (list .entry)) largest) (k + 1))) ⌝ }
 {
@@ -156,7 +157,7 @@ fn put_rows(out: &mut [u8], at: usize, list: &[i64; 489], largest: u64, k: usize
 }
 
 // The averages.
-fn put_table(out: &mut [u8], at: usize, list: &[i64; 489], k: usize) -> usize
+fn put_table(out: &mut [u8], at: usize, list: &[i64; MOST_ENTRIES], k: usize) -> usize
     requires { ⌜ k < 16 ⌝ }
     ensures { λ r. ⌜ Put (now (out .entry)) (now (out .exit)) at r (shadedTable k (now (list .entry))) ⌝ }
 {
@@ -241,13 +242,13 @@ fn put_level(out: &mut [u8], at: usize, largest: u64, h: usize, level: i64) -> u
 fn put_levels(
     out: &mut [u8],
     at: usize,
-    list: &[i64; 489],
+    list: &[i64; MOST_ENTRIES],
     largest: u64,
     first: usize,
     p: usize,
     n: usize,
 ) -> usize
-    requires { ⌜ (first + n < 32) × (p + n ≤ 489) ⌝ }
+    requires { ⌜ (first + n < 32) × (p + n ≤ mostEntries) ⌝ }
     ensures { λ r. ⌜ Put (now (out .entry)) (now (out .exit)) at r (joined (upTo (levelBar (now (list .entry)) largest first p) n)) ⌝ }
 {
     let mut end = at;
@@ -258,7 +259,7 @@ fn put_levels(
 }
 
 // The largest of the levels, which start at p, and of the future levels, which start at q.
-fn largest_level(list: &[i64; 489], k: usize, p: usize, q: usize) -> u64
+fn largest_level(list: &[i64; MOST_ENTRIES], k: usize, p: usize, q: usize) -> u64
     requires { ⌜ (k < 16) × ((p ≡ sectionStart k levelSection) × (q ≡ sectionStart k futureLevelSection)) ⌝ }
     ensures { λ r. ⌜ r ≡ largestLevel k (now (list .entry)) ⌝ }
 {
@@ -269,7 +270,7 @@ fn largest_level(list: &[i64; 489], k: usize, p: usize, q: usize) -> u64
 fn put_levels_plot(
     out: &mut [u8],
     at: usize,
-    list: &[i64; 489],
+    list: &[i64; MOST_ENTRIES],
     largest: u64,
     k: usize,
     p: usize,
@@ -310,8 +311,8 @@ fn put_share(out: &mut [u8], at: usize, h: usize, running: u64) -> usize
 }
 
 // The running shares of n development years, from the section that starts at p.
-fn put_shares(out: &mut [u8], at: usize, list: &[i64; 489], p: usize, n: usize) -> usize
-    requires { ⌜ (n ≤ 16) × (p + n ≤ 489) ⌝ }
+fn put_shares(out: &mut [u8], at: usize, list: &[i64; MOST_ENTRIES], p: usize, n: usize) -> usize
+    requires { ⌜ (n ≤ 16) × (p + n ≤ mostEntries) ⌝ }
     ensures { λ r. ⌜ Put (now (out .entry)) (now (out .exit)) at r (joined (upTo (shareBar (now (list .entry)) p) n)) ⌝ }
 {
     let mut end = at;
@@ -324,7 +325,13 @@ fn put_shares(out: &mut [u8], at: usize, list: &[i64; 489], p: usize, n: usize) 
 }
 
 // The plot of the running shares; the shares start at p.
-fn put_shares_plot(out: &mut [u8], at: usize, list: &[i64; 489], k: usize, p: usize) -> usize
+fn put_shares_plot(
+    out: &mut [u8],
+    at: usize,
+    list: &[i64; MOST_ENTRIES],
+    k: usize,
+    p: usize,
+) -> usize
     requires { ⌜ (k < 16) × (p ≡ sectionStart k shareSection) ⌝ }
     ensures { λ r. ⌜ Put (now (out .entry)) (now (out .exit)) at r (sharesPlot k (now (list .entry))) ⌝ }
 {
@@ -378,7 +385,7 @@ pub fn put_text_end(out: &mut [u8], at: usize) -> usize
 }
 
 // The plots.
-fn put_plots(out: &mut [u8], at: usize, list: &[i64; 489], k: usize) -> usize
+fn put_plots(out: &mut [u8], at: usize, list: &[i64; MOST_ENTRIES], k: usize) -> usize
     requires { ⌜ k < 16 ⌝ }
     ensures { λ r. ⌜ Put (now (out .entry)) (now (out .exit)) at r (levelsPlot k (now (list .entry)) ++ sharesPlot k (now (list .entry))) ⌝ }
 {
@@ -389,7 +396,7 @@ fn put_plots(out: &mut [u8], at: usize, list: &[i64; 489], k: usize) -> usize
 }
 
 // The tables and the plots.
-fn put_figures(out: &mut [u8], at: usize, list: &[i64; 489], k: usize) -> usize
+fn put_figures(out: &mut [u8], at: usize, list: &[i64; MOST_ENTRIES], k: usize) -> usize
     requires { ⌜ k < 16 ⌝ }
     ensures { λ r. ⌜ Put (now (out .entry)) (now (out .exit)) at r
         (shadedTable k (now (list .entry)) ++ (levelsPlot k (now (list .entry)) ++ sharesPlot k (now (list .entry)))) ⌝ }
@@ -401,7 +408,7 @@ fn put_figures(out: &mut [u8], at: usize, list: &[i64; 489], k: usize) -> usize
 // The page.
 pub fn put_web_page(
     out: &mut [u8],
-    list: &[i64; 489],
+    list: &[i64; MOST_ENTRIES],
     paid: &[u64; 16],
     ladder: &[u64; 16],
     k: usize,

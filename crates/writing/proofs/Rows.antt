@@ -8,7 +8,7 @@ use borrow.Author.Tests.{eqb-true, leb-true}
 use lib.Dec.{eqb, leb}
 use lib.IntN.{ℤ, pos}
 use lib.ListN.{length, length-map}
-use Rattle.rules.specs.Record.{Kind, lastYear, exposure, increment, index, reporting, weight, ulae, cells, layout, kindsOf, byteCount, codeOf, inRange}
+use Rattle.rules.specs.Record.{Kind, lastYear, exposure, increment, index, reporting, weight, ulae, cells, layout, kindsOf, byteCount, codeOf, inRange, million, mostAmount, mostIndex}
 use Rattle.rules.specs.Writing.{Given, givenFields, givenLastYear, givenLengths, givenRanges}
 use Rattle.rules.specs.Lists.{every, between}
 use Rattle.laws.proofs.Lists.{both-left, both-right}
@@ -158,23 +158,23 @@ module _ (g : Given) (m : ℕ) (l : Lengths g m) where
         plain-range reporting refl (g .reporting),
         plain-range weight refl (g .weight ∷ []),
         plain-range ulae refl (g .ulae),
-        and-true (between 0 1000000 (g .weight)),
-        and-true (every (between 0 10000000000) (g .ulae)),
+        and-true (between 0 million (g .weight)),
+        and-true (every (between 0 mostAmount) (g .ulae)),
       )
 
 -- what question 4 says, row by row
 pub record Ranges (g : Given) : Type 0 where
-  pub exposures : every (between 1 1000000) (g .exposures) ≡ true
+  pub exposures : every (between 1 million) (g .exposures) ≡ true
   pub increments : every (inRange increment) (g .increments) ≡ true
-  pub indices : every (between 1 5000000) (g .indices) ≡ true
-  pub reporting : every (between 0 1000000) (g .reporting) ≡ true
-  pub weight : every (between 0 1000000) (g .weight ∷ []) ≡ true
-  pub ulae : every (between 0 10000000000) (g .ulae) ≡ true
+  pub indices : every (between 1 mostIndex) (g .indices) ≡ true
+  pub reporting : every (between 0 million) (g .reporting) ≡ true
+  pub weight : every (between 0 million) (g .weight ∷ []) ≡ true
+  pub ulae : every (between 0 mostAmount) (g .ulae) ≡ true
 
 pub ranges-hold : (g : Given) → rangesOf g ≡ true → Ranges g
 unfolding rangesOf every
 ranges-hold g h =
     let (a, b, c, d, e, f) =
-    all-six (every (between 1 1000000) (g .exposures)) (every (inRange increment) (g .increments)) (every (between 1 5000000) (g .indices))
-    (every (between 0 1000000) (g .reporting)) (between 0 1000000 (g .weight)) (every (between 0 10000000000) (g .ulae)) h in
-    record { exposures = a; increments = b; indices = c; reporting = d; weight = and-true (between 0 1000000 (g .weight)) ∙ e; ulae = f }
+    all-six (every (between 1 million) (g .exposures)) (every (inRange increment) (g .increments)) (every (between 1 mostIndex) (g .indices))
+    (every (between 0 million) (g .reporting)) (between 0 million (g .weight)) (every (between 0 mostAmount) (g .ulae)) h in
+    record { exposures = a; increments = b; indices = c; reporting = d; weight = and-true (between 0 million (g .weight)) ∙ e; ulae = f }

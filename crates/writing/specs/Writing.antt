@@ -2,17 +2,17 @@
 use Prim.Native.Nat.{ℕ}
 use mathlib.Core.Path.{_≡_}
 use mathlib.Core.Bool.{Bool, true, _&&_}
-use Rattle.rules.specs.Record.{increment, inRange}
+use Rattle.rules.specs.Record.{increment, inRange, million, mostAmount, mostIndex}
 use Rattle.rules.specs.Writing.{Given, givenLastYear, givenLengths}
 use Rattle.rules.specs.Lists.{every, between}
 
 -- question 4 row by row
 unfoldable pub rangesOf : Given → Bool
 rangesOf g =
-    every (between 1 1000000) (g .exposures)
+    every (between 1 million) (g .exposures)
     && (every (inRange increment) (g .increments)
-    && (every (between 1 5000000) (g .indices)
-    && (every (between 0 1000000) (g .reporting) && (between 0 1000000 (g .weight) && every (between 0 10000000000) (g .ulae)))))
+    && (every (between 1 mostIndex) (g .indices)
+    && (every (between 0 million) (g .reporting) && (between 0 million (g .weight) && every (between 0 mostAmount) (g .ulae)))))
 
 -- what has passed questions 1, 2 and 4, with a buffer of m bytes
 pub record Writable (g : Given) (m : ℕ) : Type 0 where

@@ -19,7 +19,7 @@ ghost use Prim.Native.Nat.{_+_, _*_, _<_, _^_};
 ghost use lib.Dec.{eqb, leb};
 ghost use lib.ListN.{length, replicate};
 ghost use Rattle.rules.specs.Packing.{pack};
-ghost use Rattle.rules.specs.Record.{increment, inRange, codeOf, byteCount, cells, recordOf};
+ghost use Rattle.rules.specs.Record.{increment, inRange, codeOf, byteCount, cells, recordOf, million, mostAmount, mostIndex};
 ghost use Rattle.rules.specs.Writing.{given, givenFields, writeAnswer, writeInto};
 ghost use Rattle.rules.specs.Lists.{every, between};
 ghost use Rattle.packing.specs.Pending.{Ready, Packed};
@@ -99,11 +99,11 @@ fn given_ranges(
     weight: u64,
     ulae: &[u64],
 ) -> bool
-    ensures { λ r. ⌜ r ≡ every (between 1 1000000) (now (exposures .entry))
+    ensures { λ r. ⌜ r ≡ every (between 1 million) (now (exposures .entry))
         && (every (inRange increment) (now (increments .entry))
-        && (every (between 1 5000000) (now (indices .entry))
-        && (every (between 0 1000000) (now (reporting .entry))
-        && (between 0 1000000 weight && every (between 0 10000000000) (now (ulae .entry)))))) ⌝ }
+        && (every (between 1 mostIndex) (now (indices .entry))
+        && (every (between 0 million) (now (reporting .entry))
+        && (between 0 million weight && every (between 0 mostAmount) (now (ulae .entry)))))) ⌝ }
 {
     if !within(exposures, exposures.len(), 1, MILLION) {
         return false;

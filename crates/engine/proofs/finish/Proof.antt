@@ -42,7 +42,7 @@ fill-levels-requires : tie.Need-fill-levels-requires
 fill-levels-requires c κs =
     let s = c .before .before in
     let h = separated s in
-    (h .sound .few, (stage.latest-fits (F s) _ _ _ _ _ h, h .sound .indices))
+    (h .sound .few, (stage.levels-fit (F s) _ _ _ _ _ h _, h .sound .indices))
 
 complete-requires : tie.Need-complete-requires
 complete-requires c κs =

@@ -2,6 +2,7 @@
 use native.Mathlib.Omega.{arith}
 use Prim.Native.Nat.{_+_, _-_, _≤_}
 use native.Mathlib.Nat.{sub-zero}
+use Rattle.rules.specs.Results.{mostEntries}
 use Rattle.composing.proofs.Puts.{put-length}
 use Rattle.page.specs.Page.{entriesIn, nextRow}
 use Rattle.page.proofs.Lines.{Begun, lines-first, lines-more, lines-last, entries-next}
@@ -11,7 +12,7 @@ use Rattle.page.proofs.put_lines.Tie as tie
 
 abbrev Inv-loop : tie.InvT-loop
 Inv-loop out₀ at list d n y p end₀ row₀ from₀ i₀ out end row from i =
-    (i ≤ n) × ((row .blank ≤ 16) × ((row .up ≤ 1) × ((from + entriesIn (n - i) row ≤ 489) × Begun list d n y row₀ p out₀ out at end i row from)))
+    (i ≤ n) × ((row .blank ≤ 16) × ((row .up ≤ 1) × ((from + entriesIn (n - i) row ≤ mostEntries) × Begun list d n y row₀ p out₀ out at end i row from)))
 
 abbrev μ-loop : tie.MeasureT-loop
 μ-loop out₀ at list d n y p end₀ row₀ from₀ i₀ out end row from i = n - i

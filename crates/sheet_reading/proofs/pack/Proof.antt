@@ -6,6 +6,7 @@ use lib.IntN.{pos, natAbs}
 use lib.ListN.{length, getD}
 use mir.Facts.{toZ-ofZ}
 use mir.Syntax.{w64}
+use Rattle.rules.specs.Record.{mostBytes}
 use Rattle.sheet.specs.Sheet.{readSheet}
 use Rattle.sheet_reading.specs.declared.Found.{Found}
 use Rattle.sheet_reading.proofs.Sheets.{sheet-whole}
@@ -66,7 +67,7 @@ slice-aggregate-write-fields c = sym (list-long (due (c .before)))
 write-fields-requires : tie.Need-write-fields-requires
 write-fields-requires c κs =
     let z = c .before .before in
-    let buffer : length (read z .before .before .before .args .buffer .now) ≡ 790 = search needs in
+    let buffer : length (read z .before .before .before .args .buffer .now) ≡ mostBytes = search needs in
     (few-years (due z), (list-long (due z), buffer))
 
 bytes-of-requires : tie.Need-bytes-of-requires

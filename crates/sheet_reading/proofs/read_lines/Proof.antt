@@ -5,6 +5,7 @@ use Prim.Native.Nat.{ℕ, _+_, _≤_}
 use native.Mathlib.Omega.{arith}
 use lib.ListN.{length}
 use lib.Seq.{sets, length-sets}
+use Rattle.rules.specs.Record.{mostFields}
 use Rattle.scanning.specs.Scan.{wholeOf}
 use Rattle.scanning.specs.Parts.{afterLine, wordsIn}
 use Rattle.sheet.specs.Sheet.{Typed, typed}
@@ -17,7 +18,7 @@ use Rattle.sheet_reading.proofs.read_lines.Tie as tie
 abbrev Inv-loop : tie.InvT-loop
 Inv-loop text k last list₀ rest₀ line-number₀ place₀ at₀ list rest line-number place at =
     Goes list₀ (readAt k last 0 1 text) list at (readAt k last place line-number rest)
-    × ((place ≤ k + 7) × ((at + roomAt k place ≤ 201) × ((length list ≡ length list₀) × (line-number + length rest ≤ length text + 1))))
+    × ((place ≤ k + 7) × ((at + roomAt k place ≤ mostFields) × ((length list ≡ length list₀) × (line-number + length rest ≤ length text + 1))))
 
 abbrev μ-loop : tie.MeasureT-loop
 μ-loop text k last list₀ rest₀ line-number₀ place₀ at₀ list rest line-number place at = length rest
@@ -91,7 +92,7 @@ put-numbers-requires : tie.Need-put-numbers-requires Inv-loop μ-loop
 put-numbers-requires c κs =
     let l = loop (c .before) in
     let fit = turned-room (turn (c .before)) in
-    let long : length (l .loop .list) ≡ 201 = l .loop .inv .1 .1 .1 .0 ∙ start l .pre .1 in
+    let long : length (l .loop .list) ≡ mostFields = l .loop .inv .1 .1 .1 .0 ∙ start l .pre .1 in
     omega arith
 
 counted-requires : tie.Need-counted-requires Inv-loop μ-loop

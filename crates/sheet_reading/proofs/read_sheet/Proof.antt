@@ -2,6 +2,7 @@
 use mathlib.Core.Path.{_≡_, sym, ap, _∙_}
 use lib.ListN.{length}
 use lib.Seq.{sets}
+use Rattle.rules.specs.Record.{mostFields}
 use Rattle.sheet.specs.Sheet.{Typed}
 use Rattle.sheet_reading.specs.Lines.{foundOf, linesIn}
 use Rattle.sheet_reading.proofs.Sheets.{sheet-wrong, sheet-right, known-years}
@@ -29,7 +30,7 @@ read-lines-requires c κs =
     let f = d .before .before in
     let n = f .before in
     let a = n .before .before .args in
-    let long : length (a .list .now) ≡ 201 = search needs in
+    let long : length (a .list .now) ≡ mostFields = search needs in
     (known-years (n .count-lines .result) (linesIn 1 (a .text .now)) (f .read-first .result) (f .read-first .ensures) (d .if1 .left), long)
 
 returns-2 : tie.Need-returns-2

@@ -8,7 +8,7 @@ use lib.ListN.{length, getD}
 use denote.Ref.{now}
 use mir.Syntax.{w64}
 use mir.Facts.{toZ-ofZ}
-use Rattle.rules.specs.Record.{cells}
+use Rattle.rules.specs.Record.{cells, mostFields}
 use Rattle.laws.proofs.Rows.{cells-most}
 use Rattle.sheet.specs.Sheet.{lastYearIn, sheetOf}
 use Rattle.sheet_writing.proofs.Lines.{put-sheet-lines}
@@ -31,14 +31,14 @@ size-of-requires c κs = search needs
 
 put-first-requires : tie.Need-put-first-requires
 put-first-requires c κs =
-    let long : length (c .before .before .before .before .before .args .list .now) ≡ 201 = c .put-first-arg2 .given .0 in
+    let long : length (c .before .before .before .before .before .args .list .now) ≡ mostFields = c .put-first-arg2 .given .0 in
     let few : c .before .before .size-of .result < 16 = years (c .before .before) .1 in
     (few, omega arith)
 
 put-paid-requires : tie.Need-put-paid-requires
 put-paid-requires c κs =
     let k = c .before .before .before .before .before .before .before .size-of .result in
-    let long : length (c .before .before .before .before .before .before .before .before .before .before .args .list .now) ≡ 201 = c .put-paid-arg2 .given .0 in
+    let long : length (c .before .before .before .before .before .before .before .before .before .before .args .list .now) ≡ mostFields = c .put-paid-arg2 .given .0 in
     let few : k < 16 = years (c .before .before .before .before .before .before .before) .1 in
     (few, omega (arith, cells-most k few))
 
@@ -53,7 +53,7 @@ add-put-rest-2 c = record { fits = omega (arith, years (c .before .before .befor
 
 put-rest-requires : tie.Need-put-rest-requires
 put-rest-requires c κs =
-    let long : length (c .before .before .before .before .before .before .before .before .before .before .before .before .before .before .before .before .args .list .now) ≡ 201 = c .before .put-rest-arg2 .given .0 in
+    let long : length (c .before .before .before .before .before .before .before .before .before .before .before .before .before .before .before .before .args .list .now) ≡ mostFields = c .before .put-rest-arg2 .given .0 in
     let few : c .before .before .before .before .before .before .before .before .before .before .before .before .before .size-of .result < 16 = years (c .before .before .before .before .before .before .before .before .before .before .before .before .before) .1 in
     (few, omega (arith, c .cells-of .ensures .1))
 

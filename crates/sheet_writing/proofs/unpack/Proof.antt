@@ -4,6 +4,7 @@ use native.Mathlib.Omega.{arith}
 use lib.IntN.{pos}
 use lib.ListN.{replicate}
 use denote.Ref.{now}
+use Rattle.rules.specs.Record.{mostFields}
 use Rattle.rules.specs.Packing.{Fit}
 use Rattle.rules.specs.Reading.{readAnswer}
 use Rattle.composing.proofs.Puts.{put-same}
@@ -16,7 +17,7 @@ use Rattle.sheet_writing.proofs.unpack.Tie as tie
 bytes : (c : tie.Else1) → Fit 8 (now (c .before .before .before .before .before .before .args .packed))
 bytes c i = omega (arith, c .before .before .before .before .before .shared-slice-known .given i)
 
-answered : (c : tie.Else1) → readAnswer (now (c .before .before .before .before .before .before .args .packed)) 201 ≡ 0
+answered : (c : tie.Else1) → readAnswer (now (c .before .before .before .before .before .before .args .packed)) mostFields ≡ 0
 answered c = sym (c .before .before .doonamurk-read .ensures .0) ∙ c .if1 .left
 
 slice-aggregate-doonamurk-read : tie.Need-slice-aggregate-doonamurk-read
@@ -33,7 +34,7 @@ returns c =
 put-sheet-requires : tie.Need-put-sheet-requires
 put-sheet-requires c κs =
     let s = now (c .before .before .before .before .before .before .before .before .args .packed) in
-    rw (c .before .before .before .before .doonamurk-read .ensures .1) (read-years s (bytes (c .before .before)) (answered (c .before .before)) (replicate 201 (pos 0)) refl)
+    rw (c .before .before .before .before .doonamurk-read .ensures .1) (read-years s (bytes (c .before .before)) (answered (c .before .before)) (replicate mostFields (pos 0)) refl)
 
 same-length : tie.Need-same-length
 same-length c = search needs
@@ -41,7 +42,7 @@ same-length c = search needs
 returns-2 : tie.Need-returns-2
 returns-2 c =
     let s = now (c .before .before .before .before .before .before .before .before .before .before .before .args .packed) in
-    let list = replicate 201 (pos 0) in
+    let list = replicate mostFields (pos 0) in
     let text = read-sheet s (bytes (c .before .before .before .before .before)) (answered (c .before .before .before .before .before)) list refl in
     (c .before .before .before .before .before .before .before .doonamurk-read .ensures .0, put-same text (rw (c .before .before .before .before .before .before .before .doonamurk-read .ensures .1) at (c .before .before .put-sheet .ensures)))
 

@@ -10,7 +10,7 @@ use lib.Dec.{lit≤}
 use lib.ListN.{length}
 use lib.Seq.{take-length}
 use Rattle.rules.specs.Lists.{total}
-use Rattle.rules.specs.Record.{layout}
+use Rattle.rules.specs.Record.{layout, million}
 use Rattle.rules.specs.Writing.{Given, given, givenLastYear, givenLengths, givenRanges, givenSum}
 use Rattle.writing.specs.Writing.{rangesOf, Writable}
 use Rattle.laws.proofs.Lists.{at-most}
@@ -110,7 +110,7 @@ sum-of-requires c κs =
     let w = writable c in
     let long = lengths-are g (length (s .args .buffer .now)) (w .lengths) .reporting in
     let few = few-years g (w .years) in
-    (le-refl _, (rw long (omega arith), λ i l. le-trans (at-most 0 1000000 (g .reporting) (ranges-hold g (w .ranges) .reporting) i) (lit≤ tt)))
+    (le-refl _, (rw long (omega arith), λ i l. le-trans (at-most 0 million (g .reporting) (ranges-hold g (w .ranges) .reporting) i) (lit≤ tt)))
 
 returns-4 : tie.Need-returns-4
 unfolding givenSum

@@ -10,6 +10,7 @@ use lib.ListN.{length, take}
 use lib.Seq.{take-length}
 use borrow.Author.Needs.{needs}
 use borrow.Author.Tests.{le-leb, lt-leb, not-true, not-false}
+use Rattle.rules.specs.Record.{million, mostAmount, mostIndex}
 use Rattle.rules.specs.Lists.{every, between}
 use Rattle.writing.proofs.given_ranges.Statement.{statement}
 use Rattle.writing.proofs.given_ranges.Tie as tie
@@ -24,7 +25,7 @@ within-requires c κs = search needs
 returns : tie.Need-returns
 returns c =
     let a = c .before .before .before .before .before .before .args in
-    rw (whole 1 1000000 (a .exposures .now) (c .before .within .ensures) ∙ not-true _ (c .if1 .taken))
+    rw (whole 1 million (a .exposures .now) (c .before .within .ensures) ∙ not-true _ (c .if1 .taken))
 
 all-in-range-requires : tie.Need-all-in-range-requires
 all-in-range-requires c κs = search needs
@@ -38,7 +39,7 @@ within-requires-2 c κs = search needs
 returns-3 : tie.Need-returns-3
 returns-3 c =
     let a = c .before .before .before .before .before .before .before .before .before .before .args in
-    simp (whole 1 5000000 (a .indices .now) (c .before .within2 .ensures) ∙ not-true _ (c .if3 .taken), and-false)
+    simp (whole 1 mostIndex (a .indices .now) (c .before .within2 .ensures) ∙ not-true _ (c .if3 .taken), and-false)
 
 within-requires-3 : tie.Need-within-requires-3
 within-requires-3 c κs = search needs
@@ -46,12 +47,12 @@ within-requires-3 c κs = search needs
 returns-4 : tie.Need-returns-4
 returns-4 c =
     let a = c .before .before .before .before .before .before .before .before .before .before .before .before .args in
-    simp (whole 0 1000000 (a .reporting .now) (c .before .within3 .ensures) ∙ not-true _ (c .if4 .taken), and-false)
+    simp (whole 0 million (a .reporting .now) (c .before .within3 .ensures) ∙ not-true _ (c .if4 .taken), and-false)
 
 returns-5 : tie.Need-returns-5
 returns-5 c =
     let w = c .before .before .before .before .before .before .before .before .before .before .before .before .before .args .weight in
-    simp (lt-leb w 1000000 (omega arith), and-false)
+    simp (lt-leb w million (omega arith), and-false)
 
 within-requires-4 : tie.Need-within-requires-4
 within-requires-4 c κs = search needs
@@ -64,14 +65,14 @@ returns-6 c =
     let d1 = d2 .before .before in
     let a = d1 .before .before .before .before .before .before .args in
     rw (
-      whole 1 1000000 (a .exposures .now) (d1 .before .within .ensures) ∙ not-false _ (d1 .if1 .left),
+      whole 1 million (a .exposures .now) (d1 .before .within .ensures) ∙ not-false _ (d1 .if1 .left),
       sym (d2 .before .all-in-range .ensures) ∙ not-false _ (d2 .if2 .left),
-      whole 1 5000000 (a .indices .now) (d3 .before .within2 .ensures) ∙ not-false _ (d3 .if3 .left),
-      whole 0 1000000 (a .reporting .now) (d4 .before .within3 .ensures) ∙ not-false _ (d4 .if4 .left),
+      whole 1 mostIndex (a .indices .now) (d3 .before .within2 .ensures) ∙ not-false _ (d3 .if3 .left),
+      whole 0 million (a .reporting .now) (d4 .before .within3 .ensures) ∙ not-false _ (d4 .if4 .left),
       leb·zero (a .weight),
-      le-leb (a .weight) 1000000 (omega arith),
+      le-leb (a .weight) million (omega arith),
     )
-    (sym (whole 0 10000000000 (a .ulae .now) (c .within4 .ensures)))
+    (sym (whole 0 mostAmount (a .ulae .now) (c .within4 .ensures)))
 
 pub given-ranges-spec : {M : Type 1} → statement M
 given-ranges-spec =

@@ -3,7 +3,7 @@ use mathlib.Core.Path.{_≡_, refl, ap, _∙_}
 use mathlib.Core.List.{[], _∷_}
 use lib.Dec.{lit<, lit≤}
 use lib.Pow.{pow-pos}
-use Rattle.rules.specs.Record.{bitCount}
+use Rattle.rules.specs.Record.{bitCount, million, mostAmount, mostIndex}
 use Rattle.rules.specs.Writing.{Given, given}
 use Rattle.layout.specs.declared.Places.{Places}
 use Rattle.layout.specs.Places.{placesOf}
@@ -89,7 +89,7 @@ put-row-requires c κs =
     let d = c .before .before .before in
     let s = start-1 d in
     let r = ranges-hold (from s) (s .pre .ranges) in
-    (ready (from s) (s .args .buffer .now) (s .pre) 1 _ (rows-1 d) refl, (lit≤ tt, fit-between 1 1000000 20 (lit< tt) (s .args .exposures .now) (r .exposures)))
+    (ready (from s) (s .args .buffer .now) (s .pre) 1 _ (rows-1 d) refl, (lit≤ tt, fit-between 1 million 20 (lit< tt) (s .args .exposures .now) (r .exposures)))
 
 put-increments-requires : tie.Need-put-increments-requires
 put-increments-requires c κs =
@@ -103,28 +103,28 @@ put-row-requires-2 c κs =
     let d = c .before .before .before in
     let s = start-3 d in
     let r = ranges-hold (from s) (s .pre .ranges) in
-    (ready (from s) (s .args .buffer .now) (s .pre) 3 _ (rows-3 d) refl, (lit≤ tt, fit-between 1 5000000 23 (lit< tt) (s .args .indices .now) (r .indices)))
+    (ready (from s) (s .args .buffer .now) (s .pre) 3 _ (rows-3 d) refl, (lit≤ tt, fit-between 1 mostIndex 23 (lit< tt) (s .args .indices .now) (r .indices)))
 
 put-row-requires-3 : tie.Need-put-row-requires-3
 put-row-requires-3 c κs =
     let d = c .before .before .before in
     let s = start-4 d in
     let r = ranges-hold (from s) (s .pre .ranges) in
-    (ready (from s) (s .args .buffer .now) (s .pre) 4 _ (rows-4 d) refl, (lit≤ tt, fit-between 0 1000000 20 (lit< tt) (s .args .reporting .now) (r .reporting)))
+    (ready (from s) (s .args .buffer .now) (s .pre) 4 _ (rows-4 d) refl, (lit≤ tt, fit-between 0 million 20 (lit< tt) (s .args .reporting .now) (r .reporting)))
 
 put-requires-2 : tie.Need-put-requires-2
 put-requires-2 c κs =
     let d = c .before .before .before in
     let s = start-5 d in
     let r = ranges-hold (from s) (s .pre .ranges) in
-    (ready (from s) (s .args .buffer .now) (s .pre) 5 _ (rows-5 d) refl, (lit≤ tt, fit-between 0 1000000 20 (lit< tt) (s .args .weight ∷ []) (r .weight) 0))
+    (ready (from s) (s .args .buffer .now) (s .pre) 5 _ (rows-5 d) refl, (lit≤ tt, fit-between 0 million 20 (lit< tt) (s .args .weight ∷ []) (r .weight) 0))
 
 put-row-requires-4 : tie.Need-put-row-requires-4
 put-row-requires-4 c κs =
     let d = c .before .before .before in
     let s = start-6 d in
     let r = ranges-hold (from s) (s .pre .ranges) in
-    (ready (from s) (s .args .buffer .now) (s .pre) 6 _ (rows-6 d) refl, (lit≤ tt, fit-between 0 10000000000 34 (lit< tt) (s .args .ulae .now) (r .ulae)))
+    (ready (from s) (s .args .buffer .now) (s .pre) 6 _ (rows-6 d) refl, (lit≤ tt, fit-between 0 mostAmount 34 (lit< tt) (s .args .ulae .now) (r .ulae)))
 
 places-of-requires : tie.Need-places-of-requires
 places-of-requires c κs =
