@@ -21,7 +21,7 @@ pub record Ready (s : List ℕ) (p : Pending) (w : ℕ) : Type 0 where
   pub room : placeOf p + w ≤ 8 * length s
   pub short : length s < 2 ^ 32
 
--- w bits more, those of x, have been packed, and the bytes that do not hold a packed bit are what they were
+-- w bits more, those of x, have been packed; the bytes from q .at on, which the pending bits will go to, are what they were
 pub record Packed (s t : List ℕ) (p q : Pending) (w x : ℕ) : Type 0 where
   pub few : q .count < 8
   pub small : q .bits < 2 ^ q .count

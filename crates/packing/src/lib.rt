@@ -7,7 +7,7 @@ ghost use Rattle.packing.specs.Field.{fieldAt, Within};
 ghost use Rattle.packing.specs.Pending.{Ready, Packed};
 ghost use Rattle.rules.specs.Packing.{Fit};
 
-// What is packed and not yet written: the bits that come before byte `at` ends, fewer than 8, as a number.
+// What is packed and not yet written: the first `count` bits of byte `at`, fewer than 8, as a number. The bytes before it are written.
 pub struct Pending {
     pub at: usize,
     pub count: usize,

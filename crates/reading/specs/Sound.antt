@@ -1,4 +1,4 @@
--- Figures that have passed questions 4 and 5. Assumes nothing.
+-- What the later steps use of figures that have passed questions 4 and 5. Assumes nothing.
 use Prim.Native.Nat.{ℕ, _+_, _≤_, _<_}
 use mathlib.Core.Path.{_≡_}
 use lib.IntN.{pos, natAbs}
@@ -6,7 +6,7 @@ use lib.ListN.{getD, take}
 use Rattle.rules.specs.Lists.{total}
 use Rattle.rules.specs.Record.{Figures, million, mostIndex, mostAmount}
 
--- each list zero past its end
+-- entries past the lists' ends are bounded too, since they are zero
 pub record Sound (f : Figures) : Type 0 where
   pub some : 1 ≤ f .k
   pub few : f .k < 16

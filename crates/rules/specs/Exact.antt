@@ -10,7 +10,8 @@ unfoldable pub sumFrom : (ℕ → ℤ) → ℕ → ℕ → ℤ
 sumFrom f a zero = pos 0
 sumFrom f a (suc n) = f a +ℤ sumFrom f (suc a) n
 
--- denominators D and E of at least 1, shares r_j / D that sum to 1 and levels l_h / E, of any signs, with l_h × (r_0 + .. + r_h) = d_h and r_j × (l_j + .. + l_k) = v_j
+-- denominators D and E of at least 1, shares r_j / D that sum to 1 and levels l_h / E, of any signs, with l_h × (r_0 + .. + r_h) = d_h, 004 (5), and
+-- r_j × (l_j + .. + l_k) = v_j, 004 (6)
 pub record Solves (k D E : ℕ) (v d r l : ℕ → ℤ) : Type 0 where
   pub shares : 0 < D
   pub levels : 0 < E

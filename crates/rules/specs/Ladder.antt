@@ -10,7 +10,7 @@ use Rattle.rules.specs.Lists.{total, upTo, below, joined, every}
 use Rattle.rules.specs.Record.{million}
 use Rattle.rules.specs.Triangle.{givenCumulative, mostCumulative}
 
--- A and B of development year h: the sums of C_{i,h+1} and of C_ih over i from 0 to k − h − 1
+-- A and B of development year h, 004 (2) with upper limit k − h − 1: the sums of C_{i,h+1} and of C_ih over i from 0 to k − h − 1
 unfoldable pub developed : ℕ → List ℤ → ℕ → ℕ
 developed k p h = total (upTo (λ i. givenCumulative k p i (h + 1)) (k - h))
 

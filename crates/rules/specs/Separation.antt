@@ -25,7 +25,8 @@ diagonalOf s h = natAbs (diagonalTotal s h)
 unfoldable pub cornerOf : List (List ℤ) → ℕ → ℕ
 cornerOf s h = natAbs (cornerTotal s h)
 
--- the running share A_{k−m}: A_k = S, and A_{h−1} = ⌊A_h × (T_h − v_h) / T_h⌋
+-- the running share A_{k−m}: A_k = S, and A_{h−1} = ⌊A_h × (T_h − v_h) / T_h⌋. In the exact solution T_h is A_h × (l_h + .. + l_k), so that 004 (6), v_h over
+-- those levels, is A_h × v_h / T_h
 unfoldable pub runningDown : List (List ℤ) → ℕ → ℕ → ℕ
 runningDown s k zero = billion
 runningDown s k (suc m) = runningDown s k m * (cornerOf s (k - m) - columnOf s (k - m)) / cornerOf s (k - m)
