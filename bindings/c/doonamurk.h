@@ -52,6 +52,56 @@ static inline size_t doonamurk_record_bytes(size_t k) { return (98 + 97 * k + 35
 static inline size_t doonamurk_field_count(size_t k) { return doonamurk_cells(k) + 4 * k + 5; }
 static inline size_t doonamurk_result_count(size_t k) { return 3 * doonamurk_cells(k) + 5 * k + 6; }
 
+/* The sections of a result list in their order (docs/FORMAT.md has the same table, with units). */
+enum doonamurk_section {
+    DOONAMURK_AVERAGES,              /* cells */
+    DOONAMURK_SHARES,                /* development years 0 to k */
+    DOONAMURK_LEVELS,                /* payment years 0 to k */
+    DOONAMURK_FUTURE_LEVELS,         /* payment years k + 1 to 2k */
+    DOONAMURK_PAYMENTS,              /* future cells */
+    DOONAMURK_PROVISIONS,            /* origin years 0 to k */
+    DOONAMURK_TOTAL_PROVISION,       /* one entry */
+    DOONAMURK_NOT_REPORTED,          /* origin years 0 to k */
+    DOONAMURK_ULAE_RESERVES,         /* origin years 0 to k */
+    DOONAMURK_TOTAL_ULAE_RESERVE,    /* one entry */
+    DOONAMURK_ULAE_RATIO,            /* one entry */
+    DOONAMURK_DEVELOPMENT_FACTORS,   /* development years 0 to k - 1, each to the next */
+    DOONAMURK_COMPLETED_CUMULATIVES, /* future cells */
+    DOONAMURK_SECTIONS
+};
+
+/* How many entries a section has, and where it starts in the list; the start of DOONAMURK_SECTIONS is the list's length. */
+static inline size_t doonamurk_section_count(size_t k, enum doonamurk_section section)
+{
+    switch (section) {
+    case DOONAMURK_AVERAGES:
+        return doonamurk_cells(k);
+    case DOONAMURK_PAYMENTS:
+    case DOONAMURK_COMPLETED_CUMULATIVES:
+        return doonamurk_cells(k) - (k + 1);
+    case DOONAMURK_FUTURE_LEVELS:
+    case DOONAMURK_DEVELOPMENT_FACTORS:
+        return k;
+    case DOONAMURK_TOTAL_PROVISION:
+    case DOONAMURK_TOTAL_ULAE_RESERVE:
+    case DOONAMURK_ULAE_RATIO:
+        return 1;
+    default:
+        return k + 1;
+    }
+}
+static inline size_t doonamurk_section_start(size_t k, enum doonamurk_section section)
+{
+    size_t start = 0;
+    for (int before = 0; before < (int)section; before++)
+        start += doonamurk_section_count(k, (enum doonamurk_section)before);
+    return start;
+}
+
+/* The place of origin year i and development year j within a section of cells (i + j at most k), and of future cells (i + j above k, j at most k). */
+static inline size_t doonamurk_cell(size_t k, size_t i, size_t j) { return i * (k + 1) - i * (i - 1) / 2 + j; }
+static inline size_t doonamurk_future_cell(size_t k, size_t i, size_t j) { return i * (i - 1) / 2 + (i + j - k - 1); }
+
 /* Runs from a record to its result list.
  *
  * Answers 0 and fills the first doonamurk_result_count(k) entries of results; entries past them keep what they held. Else answers 1 to 14, the first

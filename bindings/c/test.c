@@ -53,6 +53,36 @@ static void sizes(void)
     check(doonamurk_result_count(1) == 20 && doonamurk_result_count(15) == DOONAMURK_RESULTS_MAX, "entries of a result list");
 }
 
+/* The places by name, for every k: sections follow one another to the end of the list, and so do the cells of each. */
+static void places(void)
+{
+    for (size_t k = 1; k <= DOONAMURK_K_MAX; k++) {
+        size_t cell = 0, future = 0;
+        check(doonamurk_section_start(k, DOONAMURK_SECTIONS) == doonamurk_result_count(k), "where the last section ends");
+        for (size_t i = 0; i <= k; i++)
+            for (size_t j = 0; j <= k; j++)
+                check(i + j <= k ? doonamurk_cell(k, i, j) == cell++ : doonamurk_future_cell(k, i, j) == future++, "the place of a cell");
+        check(cell == doonamurk_section_count(k, DOONAMURK_AVERAGES), "how many cells");
+        check(future == doonamurk_section_count(k, DOONAMURK_PAYMENTS), "how many future cells");
+    }
+}
+
+static void named_sections(void)
+{
+    uint8_t record[DOONAMURK_RECORD_MAX];
+    int64_t list[DOONAMURK_RESULTS_MAX];
+    size_t k = MOTOR_K;
+    check(write_motor(k, 1, 10, record, doonamurk_record_bytes(k)) == 0, "the motor account is written");
+    check(doonamurk_run(record, doonamurk_record_bytes(k), list, DOONAMURK_RESULTS_MAX) == 0, "the motor account is accepted");
+    check(list[doonamurk_section_start(k, DOONAMURK_AVERAGES) + doonamurk_cell(k, 2, 1)] == 33200, "an average by its years");
+    check(list[doonamurk_section_start(k, DOONAMURK_SHARES) + 3] == 42142231, "a share by its year");
+    check(list[doonamurk_section_start(k, DOONAMURK_PAYMENTS) + doonamurk_future_cell(k, 3, 1)] == 360, "a payment by its years");
+    check(list[doonamurk_section_start(k, DOONAMURK_TOTAL_PROVISION)] == 760, "the total provision");
+    check(list[doonamurk_section_start(k, DOONAMURK_TOTAL_ULAE_RESERVE)] == 19, "the total ULAE reserve");
+    check(list[doonamurk_section_start(k, DOONAMURK_ULAE_RATIO)] == 31591, "the ULAE ratio");
+    check(list[doonamurk_section_start(k, DOONAMURK_COMPLETED_CUMULATIVES) + doonamurk_future_cell(k, 3, 3)] == 1195, "a completed cumulative");
+}
+
 static void two_years(void)
 {
     static const int64_t printed[] = {6000, 4000, 6600, 622641509, 377358491, 9636, 10600, 11660, 44, 0,
@@ -210,6 +240,8 @@ static void threads(void)
 int main(void)
 {
     sizes();
+    places();
+    named_sections();
     two_years();
     motor_account();
     refusals();

@@ -2,6 +2,7 @@
 
     import doonamurk
     results = doonamurk.run(open("examples/motor_account.rec", "rb").read())
+    doonamurk.sections(results)["provisions"]        {0: 0, 1: 52, 2: 166, 3: 542}, by origin year
 
 A refusal is raised as Refused, with the number of the first question that says no. docs/FORMAT.md has the record, the lists and the questions.
 
@@ -15,6 +16,7 @@ Of every call here:
 """
 
 import ctypes
+import operator
 import os
 from pathlib import Path
 
@@ -49,12 +51,16 @@ WRITE_QUESTIONS = {
 
 
 class Refused(Exception):
-    """The first question that says no: its number, and the question in words."""
+    """The first question that says no: its number, and the question in words. It can be pickled and copied, so that a process pool hands it on."""
 
     def __init__(self, number, question):
-        super().__init__(f"refused {number}: {question}")
+        # An exception is pickled as its class and args, so args are just what this takes.
+        super().__init__(number, question)
         self.number = number
         self.question = question
+
+    def __str__(self):
+        return f"refused {self.number}: {self.question}"
 
 
 def cells(k):
@@ -75,6 +81,53 @@ def field_count(k):
 def result_count(k):
     """The entries of a result list with years 0 to k, for k from 1 to 15."""
     return 3 * cells(k) + 5 * k + 6
+
+
+# The sections of a result list in their order: name, the years of its entries, unit (docs/FORMAT.md has the same table).
+SECTIONS = (
+    ("averages", "cells", "hundredths a claim"),
+    ("shares", "years", "billionths"),
+    ("levels", "years", "hundredths a claim"),
+    ("future_levels", "future years", "hundredths a claim"),
+    ("payments", "future cells", "currency units"),
+    ("provisions", "years", "currency units"),
+    ("total_provision", "one", "currency units"),
+    ("not_reported", "years", "currency units"),
+    ("ulae_reserves", "years", "currency units"),
+    ("total_ulae_reserve", "one", "currency units"),
+    ("ulae_ratio", "one", "millionths"),
+    ("development_factors", "steps", "millionths"),
+    ("completed_cumulatives", "future cells", "currency units"),
+)
+
+
+def _years(shape, k):
+    """The years of a section's entries, in the order of the list; None for a section of one entry."""
+    origin = range(k + 1)
+    return {
+        "cells": [(i, j) for i in origin for j in range(k + 1 - i)],
+        "future cells": [(i, j) for i in origin for j in range(k + 1 - i, k + 1)],
+        "years": list(origin),
+        "future years": list(range(k + 1, 2 * k + 1)),
+        "steps": list(range(k)),
+        "one": [None],
+    }[shape]
+
+
+def sections(results):
+    """A result list as a dictionary: the name of each section, and under it its entries by their years, as docs/FORMAT.md gives them: (origin year,
+    development year) for cells, one year for the others, and just the number for a section of one entry."""
+    counts = {result_count(k): k for k in range(1, K_MAX + 1)}
+    if len(results) not in counts:
+        raise ValueError(f"results: no result list has {len(results)} entries")
+    k = counts[len(results)]
+    named, start = {}, 0
+    for name, shape, _ in SECTIONS:
+        years = _years(shape, k)
+        entries = results[start : start + len(years)]
+        named[name] = entries[0] if shape == "one" else dict(zip(years, entries))
+        start += len(years)
+    return named
 
 
 def _load():
@@ -102,9 +155,12 @@ _library = _load()
 
 def _bytes_of(record):
     """The bytes of a record, copied. A list of numbers, or memory of wider items, is no record: its length would not be counted in bytes."""
-    view = memoryview(record)
+    try:
+        view = memoryview(record)
+    except TypeError:
+        raise TypeError(f"record: bytes are due, not {type(record).__name__}") from None
     if view.itemsize != 1:
-        raise TypeError(f"a record has items of one byte, these have {view.itemsize}")
+        raise TypeError(f"record: items of one byte are due, these have {view.itemsize}")
     return view.tobytes()
 
 
@@ -140,28 +196,35 @@ def read(record):
     return _filled(_library.doonamurk_read, record, field_count)
 
 
-def _numbers(kind, values):
-    """The values as a C list. One that 64 bits cannot hold is out of every range: ctypes would cut it, so it is refused here."""
+def _numbers(name, kind, values):
+    """The values of an argument as a C list. ctypes would cut one that 64 bits cannot hold, so it is refused here, by the argument's name."""
     bits = 8 * ctypes.sizeof(kind)
     least, most = (-(2 ** (bits - 1)), 2 ** (bits - 1) - 1) if kind is ctypes.c_int64 else (0, 2**bits - 1)
-    if not all(least <= value <= most for value in values):
-        raise OverflowError(f"a field is not from {least} to {most}")
-    return (kind * len(values))(*values)
+    try:
+        numbers = [operator.index(value) for value in values]
+    except TypeError as wrong:
+        raise TypeError(f"{name}: whole numbers are due ({wrong})") from None
+    for place, value in enumerate(numbers):
+        if not least <= value <= most:
+            raise OverflowError(f"{name}: number {place + 1} is {value}, not from {least} to {most}")
+    return (kind * len(numbers))(*numbers)
 
 
 def write(k, exposures, increments, indices, reporting, weight, ulae):
     """The record (bytes) of the given fields: k, k + 1 exposures, the paid increments row by row, k future indices, k + 1 reporting shares, the
     reporting weight and k + 1 ULAE totals.
 
-    Refusals: raises Refused with the first of questions 1, 2, 4 and 5 that says no, and OverflowError for a number that 64 bits cannot hold.
+    Refusals: raises Refused with the first of questions 1, 2, 4 and 5 that says no, OverflowError for a number that 64 bits cannot hold, and TypeError for one
+    that is no whole number; the last two name the argument.
     Ownership: the numbers are copied in and no list is changed or kept; the record is new bytes, the caller's.
     Threads: any number may call at once, with the same lists too as long as none of them is changed meanwhile."""
     natural = ctypes.c_uint64
-    _numbers(natural, [k, weight])
+    k, weight = _numbers("k", natural, [k])[0], _numbers("weight", natural, [weight])[0]
     # A k past 15 is refused under question 1 whatever the buffer, so it need not be large.
     record = (ctypes.c_uint8 * record_bytes(min(k, K_MAX)))()
-    lists = [_numbers(kind, values) for kind, values in
-             ((natural, exposures), (ctypes.c_int64, increments), (natural, indices), (natural, reporting), (natural, ulae))]
+    lists = [_numbers(*argument) for argument in
+             (("exposures", natural, exposures), ("increments", ctypes.c_int64, increments), ("indices", natural, indices),
+              ("reporting", natural, reporting), ("ulae", natural, ulae))]
     n, c, e, b, u = ((values, len(values)) for values in lists)
     number = _library.doonamurk_write(k, *n, *c, *e, *b, weight, *u, record, len(record))
     if number:

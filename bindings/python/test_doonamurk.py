@@ -4,8 +4,11 @@
 """
 
 import array
+import copy
 import ctypes
+import multiprocessing
 import os
+import pickle
 import subprocess
 import sys
 import threading
@@ -28,6 +31,11 @@ TWO_YEARS = dict(k=1, exposures=[1, 1], increments=[60, 40, 66], indices=[110000
 TWO_YEARS_PRINTED = [6000, 4000, 6600, 622641509, 377358491, 9636, 10600, 11660, 44, 0, 44, 44, 0, 22, 0, 3, 3, 96385, 1666666, 109]
 SHARES = [583475514, 287767456, 86614799, 42142231]
 LEVELS = [86378, 98939, 101998, 113900]
+
+
+def total_or_number(record):
+    """What a worker of a process pool makes of a record."""
+    return doonamurk.sections(doonamurk.run(record))["total_provision"]
 
 
 class Calls(unittest.TestCase):
@@ -144,8 +152,54 @@ class Calls(unittest.TestCase):
 
     def test_numbers_past_64_bits_are_not_cut(self):
         for change in (dict(k=2**64 + 3), dict(k=-1), dict(weight=2**64), dict(exposures=[2**64 + 1, 1, 1, 1]), dict(ulae=[-1, 0, 0, 0])):
-            with self.assertRaises(OverflowError):
+            with self.assertRaisesRegex(OverflowError, f"^{next(iter(change))}: number 1 is "):
                 doonamurk.write(**{**MOTOR, **change})
+
+    def test_a_wrong_type_names_its_argument(self):
+        for change in (dict(k="3"), dict(k=3.0), dict(weight=None), dict(exposures=[1, 1, 1, 1.5]), dict(increments=5), dict(indices=["1100000"] * 3),
+                       dict(reporting=[None] * 4), dict(ulae="20")):
+            with self.assertRaisesRegex(TypeError, f"^{next(iter(change))}: whole numbers are due"):
+                doonamurk.write(**{**MOTOR, **change})
+        with self.assertRaisesRegex(TypeError, "^record: bytes are due, not str"):
+            doonamurk.run("30")
+
+    def test_sections(self):
+        named = doonamurk.sections(TWO_YEARS_PRINTED)
+        self.assertEqual(named, {
+            "averages": {(0, 0): 6000, (0, 1): 4000, (1, 0): 6600},
+            "shares": {0: 622641509, 1: 377358491},
+            "levels": {0: 9636, 1: 10600},
+            "future_levels": {2: 11660},
+            "payments": {(1, 1): 44},
+            "provisions": {0: 0, 1: 44},
+            "total_provision": 44,
+            "not_reported": {0: 0, 1: 22},
+            "ulae_reserves": {0: 0, 1: 3},
+            "total_ulae_reserve": 3,
+            "ulae_ratio": 96385,
+            "development_factors": {0: 1666666},
+            "completed_cumulatives": {(1, 1): 109},
+        })
+        motor = doonamurk.sections(doonamurk.run(doonamurk.write(**MOTOR)))
+        self.assertEqual(list(motor["shares"].values()), SHARES)
+        self.assertEqual(motor["payments"], {(1, 3): 52, (2, 2): 108, (2, 3): 58, (3, 1): 360, (3, 2): 119, (3, 3): 63})
+        for k in range(1, doonamurk.K_MAX + 1):
+            numbered = list(range(doonamurk.result_count(k)))
+            back = [e for entries in doonamurk.sections(numbered).values() for e in (entries.values() if isinstance(entries, dict) else [entries])]
+            self.assertEqual(back, numbered)
+        with self.assertRaisesRegex(ValueError, "^results: no result list has 19 entries"):
+            doonamurk.sections(TWO_YEARS_PRINTED[1:])
+
+    def test_a_refusal_pickles_and_copies(self):
+        refusal = self.refused(2, doonamurk.run, b"\x30")
+        for same in (pickle.loads(pickle.dumps(refusal)), copy.copy(refusal), copy.deepcopy(refusal)):
+            self.assertEqual((type(same), same.number, same.question, str(same)), (doonamurk.Refused, 2, refusal.question, str(refusal)))
+
+    def test_process_pool(self):
+        good, bad = doonamurk.write(**TWO_YEARS), doonamurk.write(**{**TWO_YEARS, "increments": [60, 40, 0]})
+        with multiprocessing.Pool(2) as pool:
+            self.assertEqual(pool.map(total_or_number, [good] * 4), [44] * 4)
+            self.refused(8, pool.map, total_or_number, [good, bad, good])
 
     def test_refusal_says_its_question(self):
         self.assertEqual(str(self.refused(1, doonamurk.run, b"")), "refused 1: Is there a first byte, and is k at least 1?")

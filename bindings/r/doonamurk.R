@@ -1,4 +1,5 @@
-# Calls the proved reserving engine from R: doonamurk_run gives the result list of a record, doonamurk_read its fields.
+# Calls the proved reserving engine from R: doonamurk_run gives the result list of a record, doonamurk_sections its sections by name, doonamurk_read the
+# fields of a record, and doonamurk_write makes a record of figures.
 #
 #     source("bindings/r/doonamurk.R")
 #     doonamurk_load("target/lib/doonamurk_r.so")
@@ -29,6 +30,12 @@ doonamurk_questions <- c(
   "Is every completed cumulative at most 10^11?"
 )
 
+# The writer asks these two otherwise.
+doonamurk_write_questions <- replace(doonamurk_questions, 1:2, c(
+  "Is k from 1 to 15?",
+  "Has the buffer just the length that k calls for, and each list its own?"
+))
+
 # Loads the library of the glue. Once in a session, before any call.
 doonamurk_load <- function(library) {
   if (!file.exists(library)) stop(library, " is missing: run bindings/test, it makes it")
@@ -42,8 +49,8 @@ doonamurk_cells <- function(k) (k + 1) * (k + 2) / 2
 doonamurk_k <- function(record) if (length(record) == 0) 0 else as.integer(record[1]) %/% 16
 
 # The R error of a refusal: its number, and the question in words.
-doonamurk_refused <- function(number) {
-  message <- sprintf("refused %d: %s", number, doonamurk_questions[number])
+doonamurk_refused <- function(number, questions = doonamurk_questions) {
+  message <- sprintf("refused %d: %s", number, questions[number])
   structure(class = c("doonamurk_refused", "error", "condition"), list(message = message, call = NULL, number = number))
 }
 
@@ -75,4 +82,72 @@ doonamurk_run <- function(record) {
 doonamurk_read <- function(record) {
   k <- doonamurk_k(record)
   doonamurk_filled("doonamurk_r_read", record, doonamurk_cells(k) + 4 * k + 5)
+}
+
+# The triangle that a list of cells by row fills in a matrix of origin years by development years, NA where `given` is FALSE.
+doonamurk_triangle <- function(k, given, entries) {
+  years <- as.character(0:k)
+  # R fills a matrix column by column, and the list goes row by row.
+  cells <- matrix(NA_real_, k + 1, k + 1, dimnames = list(development = years, origin = years))
+  cells[t(given)] <- entries
+  t(cells)
+}
+
+# The result list of a record (as doonamurk_run gives it) as a named list of its sections: matrices of origin years by development years, NA where there
+# is no cell, vectors named by their years, and single numbers. docs/FORMAT.md has the sections, their years and units.
+doonamurk_sections <- function(results) {
+  k <- which(3 * doonamurk_cells(1:15) + 5 * (1:15) + 6 == length(results))
+  if (length(k) != 1) stop("results: no result list has ", length(results), " entries")
+  place <- 0
+  take <- function(count) {
+    place <<- place + count
+    results[seq_len(count) + place - count]
+  }
+  years <- function(from, count) setNames(take(count), seq_len(count) + from - 1)
+  given <- outer(0:k, 0:k, `+`) <= k
+  list(
+    averages = doonamurk_triangle(k, given, take(doonamurk_cells(k))),
+    shares = years(0, k + 1),
+    levels = years(0, k + 1),
+    future_levels = years(k + 1, k),
+    payments = doonamurk_triangle(k, !given, take(doonamurk_cells(k) - k - 1)),
+    provisions = years(0, k + 1),
+    total_provision = take(1),
+    not_reported = years(0, k + 1),
+    ulae_reserves = years(0, k + 1),
+    total_ulae_reserve = take(1),
+    ulae_ratio = take(1),
+    development_factors = years(0, k),
+    completed_cumulatives = doonamurk_triangle(k, !given, take(doonamurk_cells(k) - k - 1))
+  )
+}
+
+# The numbers of an argument as doubles: whole, and such that a double holds them exactly. Anything else is an error that names the argument.
+doonamurk_whole <- function(name, values, least = 0) {
+  wrong <- if (!is.numeric(values)) TRUE else is.na(values) | values != floor(values) | values < least | values > 2^53
+  if (any(wrong)) stop(name, ": whole numbers from ", format(least, digits = 16), " to 2^53 are due", call. = FALSE)
+  as.double(values)
+}
+
+# The record (a raw vector) of figures: exposures of the origin years 0 to k; paid increments as a matrix of k + 1 origin years by k + 1 development
+# years, NA below the diagonal; k future indices, k + 1 reporting shares, the reporting weight and k + 1 ULAE totals.
+# Refusals: an error of class "doonamurk_refused" whose number is the first of questions 1, 2, 4 and 5 that says no. A matrix that is not a triangle, or
+# numbers that are not whole, are plain errors that name the argument.
+doonamurk_write <- function(exposures, paid, indices, reporting, weight, ulae) {
+  if (!is.matrix(paid) || nrow(paid) != ncol(paid)) stop("paid: a square matrix of origin years by development years is due", call. = FALSE)
+  k <- nrow(paid) - 1
+  given <- outer(0:k, 0:k, `+`) <= k
+  if (any(is.na(paid[given]))) stop("paid: a cell up to the diagonal is NA", call. = FALSE)
+  if (any(!is.na(paid[!given]))) stop("paid: a cell below the diagonal is not NA", call. = FALSE)
+  if (length(weight) != 1) stop("weight: one number is due", call. = FALSE)
+  numbers <- list(
+    doonamurk_whole("exposures", exposures), doonamurk_whole("paid", t(paid)[t(given)], -2^53), doonamurk_whole("indices", indices),
+    doonamurk_whole("reporting", reporting), doonamurk_whole("weight", weight), doonamurk_whole("ulae", ulae)
+  )
+  # A k outside 1 to 15 is refused under question 1 whatever the buffer, so it need not be large.
+  bytes <- if (k > 15) 1 else (98 + 97 * k + 35 * doonamurk_cells(k) + 7) %/% 8
+  out <- .C("doonamurk_r_write", as.double(k), unlist(numbers), lengths(numbers), record = raw(bytes), as.integer(bytes), answer = 0L)
+  if (out$answer < 0) stop("there is no memory for the lists")
+  if (out$answer > 0) stop(doonamurk_refused(out$answer, doonamurk_write_questions))
+  out$record
 }

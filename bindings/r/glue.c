@@ -6,6 +6,8 @@
  * Threads: nothing here is shared or kept between calls, so any number could call at once; R itself calls from one thread only. R owns every vector. */
 #include "../c/doonamurk.h"
 
+#include <stdlib.h>
+
 static int fits(const int64_t *list, size_t n)
 {
     for (size_t i = 0; i < n; i++)
@@ -43,4 +45,36 @@ void doonamurk_r_read(const unsigned char *record, const int *record_len, double
     *answer = (int)doonamurk_read(record, (size_t)*record_len, list, room);
     if (*answer == 0)
         *answer = hand_out(list, fields, doonamurk_field_count(record[0] >> 4));
+}
+
+/* n doubles, whole and from 0 to 2^53, as 64-bit numbers; null where there is no memory. */
+static uint64_t *whole(const double *values, size_t n)
+{
+    uint64_t *numbers = malloc((n + 1) * sizeof *numbers);
+    for (size_t i = 0; numbers && i < n; i++)
+        numbers[i] = (uint64_t)values[i];
+    return numbers;
+}
+
+/* The record of the years 0 to *k. numbers has the exposures, increments, indices, reporting shares, the weight and the ULAE totals one after another,
+ * counts how many of each; all are whole and at most 2^53 in size, and none but the increments is below zero. *answer is 0, or 1, 2, 4 or 5, or -1 where
+ * there is no memory; record is filled only where it is 0. */
+void doonamurk_r_write(const double *k, const double *numbers, const int *counts, unsigned char *record, const int *record_len, int *answer)
+{
+    const double *paid = numbers + counts[0], *indices = paid + counts[1], *reporting = indices + counts[2], *weight = reporting + counts[3];
+    uint64_t *n = whole(numbers, (size_t)counts[0]), *e = whole(indices, (size_t)counts[2]), *b = whole(reporting, (size_t)counts[3]);
+    uint64_t *u = whole(weight + 1, (size_t)counts[5]);
+    int64_t *p = malloc(((size_t)counts[1] + 1) * sizeof *p);
+    *answer = -1;
+    if (n && e && b && u && p) {
+        for (int i = 0; i < counts[1]; i++)
+            p[i] = (int64_t)paid[i];
+        *answer = (int)doonamurk_write((uint64_t)*k, n, (size_t)counts[0], p, (size_t)counts[1], e, (size_t)counts[2], b, (size_t)counts[3],
+                                       (uint64_t)*weight, u, (size_t)counts[5], record, (size_t)*record_len);
+    }
+    free(n);
+    free(e);
+    free(b);
+    free(u);
+    free(p);
 }

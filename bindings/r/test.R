@@ -65,3 +65,48 @@ stopifnot(
   left("doonamurk_r_read", motor, length(motor), 26, 3),
   left("doonamurk_r_read", no_claims, length(no_claims), 489, 4)
 )
+
+# Sections by name and years.
+named <- doonamurk_sections(results)
+stopifnot(
+  identical(names(named), c(
+    "averages", "shares", "levels", "future_levels", "payments", "provisions", "total_provision", "not_reported", "ulae_reserves",
+    "total_ulae_reserve", "ulae_ratio", "development_factors", "completed_cumulatives"
+  )),
+  identical(unname(named$averages["2", ]), c(59500, 33200, NA, NA)), named$averages["0", "3"] == 4800, named$averages["3", "0"] == 66200,
+  named$shares["3"] == 42142231, names(named$future_levels) == c("4", "5", "6"), named$future_levels["5"] == 137819,
+  named$payments["3", "1"] == 360, named$payments["2", "2"] == 108, is.na(named$payments["2", "1"]), sum(is.na(named$payments)) == 10,
+  named$provisions == c(0, 52, 166, 542), named$total_provision == 760, named$total_ulae_reserve == 19, named$ulae_ratio == 31591,
+  named$development_factors["0"] == 1539606, named$completed_cumulatives["3", "3"] == 1195
+)
+stopifnot(inherits(tryCatch(doonamurk_sections(results[-1]), error = identity), "error"))
+
+# The record of figures, the triangle as a matrix.
+paid <- rbind(c(504, 282, 90, 48), c(580, 292, 97, NA), c(595, 332, NA, NA), c(662, NA, NA, NA))
+write_motor <- function(exposures = rep(1, 4), paid_ = paid, indices = c(1100000, 1210000, 1331000), reporting = c(700000, 200000, 80000, 20000),
+                        weight = 500000, ulae = c(20, 25, 30, 35)) doonamurk_write(exposures, paid_, indices, reporting, weight, ulae)
+stopifnot(identical(write_motor(), motor))
+stopifnot(
+  refused(write_motor(paid_ = matrix(5, 1, 1))) == 1,
+  refused(write_motor(paid_ = replace(matrix(NA_real_, 17, 17), outer(0:16, 0:16, `+`) <= 16, 1))) == 1,
+  refused(write_motor(exposures = 1)) == 2,
+  refused(write_motor(ulae = numeric(0))) == 2,
+  refused(write_motor(exposures = c(0, 1, 1, 1))) == 4,
+  refused(write_motor(paid_ = replace(paid, 1, -10000000001))) == 4,
+  refused(write_motor(reporting = c(700000, 200000, 80000, 20001))) == 5
+)
+negative <- write_motor(paid_ = replace(paid, 5, -282))
+stopifnot(doonamurk_read(negative)[7] == -282)
+says <- function(call) tryCatch({ call; "nothing" }, error = conditionMessage)
+stopifnot(
+  grepl("^weight: ", says(write_motor(weight = 0.5))),
+  grepl("^exposures: ", says(write_motor(exposures = c(1, NA, 1, 1)))),
+  grepl("^indices: ", says(write_motor(indices = "1100000"))),
+  grepl("^ulae: ", says(write_motor(ulae = c(-1, 0, 0, 0)))),
+  grepl("^paid: a cell up to the diagonal is NA", says(write_motor(paid_ = replace(paid, 1, NA)))),
+  grepl("^paid: a cell below the diagonal is not NA", says(write_motor(paid_ = replace(paid, 16, 0)))),
+  grepl("^paid: whole", says(write_motor(paid_ = paid + 0.5))),
+  grepl("^paid: a square matrix", says(write_motor(paid_ = paid[1:3, ])))
+)
+words <- tryCatch(write_motor(paid_ = matrix(5, 1, 1)), doonamurk_refused = conditionMessage)
+stopifnot(words == "refused 1: Is k from 1 to 15?")

@@ -174,6 +174,79 @@ pub fn run_to_vec(record: &[u8]) -> Result<Vec<i64>, Refused> {
     Ok(results)
 }
 
+/// A result list by its sections, in their order; `docs/FORMAT.md` has the same table.
+#[derive(Clone, Copy, Debug, PartialEq, Eq)]
+pub struct Sections<'a> {
+    /// The last year.
+    pub k: usize,
+    /// Averages in hundredths a claim, by [`cell`].
+    pub averages: &'a [i64],
+    /// Shares in billionths, development years 0 to k.
+    pub shares: &'a [i64],
+    /// Levels in hundredths a claim, payment years 0 to k.
+    pub levels: &'a [i64],
+    /// Future levels in hundredths a claim, payment years k + 1 to 2k.
+    pub future_levels: &'a [i64],
+    /// Completed payments, by [`future_cell`].
+    pub payments: &'a [i64],
+    /// Provisions, origin years 0 to k.
+    pub provisions: &'a [i64],
+    pub total_provision: i64,
+    /// What is not yet reported, origin years 0 to k.
+    pub not_reported: &'a [i64],
+    /// ULAE reserves, origin years 0 to k.
+    pub ulae_reserves: &'a [i64],
+    pub total_ulae_reserve: i64,
+    /// The ULAE ratio in millionths.
+    pub ulae_ratio: i64,
+    /// Development factors in millionths, from each of the development years 0 to k - 1 to the next.
+    pub development_factors: &'a [i64],
+    /// Completed cumulatives of the chain ladder, by [`future_cell`].
+    pub completed_cumulatives: &'a [i64],
+}
+
+/// The place of origin year i and development year j, i + j at most k, within a section of cells.
+pub const fn cell(k: usize, i: usize, j: usize) -> usize {
+    i * (2 * k + 3 - i) / 2 + j
+}
+
+/// The place of origin year i and development year j, i + j above k, within a section of future cells.
+pub const fn future_cell(k: usize, i: usize, j: usize) -> usize {
+    i * (i + 1) / 2 + j - k - 1
+}
+
+/// The sections of a result list of the years 0 to k: the first [`result_count`] entries of `results`. `None` where k is not from 1 to 15 or `results`
+/// is shorter.
+pub fn sections(k: usize, results: &[i64]) -> Option<Sections<'_>> {
+    if !(1..=K_MAX).contains(&k) || results.len() < result_count(k) {
+        return None;
+    }
+    let mut rest = results;
+    let mut next = |count: usize| {
+        let (section, after) = rest.split_at(count);
+        rest = after;
+        section
+    };
+    let (years, future) = (k + 1, cells(k) - (k + 1));
+    // The fields are worked out in this order, which is that of the list.
+    Some(Sections {
+        k,
+        averages: next(cells(k)),
+        shares: next(years),
+        levels: next(years),
+        future_levels: next(k),
+        payments: next(future),
+        provisions: next(years),
+        total_provision: next(1)[0],
+        not_reported: next(years),
+        ulae_reserves: next(years),
+        total_ulae_reserve: next(1)[0],
+        ulae_ratio: next(1)[0],
+        development_factors: next(k),
+        completed_cumulatives: next(future),
+    })
+}
+
 /// Reads a record into a list of its fields.
 ///
 /// `Ok` fills the first [`field_count`] entries of `list` with the fields in the record's order, k first, increments signed; entries past them keep

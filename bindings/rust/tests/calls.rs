@@ -1,8 +1,9 @@
 //! Taylor's motor account, document 01's two years, refusals, threads, and the way from fields to a record and back.
 
 use doonamurk::{
-    cells, field_count, read, read_to_vec, record_bytes, result_count, run, run_to_vec, write,
-    write_to_vec, Call, Fields, FIELDS_MAX, K_MAX, RECORD_MAX, RESULTS_MAX,
+    cell, cells, field_count, future_cell, read, read_to_vec, record_bytes, result_count, run,
+    run_to_vec, sections, write, write_to_vec, Call, Fields, FIELDS_MAX, K_MAX, RECORD_MAX,
+    RESULTS_MAX,
 };
 
 const MOTOR: Fields = Fields {
@@ -46,6 +47,44 @@ fn motor_account() {
         [583_475_514, 287_767_456, 86_614_799, 42_142_231]
     );
     assert_eq!(results[14..18], [86_378, 98_939, 101_998, 113_900]);
+}
+
+#[test]
+fn sections_by_name() {
+    let results = run_to_vec(&motor()).expect("accepted");
+    let named = sections(3, &results).expect("a whole list");
+    assert_eq!(named.averages[cell(3, 2, 1)], 33_200);
+    assert_eq!(named.shares, &results[10..14]);
+    assert_eq!(named.future_levels, &[125_290, 137_819, 151_600]);
+    assert_eq!(named.payments[future_cell(3, 3, 1)], 360);
+    assert_eq!(named.provisions, &[0, 52, 166, 542]);
+    assert_eq!(
+        (
+            named.total_provision,
+            named.total_ulae_reserve,
+            named.ulae_ratio
+        ),
+        (760, 19, 31_591)
+    );
+    assert_eq!(named.completed_cumulatives[future_cell(3, 3, 3)], 1_195);
+    assert_eq!(sections(3, &results[1..]), None);
+    assert_eq!(
+        (sections(0, &results), sections(16, &[0; 999])),
+        (None, None)
+    );
+}
+
+#[test]
+fn cells_follow_one_another() {
+    for k in 1..=K_MAX {
+        let years = || (0..=k).flat_map(|i| (0..=k).map(move |j| (i, j)));
+        let given = years().filter(|(i, j)| i + j <= k);
+        let future = years().filter(|(i, j)| i + j > k);
+        assert!(given.map(|(i, j)| cell(k, i, j)).eq(0..cells(k)));
+        assert!(future
+            .map(|(i, j)| future_cell(k, i, j))
+            .eq(0..cells(k) - (k + 1)));
+    }
 }
 
 #[test]
