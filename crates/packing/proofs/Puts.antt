@@ -10,7 +10,7 @@ use lib.Pow.{pow-add, shl-exact, recompose}
 use lib.Seq.{take-suc-set, drop-drop}
 use Rattle.rules.specs.Packing.{numberOf}
 use Rattle.packing.specs.declared.Pending.{Pending}
-use Rattle.packing.specs.Pending.{packedSo, placeOf, Ready, Packed}
+use Rattle.packing.specs.Pending.{packedSo, placeOf, Packable, PackedOn}
 use Rattle.packing.proofs.Pack.{pack-more}
 
 -- one byte more
@@ -19,7 +19,7 @@ unfolding numberOf
 number-more s b = rw (length-append s (b ∷ [])) (pack-more 8 s b)
 
 -- the bits of x after the pending ones, as `(bits << w) + x` of the code has them
-module _ {s : List ℕ} {p : Pending} {w x : ℕ} (ready : Ready s p w) (narrow : w ≤ 56) (fits : x < 2 ^ w) where
+module _ {s : List ℕ} {p : Pending} {w x : ℕ} (ready : Packable s p w) (narrow : w ≤ 56) (fits : x < 2 ^ w) where
   pub added-lt : p .bits * 2 ^ w % 2 ^ 64 + x < 2 ^ (p .count + w)
   added-lt = rw (shl-exact (p .count) w 64 (ready .small) (omega arith), pow-add 2 (p .count) w) (digits-lt (ready .small) fits)
 
@@ -45,11 +45,11 @@ drop-further m n s t h e =
     ap (λ (z : ℕ). drop z s) (sym k) ∙ sym (drop-drop (n - m) m s) ∙ ap (drop (n - m)) e ∙ drop-drop (n - m) m t ∙ ap (λ (z : ℕ). drop z t) k
 
 -- nothing packed
-pub packed-none : {s : List ℕ} {p : Pending} {w : ℕ} → Ready s p w → Packed s s p p 0 0
+pub packed-none : {s : List ℕ} {p : Pending} {w : ℕ} → Packable s p w → PackedOn s s p p 0 0
 packed-none r = record { few = r .few; small = r .small; place = omega arith; packed = omega arith; after = refl }
 
 -- one put after another
-pub packed-then : {a b c : List ℕ} {p q r : Pending} {w v x y : ℕ} → Packed a b p q w x → Packed b c q r v y → Packed a c p r (w + v) (x * 2 ^ v + y)
+pub packed-then : {a b c : List ℕ} {p q r : Pending} {w v x y : ℕ} → PackedOn a b p q w x → PackedOn b c q r v y → PackedOn a c p r (w + v) (x * 2 ^ v + y)
 unfolding placeOf
 packed-then {a} {b} {q} {r} {w} {v} f g = record {
   few = g .few;
@@ -60,5 +60,5 @@ packed-then {a} {b} {q} {r} {w} {v} f g = record {
 }
 
 -- what is left of the room
-pub ready-then : {a b : List ℕ} {p q : Pending} {n w x : ℕ} (v : ℕ) → Ready a p n → Packed a b p q w x → length b ≡ length a → w + v ≤ n → Ready b q v
+pub ready-then : {a b : List ℕ} {p q : Pending} {n w x : ℕ} (v : ℕ) → Packable a p n → PackedOn a b p q w x → length b ≡ length a → w + v ≤ n → Packable b q v
 ready-then v r f e h = record { few = f .few; small = f .small; room = omega (arith, f .place, r .room); short = omega (arith, r .short) }

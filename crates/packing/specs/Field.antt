@@ -10,7 +10,7 @@ unfoldable pub fieldAt : List ℕ → ℕ → ℕ → ℕ
 fieldAt s at w = numberOf s / 2 ^ (8 * length s - (at + w)) % 2 ^ w
 
 -- a field of 1 to 56 bits lies within the bytes s, which are at least one word long
-pub record Within (s : List ℕ) (at w : ℕ) : Type 0 where
+pub record FieldInside (s : List ℕ) (at w : ℕ) : Type 0 where
   pub some : 0 < w
   pub narrow : w ≤ 56
   pub word : 8 ≤ length s

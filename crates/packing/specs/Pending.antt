@@ -15,14 +15,14 @@ unfoldable pub placeOf : Pending → ℕ
 placeOf p = 8 * p .at + p .count
 
 -- fewer than 8 bits are pending, and the buffer has room for w bits more
-pub record Ready (s : List ℕ) (p : Pending) (w : ℕ) : Type 0 where
+pub record Packable (s : List ℕ) (p : Pending) (w : ℕ) : Type 0 where
   pub few : p .count < 8
   pub small : p .bits < 2 ^ p .count
   pub room : placeOf p + w ≤ 8 * length s
   pub short : length s < 2 ^ 32
 
 -- w bits more, those of x, have been packed; the bytes from q .at on, which the pending bits will go to, are what they were
-pub record Packed (s t : List ℕ) (p q : Pending) (w x : ℕ) : Type 0 where
+pub record PackedOn (s t : List ℕ) (p q : Pending) (w x : ℕ) : Type 0 where
   pub few : q .count < 8
   pub small : q .bits < 2 ^ q .count
   pub place : placeOf q ≡ placeOf p + w

@@ -3,8 +3,8 @@ ghost use mathlib.Core.Path.{_≡_};
 ghost use Prim.Native.Nat.{_+_, _*_, _<_, _≤_, _%_, _^_, min};
 ghost use lib.ListN.{length, replicate};
 ghost use Rattle.rules.specs.Packing.{pack};
-ghost use Rattle.packing.specs.Field.{fieldAt, Within};
-ghost use Rattle.packing.specs.Pending.{Ready, Packed};
+ghost use Rattle.packing.specs.Field.{fieldAt, FieldInside};
+ghost use Rattle.packing.specs.Pending.{Packable, PackedOn};
 ghost use Rattle.rules.specs.Packing.{Fit};
 
 // What is packed and not yet written: the first `count` bits of byte `at`, fewer than 8, as a number. The bytes before it are written.
@@ -51,7 +51,7 @@ fn least(a: usize, b: usize) -> usize
 
 // The field of w bits from bit place `at` on. The word it is cut from starts at the field's first byte, or where the last word starts.
 pub fn field(s: &[u8], at: usize, w: usize) -> u64
-    requires { ⌜ Within (now s) at w ⌝ }
+    requires { ⌜ FieldInside (now s) at w ⌝ }
     ensures { λ r. ⌜ r ≡ fieldAt (now (s .entry)) at w ⌝ }
 {
     let i = least(at / 8, s.len() - 8);
@@ -67,8 +67,8 @@ fn low(x: u64) -> u8
 
 // The w bits of x after those that are packed. Whole bytes go into the buffer, the rest stays pending.
 pub fn put(buffer: &mut [u8], p: Pending, w: usize, x: u64) -> Pending
-    requires { ⌜ Ready (now buffer) p w × ((w ≤ 56) × (x < 2 ^ w)) ⌝ }
-    ensures { λ q. ⌜ Packed (now (buffer .entry)) (now (buffer .exit)) p q w x ⌝ }
+    requires { ⌜ Packable (now buffer) p w × ((w ≤ 56) × (x < 2 ^ w)) ⌝ }
+    ensures { λ q. ⌜ PackedOn (now (buffer .entry)) (now (buffer .exit)) p q w x ⌝ }
 {
     let mut at = p.at;
     let mut count = p.count + w;
@@ -84,8 +84,8 @@ pub fn put(buffer: &mut [u8], p: Pending, w: usize, x: u64) -> Pending
 
 // The fields vs of w bits each after those that are packed.
 pub fn put_row(buffer: &mut [u8], p: Pending, w: usize, vs: &[u64]) -> Pending
-    requires { ⌜ Ready (now buffer) p (w * length (now vs)) × ((w ≤ 56) × Fit w (now vs)) ⌝ }
-    ensures { λ q. ⌜ Packed (now (buffer .entry)) (now (buffer .exit)) p q (w * length (now (vs .entry))) (pack (replicate (length (now (vs .entry))) w) (now (vs .entry))) ⌝ }
+    requires { ⌜ Packable (now buffer) p (w * length (now vs)) × ((w ≤ 56) × Fit w (now vs)) ⌝ }
+    ensures { λ q. ⌜ PackedOn (now (buffer .entry)) (now (buffer .exit)) p q (w * length (now (vs .entry))) (pack (replicate (length (now (vs .entry))) w) (now (vs .entry))) ⌝ }
 {
     let mut q = p;
     let mut i: usize = 0;

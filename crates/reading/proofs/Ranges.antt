@@ -17,7 +17,7 @@ use Rattle.layout.specs.Places.{placesOf}
 use Rattle.layout.specs.declared.Places.{Places}
 use Rattle.layout.proofs.Sizes.{bytes-room, bytes-least, bits-most, starts}
 use Rattle.laws.proofs.Rows.{cells-most}
-use Rattle.reading.specs.Reading.{RowWithin, rowRead}
+use Rattle.reading.specs.Reading.{RowInside, rowRead}
 use Rattle.reading.proofs.Rows.{Whole, ranges-are, codes-row, rows, years-field}
 use Rattle.reading.proofs.Lists.{codes, one-row}
 use Rattle.reading.proofs.Reached.{kindAt, rowFits, reached, unreached, rows-pass, row-fails, row-passes}
@@ -111,7 +111,7 @@ module _ (s : List ℕ) (h : Whole s) where
       passed-more s 0 (λ j l. absurd (not-suc-le-zero l)) (first .same ∙ yes)
 
   -- a row that ends before the filling bits lies within the record
-  row-within : (at w n : ℕ) → 0 < w → w ≤ 56 → at + w * n ≤ bitCount (lastYearOf s) → RowWithin s at w n
+  row-within : (at w n : ℕ) → 0 < w → w ≤ 56 → at + w * n ≤ bitCount (lastYearOf s) → RowInside s at w n
   row-within at w n a b l =
       let k = lastYearOf s in
       let room = bytes-room k in
@@ -121,16 +121,16 @@ module _ (s : List ℕ) (h : Whole s) where
       record { some = a; narrow = b; word = omega arith; short = omega arith; inside = omega arith }
 
 -- the rows by the places at which the code finds them: each lies within the record
-pub record Within (s : List ℕ) (k : ℕ) (p : Places) : Type 0 where
-  pub exposures : RowWithin s 4 20 (k + 1)
-  pub increments : RowWithin s (p .increments) 35 (p .cells)
-  pub indices : RowWithin s (p .indices) 23 k
-  pub reporting : RowWithin s (p .reporting) 20 (k + 1)
-  pub weight : RowWithin s (p .weight) 20 1
-  pub ulae : RowWithin s (p .ulae) 34 (k + 1)
+pub record RowsInside (s : List ℕ) (k : ℕ) (p : Places) : Type 0 where
+  pub exposures : RowInside s 4 20 (k + 1)
+  pub increments : RowInside s (p .increments) 35 (p .cells)
+  pub indices : RowInside s (p .indices) 23 k
+  pub reporting : RowInside s (p .reporting) 20 (k + 1)
+  pub weight : RowInside s (p .weight) 20 1
+  pub ulae : RowInside s (p .ulae) 34 (k + 1)
   pub few : p .cells ≤ 136
 
-pub within : {s : List ℕ} → Whole s → (k : ℕ) (p : Places) → k ≡ lastYearOf s → p ≡ placesOf k → Within s k p
+pub within : {s : List ℕ} → Whole s → (k : ℕ) (p : Places) → k ≡ lastYearOf s → p ≡ placesOf k → RowsInside s k p
 unfolding placesOf
 within {s} h k p e q =
     let y = lastYearOf s in

@@ -9,7 +9,7 @@ use Rattle.rules.specs.Record.{Kind, layout, cells, bitsInRange, codesOf, lastY
 use Rattle.entries.specs.Leading.{passing}
 
 -- a row of n fields of w bits lies within the bytes s
-pub record RowWithin (s : List ℕ) (at w n : ℕ) : Type 0 where
+pub record RowInside (s : List ℕ) (at w n : ℕ) : Type 0 where
   pub some : 0 < w
   pub narrow : w ≤ 56
   pub word : 8 ≤ length s

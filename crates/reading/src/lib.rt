@@ -26,7 +26,7 @@ ghost use Rattle.rules.specs.Lists.{every, between};
 ghost use Rattle.rules.specs.Reading.{hasLastYear, hasLength, hasRoom, openingQuestions, fieldQuestions, readAnswer, readInto};
 ghost use Rattle.entries.specs.Leading.{passing};
 ghost use Rattle.packing.specs.Field.{rowAt};
-ghost use Rattle.reading.specs.Reading.{RowWithin, rowRead, Signable, triangleFields, assumptionFields};
+ghost use Rattle.reading.specs.Reading.{RowInside, rowRead, Signable, triangleFields, assumptionFields};
 
 // The answer of questions 4 and 5, and the weight.
 pub struct Opened {
@@ -100,7 +100,7 @@ fn fill_row(
     most: u64,
     row: &mut [u64; 16],
 ) -> bool
-    requires { ⌜ RowWithin (now s) at w n × (n ≤ 16) ⌝ }
+    requires { ⌜ RowInside (now s) at w n × (n ≤ 16) ⌝ }
     ensures { λ r. ⌜ (r ≡ every (between least most) (rowAt (now (s .entry)) at w n))
         × (now (row .exit) ≡ sets (now (row .entry)) 0 (passing (between least most) (rowAt (now (s .entry)) at w n))) ⌝ }
 {
@@ -142,7 +142,7 @@ fn sound(code: u64) -> bool
 
 // The n increments from bit place `at` on go into the list, as far as each is in its range.
 fn fill_increments(s: &[u8], at: usize, n: usize, amounts: &mut [i64; 136]) -> bool
-    requires { ⌜ RowWithin (now s) at 35 n × (n ≤ 136) ⌝ }
+    requires { ⌜ RowInside (now s) at 35 n × (n ≤ 136) ⌝ }
     ensures { λ r. ⌜ (r ≡ every (bitsInRange increment) (rowAt (now (s .entry)) at 35 n))
         × (now (amounts .exit) ≡ sets (now (amounts .entry)) 0 (map (valueOf increment) (passing (bitsInRange increment) (rowAt (now (s .entry)) at 35 n)))) ⌝ }
 {

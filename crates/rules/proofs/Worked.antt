@@ -50,9 +50,9 @@ unfolding fieldsOf codesOf lastYearOf numberOf byteCount bitCount fillingCount w
 record-fields = refl
 
 -- the reader accepts it with room for its 12 fields, and asks for room where there is less
-pub record-read : (readAnswer bytes 12 ≡ 0) × (readAnswer bytes 11 ≡ 3)
+pub worked-read : (readAnswer bytes 12 ≡ 0) × (readAnswer bytes 11 ≡ 3)
 unfolding readAnswer openingQuestions fieldQuestions firstNo hasLastYear hasLength hasRoom inRanges sharesSum fieldsOf codesOf lastYearOf fillingOf numberOf fieldCount byteCount bitCount fillingCount widths layout kindsOf section reportingIn cells total pack unpack valueOf inRange negativeZero bitsInRange everyField zipWith
-record-read = (refl, refl)
+worked-read = (refl, refl)
 
 -- the lists have the fields, and the writer accepts them with a buffer of 38 bytes
 pub lists-written : (givenFields lists ≡ fields) × (writeAnswer lists 38 ≡ 0)

@@ -12,14 +12,14 @@ use Rattle.rules.specs.Lists.{total}
 use Rattle.rules.specs.Record.{Kind, bitsOf, kindsOf, widths, layout, bitCount, byteCount, fillingCount, codeOf, recordOf}
 use Rattle.rules.specs.Writing.{Given, givenFields}
 use Rattle.packing.specs.declared.Pending.{Pending}
-use Rattle.packing.specs.Pending.{packedSo, placeOf, Ready, Packed}
+use Rattle.packing.specs.Pending.{packedSo, placeOf, Packable, PackedOn}
 use Rattle.rules.specs.Packing.{Fit}
 use Rattle.packing.proofs.Pack.{bytes-number}
 use Rattle.packing.proofs.Puts.{packed-none, packed-then, ready-then}
 use Rattle.layout.proofs.Sizes.{bytes-room, bits-most}
 use Rattle.layout.proofs.Codes.{widthsOf, total-row, packRows, pack-rows}
 use Rattle.writing.specs.Writing.{Writable}
-use Rattle.writing.proofs.Rows.{few-years, rowsOf, codesOf, codes-shaped, Lengths, lengths-are, rows-layout, codes-join}
+use Rattle.writing.proofs.Rows.{few-years, rowsOf, rowCodes, codes-shaped, Lengths, lengths-are, rows-layout, codes-join}
 
 -- nothing is pending
 abbrev pub none : Pending
@@ -47,13 +47,13 @@ one-field : (w x : ℕ) → pack (replicate 1 w) (x ∷ []) ≡ x
 unfolding pack total
 one-field w x = omega arith
 
-pub packed-one : {s t : List ℕ} {p q : Pending} {w x : ℕ} → Packed s t p q w x → Packed s t p q (w * 1) (pack (replicate 1 w) (x ∷ []))
+pub packed-one : {s t : List ℕ} {p q : Pending} {w x : ℕ} → PackedOn s t p q w x → PackedOn s t p q (w * 1) (pack (replicate 1 w) (x ∷ []))
 packed-one {w} {x} f = rw (mul-one w, one-field w x) f
 
 -- the first i rows of g are packed into the buffer, which was s
 pub record FirstRows (g : Given) (i : ℕ) (s t : List ℕ) (q : Pending) : Type 0 where
   pub long : length t ≡ length s
-  pub packed : Packed s t none q (bitsRows 0 (take i (rowsOf g))) (packRows 0 (take i (rowsOf g)) (take i (codesOf g)))
+  pub packed : PackedOn s t none q (bitsRows 0 (take i (rowsOf g))) (packRows 0 (take i (rowsOf g)) (take i (rowCodes g)))
 
 -- where nothing is packed the number is 0
 nothing-packed : (s : List ℕ) → packedSo s none ≡ 0
@@ -61,7 +61,7 @@ unfolding packedSo numberOf pack
 nothing-packed s = refl
 
 -- a buffer that is packed to its end holds the number that was packed
-whole-number : {s u : List ℕ} {r : Pending} {n x : ℕ} → Packed s u none r n x → n ≡ 8 * length u → numberOf u ≡ x
+whole-number : {s u : List ℕ} {r : Pending} {n x : ℕ} → PackedOn s u none r n x → n ≡ 8 * length u → numberOf u ≡ x
 unfolding packedSo placeOf
 whole-number {s} {u} {r} {n} {x} f e =
     let none-left : r .count ≡ 0 = omega (arith, f .place, f .few) in
@@ -75,7 +75,7 @@ pub record Fills (k : ℕ) (t : List ℕ) (q : Pending) : Type 0 where
   pub short : 8 * length t < 2 ^ 64
   pub room : bitCount k ≤ 8 * length t
   pub few : 8 * length t - bitCount k ≤ 56
-  pub ready : Ready t q (8 * length t - bitCount k)
+  pub ready : Packable t q (8 * length t - bitCount k)
 
 module _ (g : Given) (s : List ℕ) (w : Writable g (length s)) where
   lengths : Lengths g (length s)
@@ -89,7 +89,7 @@ module _ (g : Given) (s : List ℕ) (w : Writable g (length s)) where
       omega (arith, bits-rows 0 (rowsOf g))
 
   -- the buffer has room for all rows
-  whole-room : Ready s none (8 * length s)
+  whole-room : Packable s none (8 * length s)
   unfolding placeOf
   whole-room =
       let few = few-years g (w .years) in
@@ -100,7 +100,7 @@ module _ (g : Given) (s : List ℕ) (w : Writable g (length s)) where
 
   -- and after the first rows for the next
   pub ready : {t : List ℕ} {q : Pending} (i v : ℕ) → FirstRows g i s t q
-      → bitsRows 0 (take (suc i) (rowsOf g)) ≡ bitsRows 0 (take i (rowsOf g)) + v → Ready t q v
+      → bitsRows 0 (take (suc i) (rowsOf g)) ≡ bitsRows 0 (take i (rowsOf g)) + v → Packable t q v
   ready i v f e =
       ready-then v whole-room (f .packed) (f .long)
       (omega (arith, first-bits 0 (suc i) (rowsOf g), all-bits, lengths .buffer, bytes-room (g .k)))
@@ -119,18 +119,18 @@ module _ (g : Given) (s : List ℕ) (w : Writable g (length s)) where
       record { short = omega (arith, r .short); room = omega (arith, b); few = omega (arith, b); ready = r }
 
   -- the number packed is that of the record's fields
-  all-packed : packRows 0 (rowsOf g) (codesOf g) ≡ pack (widths (g .k)) (zipWith codeOf (kindsOf (layout (g .k))) (givenFields g))
+  all-packed : packRows 0 (rowsOf g) (rowCodes g) ≡ pack (widths (g .k)) (zipWith codeOf (kindsOf (layout (g .k))) (givenFields g))
   unfolding widths
   all-packed =
-      rw (codes-join g (length s) lengths, ← rows-layout g (length s) lengths) (omega (arith, pack-rows 0 (rowsOf g) (codesOf g) (codes-shaped g)))
+      rw (codes-join g (length s) lengths, ← rows-layout g (length s) lengths) (omega (arith, pack-rows 0 (rowsOf g) (rowCodes g) (codes-shaped g)))
 
   -- with the filling bits the buffer holds the record
-  pub recorded : {t u : List ℕ} {q r : Pending} → FirstRows g 7 s t q → Packed t u q r (8 * length t - bitCount (g .k)) 0 → length u ≡ length t → Fit 8 u
+  pub recorded : {t u : List ℕ} {q r : Pending} → FirstRows g 7 s t q → PackedOn t u q r (8 * length t - bitCount (g .k)) 0 → length u ≡ length t → Fit 8 u
       → u ≡ recordOf (g .k) (givenFields g)
   unfolding recordOf
   recorded {t} {u} f h e fit =
       let b : length u ≡ byteCount (g .k) = omega (arith, f .long, lengths .buffer) in
-      let n : numberOf u ≡ packRows 0 (rowsOf g) (codesOf g) * 2 ^ (8 * length t - bitCount (g .k)) + 0 =
+      let n : numberOf u ≡ packRows 0 (rowsOf g) (rowCodes g) * 2 ^ (8 * length t - bitCount (g .k)) + 0 =
       whole-number (packed-then (f .packed) h) (omega (arith, all-bits, bytes-room (g .k), f .long, lengths .buffer)) in
       sym (bytes-number u fit)
-      ∙ rw (b, n, add-zero (packRows 0 (rowsOf g) (codesOf g) * 2 ^ (8 * length t - bitCount (g .k))), filling-bits f, all-packed)
+      ∙ rw (b, n, add-zero (packRows 0 (rowsOf g) (rowCodes g) * 2 ^ (8 * length t - bitCount (g .k))), filling-bits f, all-packed)

@@ -27,8 +27,8 @@ valuesOf g =
     ∷ map pos (g .ulae)
     ∷ []
 
-abbrev pub codesOf : Given → List (List ℕ)
-codesOf g =
+abbrev pub rowCodes : Given → List (List ℕ)
+rowCodes g =
     (g .k ∷ [])
     ∷ g .exposures
     ∷ map (codeOf increment) (g .increments)
@@ -107,7 +107,7 @@ values-shaped : (g : Given) → Shaped (rowsOf g) (valuesOf g)
 values-shaped g =
     (refl, (length-map (g .exposures) pos, (refl, (length-map (g .indices) pos, (length-map (g .reporting) pos, (refl, (length-map (g .ulae) pos, tt)))))))
 
-pub codes-shaped : (g : Given) → Shaped (rowsOf g) (codesOf g)
+pub codes-shaped : (g : Given) → Shaped (rowsOf g) (rowCodes g)
 codes-shaped g = (refl, (refl, (length-map (g .increments) (codeOf increment), (refl, (refl, (refl, (refl, tt)))))))
 
 -- the bits of a row whose kind has no sign bit are its sizes, and its range is between two limits
@@ -123,7 +123,7 @@ module _ (κ : Kind) (e : κ .signed ≡ false) where
   plain-range (x ∷ xs) = rw (plain-range xs, e)
 
 -- the bits of all fields, row by row
-codes-rows : (g : Given) → mapRows codeOf (rowsOf g) (valuesOf g) ≡ codesOf g
+codes-rows : (g : Given) → mapRows codeOf (rowsOf g) (valuesOf g) ≡ rowCodes g
 unfolding codeOf
 codes-rows g =
     rw (
@@ -140,7 +140,7 @@ module _ (g : Given) (m : ℕ) (l : Lengths g m) where
   rows-layout = rw (l .exposures, l .increments, l .indices, l .reporting, l .ulae)
 
   -- the bits of the fields are those of the rows, one row after another
-  pub codes-join : zipWith codeOf (kindsOf (layout (g .k))) (givenFields g) ≡ join (codesOf g)
+  pub codes-join : zipWith codeOf (kindsOf (layout (g .k))) (givenFields g) ≡ join (rowCodes g)
   codes-join = rw (fields-join g, ← rows-layout, zip-join codeOf (rowsOf g) (valuesOf g) (values-shaped g)) (ap join (codes-rows g))
 
   -- question 4 row by row, where question 1 says yes

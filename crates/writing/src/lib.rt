@@ -22,7 +22,7 @@ ghost use Rattle.rules.specs.Packing.{pack};
 ghost use Rattle.rules.specs.Record.{increment, inRange, codeOf, byteCount, cells, recordOf, million, mostAmount, mostIndex};
 ghost use Rattle.rules.specs.Writing.{given, givenFields, writeAnswer, writeInto};
 ghost use Rattle.rules.specs.Lists.{every, between};
-ghost use Rattle.packing.specs.Pending.{Ready, Packed};
+ghost use Rattle.packing.specs.Pending.{Packable, PackedOn};
 ghost use Rattle.writing.specs.Writing.{Writable};
 
 // Question 1.
@@ -137,8 +137,8 @@ fn code_of(p: i64) -> u64
 
 // The increments after what is packed.
 fn put_increments(buffer: &mut [u8], p: Pending, ps: &[i64]) -> Pending
-    requires { ⌜ Ready (now buffer) p (35 * length (now ps)) × (every (inRange increment) (now ps) ≡ true) ⌝ }
-    ensures { λ q. ⌜ Packed (now (buffer .entry)) (now (buffer .exit)) p q (35 * length (now (ps .entry)))
+    requires { ⌜ Packable (now buffer) p (35 * length (now ps)) × (every (inRange increment) (now ps) ≡ true) ⌝ }
+    ensures { λ q. ⌜ PackedOn (now (buffer .entry)) (now (buffer .exit)) p q (35 * length (now (ps .entry)))
         (pack (replicate (length (now (ps .entry))) 35) (map (codeOf increment) (now (ps .entry)))) ⌝ }
 {
     let mut q = p;

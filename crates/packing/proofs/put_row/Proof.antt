@@ -7,7 +7,7 @@ use borrow.Author.Needs.{needs}
 use lib.ListN.{length, take, replicate}
 use lib.Seq.{take-length}
 use Rattle.rules.specs.Packing.{pack}
-use Rattle.packing.specs.Pending.{Packed}
+use Rattle.packing.specs.Pending.{PackedOn}
 use Rattle.packing.proofs.Pack.{pack-next, room}
 use Rattle.packing.proofs.Puts.{packed-none, packed-then, ready-then}
 use Rattle.packing.proofs.put_row.Statement.{statement}
@@ -15,7 +15,7 @@ use Rattle.packing.proofs.put_row.Tie as tie
 
 abbrev Inv-loop : tie.InvT-loop
 Inv-loop buffer₀ w vs q₀ i₀ buffer q i =
-    (i ≤ length vs) × (length buffer ≡ length buffer₀) × Packed buffer₀ buffer q₀ q (w * i) (pack (replicate i w) (take i vs))
+    (i ≤ length vs) × (length buffer ≡ length buffer₀) × PackedOn buffer₀ buffer q₀ q (w * i) (pack (replicate i w) (take i vs))
 
 abbrev μ-loop : tie.MeasureT-loop
 μ-loop buffer₀ w vs q₀ i₀ buffer q i = length vs - i

@@ -16,7 +16,7 @@ use Rattle.packing.specs.Field.{rowAt}
 use Rattle.layout.specs.declared.Places.{Places}
 use Rattle.reading.specs.Reading.{rowRead}
 use Rattle.reading.proofs.Rows.{Whole, whole, opening-yes, years-known}
-use Rattle.reading.proofs.Ranges.{fits, Passed, passed-more, passed-first, not-read, in-ranges, out-of-range, Within, within, Found, found}
+use Rattle.reading.proofs.Ranges.{fits, Passed, passed-more, passed-first, not-read, in-ranges, out-of-range, RowsInside, within, Found, found}
 use Rattle.reading.proofs.Answers.{answer-4, answer-5, answer-0, one-in, one-out, row-stored, stored-most, sum-at}
 use Rattle.reading.proofs.read.Statement.{statement}
 use Rattle.reading.proofs.read.Tie as tie
@@ -70,7 +70,7 @@ is-whole : (c : tie.After-places-of) → Whole (bytes c)
 is-whole c = whole (bytes c) (λ i. omega (arith, c .before .before .shared-slice-known .given i)) (c .before .before .before .pre)
 
 -- each row lies within it, and is tested by its range
-rows-within : (c : tie.After-places-of) → Within (bytes c) (last-year c) (places c)
+rows-within : (c : tie.After-places-of) → RowsInside (bytes c) (last-year c) (places c)
 rows-within c = within (is-whole c) (last-year c) (places c) (c .before .last-year-of .ensures .0) (c .places-of .ensures)
 
 rows-found : (c : tie.After-places-of) → Found (bytes c) (last-year c) (places c)

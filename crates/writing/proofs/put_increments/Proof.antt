@@ -10,7 +10,7 @@ use lib.Seq.{take-length}
 use mir.Facts.{toZ-ofZ}
 use Rattle.rules.specs.Packing.{pack}
 use Rattle.rules.specs.Record.{increment, inRange, codeOf}
-use Rattle.packing.specs.Pending.{Packed}
+use Rattle.packing.specs.Pending.{PackedOn}
 use Rattle.packing.proofs.Pack.{pack-next}
 use Rattle.packing.proofs.Puts.{packed-none, packed-then, ready-then}
 use Rattle.laws.proofs.Lists.{every-at}
@@ -31,7 +31,7 @@ abbrev Inv-loop : tie.InvT-loop
 Inv-loop buffer₀ ps q₀ i₀ buffer q i =
     (i ≤ length ps)
     × (length buffer ≡ length buffer₀)
-    × Packed buffer₀ buffer q₀ q (35 * i) (pack (replicate i 35) (take i (map (codeOf increment) ps)))
+    × PackedOn buffer₀ buffer q₀ q (35 * i) (pack (replicate i 35) (take i (map (codeOf increment) ps)))
 
 abbrev μ-loop : tie.MeasureT-loop
 μ-loop buffer₀ ps q₀ i₀ buffer q i = length ps - i
