@@ -8,7 +8,7 @@ use lib.ListN.{getD, replicate}
 use lib.Seq.{sets}
 use Rattle.rules.specs.Lists.{upTo, padded}
 use Rattle.rules.specs.Questions.{afterCall}
-use Rattle.rules.specs.Record.{Figures, increment, valueOf, lastYearOf, figuresOf}
+use Rattle.rules.specs.Record.{figures, Figures, increment, valueOf, lastYearOf, figuresOf}
 use Rattle.rules.specs.Triangle.{cumulativesPass, averageRow, averagesOf, ZeroOutside, paidTo}
 use Rattle.rules.specs.Separation.{separateAnswer, separated}
 use Rattle.rules.specs.Results.{squareOf, factorsIn, paidIn}
@@ -21,7 +21,6 @@ use Rattle.totals.proofs.Square.{zero-outside}
 use Rattle.reading.specs.Sound.{Sound}
 use Rattle.reading.specs.Reading.{rowRead}
 use Rattle.reading.proofs.Accepted.{Filled}
-use Rattle.engine.specs.Stages.{figures}
 
 module _ (f : Figures) (six : cumulativesPass (f .k) (f .increments) ≡ true) where
   -- every row has passed question 6

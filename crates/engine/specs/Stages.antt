@@ -19,10 +19,6 @@ use Rattle.expense.specs.Reservable.{Reservable}
 use Rattle.listing.specs.Starts.{Addable}
 use Rattle.reading.specs.Sound.{Sound}
 
--- the figures with the exposures n, the increments p, the indices e, the reporting shares b, the weight w and the ULAE totals u
-abbrev pub figures : ℕ → List ℕ → List ℤ → List ℕ → List ℕ → ℕ → List ℕ → Figures
-figures k n p e b w u = record { k = k; exposures = n; increments = p; indices = e; reporting = b; weight = w; ulae = u }
-
 -- figures whose separation was accepted: their square s, the sums v of the cumulatives' columns, the paid cumulatives c, the shares r and the levels l
 pub record Separated (f : Figures) (s : List (List ℤ)) (v c r l : List ℕ) : Type 0 where
   pub sound : Sound f

@@ -21,13 +21,13 @@ ghost use Prim.Native.Nat.{_≤_};
 ghost use lib.ListN.{length};
 ghost use lib.Seq.{sets};
 ghost use Rattle.rules.specs.Questions.{firstNo};
-ghost use Rattle.rules.specs.Record.{lastYearOf, figuresOf};
+ghost use Rattle.rules.specs.Record.{figures, lastYearOf, figuresOf};
 ghost use Rattle.rules.specs.Reading.{openingQuestions, fieldQuestions};
 ghost use Rattle.rules.specs.Results.{resultCount};
 ghost use Rattle.rules.specs.Engine.{laterQuestions, figureQuestions, holdsList, runAnswer, runInto};
 ghost use Rattle.rules.specs.Demand.{ThirdDemand};
 ghost use Rattle.reading.specs.Sound.{Sound};
-ghost use Rattle.engine.specs.Stages.{figures, Separated, Printable, printedList, Answers};
+ghost use Rattle.engine.specs.Stages.{Separated, Printable, printedList, Answers};
 
 // The whole list.
 fn put_results<'a>(

@@ -9,9 +9,9 @@ use lib.ListN.{length}
 use borrow.Author.Tests.{leb-true, eqb-true, le-leb, eq-eqb}
 use Rattle.rules.specs.Lists.{total}
 use Rattle.rules.specs.Questions.{firstNo}
-use Rattle.rules.specs.Record.{million, layout, kindsOf, fieldCount, byteCount, cells, everyField, inRange, bitsInRange, lastYearOf, codesOf, fillingOf, fieldsOf, reportingIn}
+use Rattle.rules.specs.Record.{Figures, million, layout, kindsOf, fieldCount, byteCount, cells, everyField, inRange, bitsInRange, lastYearOf, codesOf, fillingOf, fieldsOf, reportingIn}
 use Rattle.rules.specs.Reading.{hasLastYear, hasLength, hasRoom, inRanges, sharesSum, openingQuestions, fieldQuestions, readAnswer}
-use Rattle.rules.specs.Writing.{Given, givenFields, givenLastYear, givenLengths, givenRanges, givenSum, writeAnswer}
+use Rattle.rules.specs.Writing.{givenFields, givenLastYear, givenLengths, givenRanges, givenSum, writeAnswer}
 use Rattle.laws.proofs.Lists.{both-left, both-right}
 use Rattle.layout.proofs.Sizes.{bytes-least}
 
@@ -63,7 +63,7 @@ yes-reader s m a =
     )
 
 -- what the writer's yes to every question says of what it is given and a buffer of m bytes
-pub record Taken (g : Given) (m : ℕ) : Type 0 where
+pub record Taken (g : Figures) (m : ℕ) : Type 0 where
   pub years : 1 ≤ g .k
   pub most : g .k ≤ 15
   pub size : m ≡ byteCount (g .k)
@@ -76,7 +76,7 @@ pub record Taken (g : Given) (m : ℕ) : Type 0 where
   pub sum : total (g .reporting) ≡ million
 
 -- the answer 0 says that, and whatever is so is answered by 0
-pub writer-yes : (g : Given) (m : ℕ) → writeAnswer g m ≡ 0 → Taken g m
+pub writer-yes : (g : Figures) (m : ℕ) → writeAnswer g m ≡ 0 → Taken g m
 unfolding writeAnswer givenLastYear givenLengths layout givenRanges givenSum
 writer-yes g m h =
     let q1 = first-yes 0 (givenLastYear g) _ h in
@@ -100,7 +100,7 @@ writer-yes g m h =
       sum = eqb-true (total (g .reporting)) million (q5 .0);
     }
 
-pub yes-writer : (g : Given) (m : ℕ) → Taken g m → writeAnswer g m ≡ 0
+pub yes-writer : (g : Figures) (m : ℕ) → Taken g m → writeAnswer g m ≡ 0
 unfolding writeAnswer givenLastYear givenLengths layout givenRanges givenSum firstNo
 yes-writer g m t =
     rw (

@@ -9,8 +9,8 @@ use lib.IntN.{ℤ, pos, natAbs}
 use lib.ListN.{length, getD, take, drop, length-append, length-drop, length-map, length-replicate, take-append-drop, List·getD-append}
 use lib.Seq.{sets, length-take-le, getD-take, take-append-le, drop-append-le, sets-eq}
 use Rattle.rules.specs.Lists.{total, every}
-use Rattle.rules.specs.Record.{Kind, million, layout, kindsOf, section, fieldCount, byteCount, inRange, exposuresIn, incrementsIn, indicesIn, reportingIn, weightIn, ulaeIn}
-use Rattle.rules.specs.Writing.{Given, given, givenIn, givenFields}
+use Rattle.rules.specs.Record.{Figures, figures, Kind, million, layout, kindsOf, section, fieldCount, byteCount, inRange, exposuresIn, incrementsIn, indicesIn, reportingIn, weightIn, ulaeIn}
+use Rattle.rules.specs.Writing.{givenIn, givenFields}
 use Rattle.laws.proofs.Lists.{both-left, both-right}
 use Rattle.layout.proofs.Sections.{join, Shaped, everyRow, length-join, section-join, every-join}
 use Rattle.layout.proofs.Sizes.{fields-count}
@@ -19,8 +19,8 @@ use Rattle.record.proofs.Field.{not-below}
 use Rattle.record.proofs.Fields.{RecordFields}
 
 -- the lists and the weight among the fields vs of a record of the years 0 to k
-abbrev pub cutBy : ℕ → List ℤ → Given
-cutBy k vs = given k (exposuresIn k vs) (incrementsIn k vs) (indicesIn k vs) (reportingIn k vs) (weightIn k vs) (ulaeIn k vs)
+abbrev pub cutBy : ℕ → List ℤ → Figures
+cutBy k vs = figures k (exposuresIn k vs) (incrementsIn k vs) (indicesIn k vs) (reportingIn k vs) (weightIn k vs) (ulaeIn k vs)
 
 -- the rows of a list with an entry for each field of a layout
 abbrev pub sectionsOf : {A : Type 0} → List (ℕ × Kind) → List A → List (List A)
@@ -100,7 +100,7 @@ as-given-rows (r ∷ rs) (xs ∷ xss) s h =
     (as-given-rows rs xss (s .1) (both-right (every (inRange (r .1)) xs) _ h))
 
 -- what a writer is given, as rows of a record
-abbrev pub givenRows : Given → List (List ℤ)
+abbrev pub givenRows : Figures → List (List ℤ)
 givenRows g =
     (pos (g .k) ∷ [])
     ∷ map pos (g .exposures)
@@ -112,7 +112,7 @@ givenRows g =
     ∷ []
 
 -- one row after another they are the fields
-pub join-given : (g : Given) → join (givenRows g) ≡ givenFields g
+pub join-given : (g : Figures) → join (givenRows g) ≡ givenFields g
 unfolding givenFields
 join-given g = rw (append-nil (map pos (g .ulae)))
 
@@ -176,7 +176,7 @@ module _ (k : ℕ) (vs : List ℤ) (f : RecordFields k vs) where
         sum = sum;
       }
 
-module _ (g : Given) (m : ℕ) (t : Taken g m) where
+module _ (g : Figures) (m : ℕ) (t : Taken g m) where
   -- each row of what a writer takes has its length
   given-shaped : Shaped (layout (g .k)) (givenRows g)
   unfolding layout

@@ -8,9 +8,9 @@ use lib.IntN.{ℤ}
 use lib.ListN.{length}
 use lib.Seq.{sets}
 use Rattle.rules.specs.Questions.{afterCall, firstNo}
-use Rattle.rules.specs.Record.{fieldCount, byteCount, lastYearOf, fieldsOf, figuresOf, recordOf}
+use Rattle.rules.specs.Record.{Figures, fieldCount, byteCount, lastYearOf, fieldsOf, figuresOf, recordOf}
 use Rattle.rules.specs.Reading.{readAnswer, readInto, hasRoom, openingQuestions, fieldQuestions}
-use Rattle.rules.specs.Writing.{Given, givenIn, givenFields, writeAnswer, writeInto}
+use Rattle.rules.specs.Writing.{givenIn, givenFields, writeAnswer, writeInto}
 use Rattle.rules.specs.Packing.{Fit}
 use Rattle.rules.specs.Lists.{every}
 use Rattle.rules.specs.Engine.{figureQuestions, holdsList, questions, runAnswer}
@@ -56,7 +56,7 @@ written-again s out buffer h r e =
     rw (given-read s out (accepted-read s (length out) h a .0) r (a .room)) (cut-written s (length out) buffer h a e)
 
 -- the reader accepts the record of what a writer takes
-made-accepted : (g : Given) (m n : ℕ) → Taken g m → fieldCount (g .k) ≤ n → Accepted (recordOf (g .k) (givenFields g)) n
+made-accepted : (g : Figures) (m n : ℕ) → Taken g m → fieldCount (g .k) ≤ n → Accepted (recordOf (g .k) (givenFields g)) n
 made-accepted g m n t room =
     let h = record-made (g .k) (givenFields g) (given-fields g m t) in
     record {
@@ -65,11 +65,11 @@ made-accepted g m n t room =
       filled = h .filled;
       room = rw (h .years) room;
       ranges = rw (h .years) (h .ranges);
-      sum = rw (h .years, h .values, ap (λ (z : Given). z .reporting) (given-again g m t)) (t .sum);
+      sum = rw (h .years, h .values, ap (λ (z : Figures). z .reporting) (given-again g m t)) (t .sum);
     }
 
 -- whatever the writer accepts, the reader gives back, and the lists are found there
-pub read-back : (g : Given) (buffer : List ℕ) (out : List ℤ) → writeAnswer g (length buffer) ≡ 0 → fieldCount (g .k) ≤ length out
+pub read-back : (g : Figures) (buffer : List ℕ) (out : List ℤ) → writeAnswer g (length buffer) ≡ 0 → fieldCount (g .k) ≤ length out
     → (readAnswer (writeInto g buffer) (length out) ≡ 0)
     × ((readInto (writeInto g buffer) out ≡ sets out 0 (givenFields g)) × (givenIn (readInto (writeInto g buffer) out) ≡ g))
 unfolding readInto writeInto afterCall
@@ -120,7 +120,7 @@ after-either P zero written held w h = w
 after-either P (suc n) written held w h = h
 
 -- a buffer of bytes is one of bytes after the writing
-pub written-bytes : (g : Given) (buffer : List ℕ) → Fit 8 buffer → Fit 8 (writeInto g buffer)
+pub written-bytes : (g : Figures) (buffer : List ℕ) → Fit 8 buffer → Fit 8 (writeInto g buffer)
 unfolding writeInto recordOf
 written-bytes g buffer h =
     after-either (Fit 8) (writeAnswer g (length buffer)) (recordOf (g .k) (givenFields g)) buffer (bytes-small (byteCount (g .k)) _) h

@@ -10,9 +10,9 @@ use lib.ListN.{getD, take, replicate}
 use Rattle.rules.specs.Lists.{total, upTo, padded, joined, every}
 use Rattle.rules.specs.Packing.{pack, unpack, numberOf, bytesOf}
 use Rattle.rules.specs.Questions.{firstNo, afterCall}
-use Rattle.rules.specs.Record.{cells, layout, kindsOf, section, widths, bitCount, byteCount, fillingCount, valueOf, codeOf, inRange, negativeZero, bitsInRange, everyField, lastYearOf, codesOf, fillingOf, fieldsOf, recordOf, exposuresIn, incrementsIn, indicesIn, reportingIn, weightIn, ulaeIn, figuresOf}
+use Rattle.rules.specs.Record.{figures, cells, layout, kindsOf, section, widths, bitCount, byteCount, fillingCount, valueOf, codeOf, inRange, negativeZero, bitsInRange, everyField, lastYearOf, codesOf, fillingOf, fieldsOf, recordOf, exposuresIn, incrementsIn, indicesIn, reportingIn, weightIn, ulaeIn, figuresOf}
 use Rattle.rules.specs.Reading.{hasLastYear, hasLength, inRanges, sharesSum, openingQuestions, fieldQuestions}
-use Rattle.rules.specs.Writing.{given, givenFields}
+use Rattle.rules.specs.Writing.{givenFields}
 use Rattle.rules.specs.Triangle.{rowStart, paidOf, sumTo, cumulativeOf, rowPasses, cumulativesPass, givenCumulative, paidTo, nearest, averageOf, averageRow, averagesOf, cellOf, cellsTotal, columnTotal, diagonalTotal, cornerTotal, allTotal}
 use Rattle.rules.specs.Separation.{billion, columnOf, diagonalOf, cornerOf, runningDown, runningOf, shareOf, levelOf, totalsPass, restsPass, runningPass, levelsPass, factorsOf, separationQuestions, separateAnswer, separated}
 use Rattle.rules.specs.Completion.{futureLevel, futureLevels, paymentOf, payment, paymentRow, payments, provision, provisions, ultimate, ultimatesPass}
@@ -23,7 +23,7 @@ use Rattle.rules.specs.Engine.{completionQuestions, ratioQuestions, ladd
 
 -- the record of two years, n 1, 1; e 1,100,000; b 800,000, 200,000; w 500,000, with these cells and ULAE totals
 abbrev twoYears : List ℤ → List ℕ → List ℕ
-twoYears p u = recordOf 1 (givenFields (given 1 (1 ∷ 1 ∷ []) p (1100000 ∷ []) (800000 ∷ 200000 ∷ []) 500000 u))
+twoYears p u = recordOf 1 (givenFields (figures 1 (1 ∷ 1 ∷ []) p (1100000 ∷ []) (800000 ∷ 200000 ∷ []) 500000 u))
 
 -- the answer to that record with a buffer of twenty entries, and what the buffer, full of −7 before, holds then
 abbrev answer : List ℤ → List ℕ → ℤ

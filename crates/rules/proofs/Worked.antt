@@ -7,13 +7,13 @@ use lib.IntN.{ℤ, pos}
 use Rattle.rules.specs.Lists.{total}
 use Rattle.rules.specs.Packing.{pack, unpack, numberOf, bytesOf}
 use Rattle.rules.specs.Questions.{firstNo}
-use Rattle.rules.specs.Record.{cells, layout, kindsOf, section, fieldCount, widths, bitCount, byteCount, fillingCount, valueOf, codeOf, inRange, negativeZero, bitsInRange, everyField, lastYearOf, codesOf, fillingOf, fieldsOf, recordOf, reportingIn}
+use Rattle.rules.specs.Record.{Figures, figures, cells, layout, kindsOf, section, fieldCount, widths, bitCount, byteCount, fillingCount, valueOf, codeOf, inRange, negativeZero, bitsInRange, everyField, lastYearOf, codesOf, fillingOf, fieldsOf, recordOf, reportingIn}
 use Rattle.rules.specs.Reading.{hasLastYear, hasLength, hasRoom, inRanges, sharesSum, openingQuestions, fieldQuestions, readAnswer}
-use Rattle.rules.specs.Writing.{Given, given, givenFields, givenLastYear, givenLengths, givenRanges, givenSum, writeAnswer}
+use Rattle.rules.specs.Writing.{givenFields, givenLastYear, givenLengths, givenRanges, givenSum, writeAnswer}
 
 -- k = 1; exposures 1, 1; increments 60, 40, 66; index 1,100,000; reporting shares 800,000, 200,000; weight 500,000; ULAE totals 6, 10
-abbrev pub lists : Given
-lists = given 1 (1 ∷ 1 ∷ []) (pos 60 ∷ pos 40 ∷ pos 66 ∷ []) (1100000 ∷ []) (800000 ∷ 200000 ∷ []) 500000 (6 ∷ 10 ∷ [])
+abbrev pub lists : Figures
+lists = figures 1 (1 ∷ 1 ∷ []) (pos 60 ∷ pos 40 ∷ pos 66 ∷ []) (1100000 ∷ []) (800000 ∷ 200000 ∷ []) 500000 (6 ∷ 10 ∷ [])
 
 -- its fields in the record's order
 abbrev pub fields : List ℤ

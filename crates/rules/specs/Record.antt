@@ -180,7 +180,7 @@ weightIn k vs = getD (map natAbs (section (layout k) 5 vs)) 0 0
 unfoldable pub ulaeIn : ℕ → List ℤ → List ℕ
 ulaeIn k vs = map natAbs (section (layout k) 6 vs)
 
--- the figures of one record, each list in an array of sixteen or, for the increments by row, of 136
+-- the figures of one record: k, its lists, the increments by row, and its weight
 pub record Figures : Type 0 where
   pub k : ℕ
   pub exposures : List ℕ
@@ -190,14 +190,12 @@ pub record Figures : Type 0 where
   pub weight : ℕ
   pub ulae : List ℕ
 
--- the figures of the record s, each list in its array, zero past its end; e_t is at place t − 1
+abbrev pub figures : ℕ → List ℕ → List ℤ → List ℕ → List ℕ → ℕ → List ℕ → Figures
+figures k n p e b w u = record { k = k; exposures = n; increments = p; indices = e; reporting = b; weight = w; ulae = u }
+
+-- the figures of the record s, each list in an array of sixteen or, for the increments, of 136, zero past its end; e_t is at place t − 1
 unfoldable pub figuresOf : List ℕ → Figures
-figuresOf s = record {
-  k = lastYearOf s;
-  exposures = padded 16 0 (exposuresIn (lastYearOf s) (fieldsOf s));
-  increments = padded 136 (pos 0) (incrementsIn (lastYearOf s) (fieldsOf s));
-  indices = padded 16 0 (indicesIn (lastYearOf s) (fieldsOf s));
-  reporting = padded 16 0 (reportingIn (lastYearOf s) (fieldsOf s));
-  weight = weightIn (lastYearOf s) (fieldsOf s);
-  ulae = padded 16 0 (ulaeIn (lastYearOf s) (fieldsOf s));
-}
+figuresOf s =
+    let k = lastYearOf s in
+    let vs = fieldsOf s in
+    figures k (padded 16 0 (exposuresIn k vs)) (padded 136 (pos 0) (incrementsIn k vs)) (padded 16 0 (indicesIn k vs)) (padded 16 0 (reportingIn k vs)) (weightIn k vs) (padded 16 0 (ulaeIn k vs))

@@ -7,39 +7,26 @@ use lib.IntN.{ℤ, pos, natAbs}
 use lib.ListN.{length, getD}
 use Rattle.rules.specs.Lists.{total}
 use Rattle.rules.specs.Questions.{firstNo, afterCall}
-use Rattle.rules.specs.Record.{million, kindsOf, layout, byteCount, everyField, inRange, recordOf, countOf, exposuresIn, incrementsIn, indicesIn, reportingIn, weightIn, ulaeIn}
+use Rattle.rules.specs.Record.{Figures, figures, million, kindsOf, layout, byteCount, everyField, inRange, recordOf, countOf, exposuresIn, incrementsIn, indicesIn, reportingIn, weightIn, ulaeIn}
 
--- what a writer is given: k, and the lists and the weight of a record
-pub record Given : Type 0 where
-  pub k : ℕ
-  pub exposures : List ℕ
-  pub increments : List ℤ
-  pub indices : List ℕ
-  pub reporting : List ℕ
-  pub weight : ℕ
-  pub ulae : List ℕ
-
-abbrev pub given : ℕ → List ℕ → List ℤ → List ℕ → List ℕ → ℕ → List ℕ → Given
-given k n p e b w u = record { k = k; exposures = n; increments = p; indices = e; reporting = b; weight = w; ulae = u }
-
--- what a writer is given, found among the fields vs of a record
-unfoldable pub givenIn : List ℤ → Given
+-- what a writer is given, figures whose lists have any lengths, found among the fields vs of a record
+unfoldable pub givenIn : List ℤ → Figures
 givenIn vs =
     let k = natAbs (getD vs 0 (pos 0)) in
-    given k (exposuresIn k vs) (incrementsIn k vs) (indicesIn k vs) (reportingIn k vs) (weightIn k vs) (ulaeIn k vs)
+    figures k (exposuresIn k vs) (incrementsIn k vs) (indicesIn k vs) (reportingIn k vs) (weightIn k vs) (ulaeIn k vs)
 
 -- the fields in the record's order
-unfoldable pub givenFields : Given → List ℤ
+unfoldable pub givenFields : Figures → List ℤ
 givenFields g =
     pos (g .k)
     ∷ (map pos (g .exposures) ++ (g .increments ++ (map pos (g .indices) ++ (map pos (g .reporting) ++ (pos (g .weight) ∷ map pos (g .ulae))))))
 
 -- 1. Is k from 1 to 15?
-unfoldable pub givenLastYear : Given → Bool
+unfoldable pub givenLastYear : Figures → Bool
 givenLastYear g = leb 1 (g .k) && leb (g .k) 15
 
 -- 2. Has the buffer, of m bytes, just the length that k calls for, and has each list?
-unfoldable pub givenLengths : Given → ℕ → Bool
+unfoldable pub givenLengths : Figures → ℕ → Bool
 givenLengths g m =
     eqb m (byteCount (g .k))
     && (eqb (length (g .exposures)) (countOf (g .k) 1)
@@ -47,17 +34,17 @@ givenLengths g m =
     && (eqb (length (g .indices)) (countOf (g .k) 3) && (eqb (length (g .reporting)) (countOf (g .k) 4) && eqb (length (g .ulae)) (countOf (g .k) 6)))))
 
 -- 4. Is every field in its range?
-unfoldable pub givenRanges : Given → Bool
+unfoldable pub givenRanges : Figures → Bool
 givenRanges g = everyField inRange (kindsOf (layout (g .k))) (givenFields g)
 
 -- 5. Do the reporting shares sum to M?
-unfoldable pub givenSum : Given → Bool
+unfoldable pub givenSum : Figures → Bool
 givenSum g = eqb (total (g .reporting)) million
 
 -- the number that writing into a buffer of m bytes answers
-unfoldable pub writeAnswer : Given → ℕ → ℕ
+unfoldable pub writeAnswer : Figures → ℕ → ℕ
 writeAnswer g m = firstNo ((1, givenLastYear g) ∷ (2, givenLengths g m) ∷ (4, givenRanges g) ∷ (5, givenSum g) ∷ [])
 
 -- the lent buffer afterwards: the record, and unchanged on a refusal
-unfoldable pub writeInto : Given → List ℕ → List ℕ
+unfoldable pub writeInto : Figures → List ℕ → List ℕ
 writeInto g buffer = afterCall (writeAnswer g (length buffer)) (recordOf (g .k) (givenFields g)) buffer

@@ -5,11 +5,11 @@ use mathlib.Core.Bool.{true, false}
 use mathlib.Core.List.{List}
 use lib.ListN.{length}
 use Rattle.rules.specs.Questions.{firstNo, afterCall}
-use Rattle.rules.specs.Record.{recordOf}
-use Rattle.rules.specs.Writing.{Given, givenFields, givenLastYear, givenLengths, givenRanges, givenSum, writeAnswer, writeInto}
+use Rattle.rules.specs.Record.{Figures, recordOf}
+use Rattle.rules.specs.Writing.{givenFields, givenLastYear, givenLengths, givenRanges, givenSum, writeAnswer, writeInto}
 
 -- the number of the first question that says no, and 0 where each says yes
-module _ (g : Given) (m : ℕ) where
+module _ (g : Figures) (m : ℕ) where
   pub answer-1 : givenLastYear g ≡ false → writeAnswer g m ≡ 1
   unfolding writeAnswer firstNo
   answer-1 a = rw a
@@ -30,7 +30,7 @@ module _ (g : Given) (m : ℕ) where
   unfolding writeAnswer firstNo
   answer-0 a b c d = rw (a, b, c, d)
 
-module _ (g : Given) (buffer : List ℕ) where
+module _ (g : Figures) (buffer : List ℕ) where
   -- a refusal leaves the buffer
   pub refused : (n : ℕ) → writeAnswer g (length buffer) ≡ suc n → (suc n ≡ writeAnswer g (length buffer)) × (buffer ≡ writeInto g buffer)
   unfolding writeInto afterCall

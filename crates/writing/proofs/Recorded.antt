@@ -9,8 +9,8 @@ use lib.ListN.{length, take, replicate}
 use lib.Seq.{take-length}
 use Rattle.rules.specs.Packing.{pack, numberOf}
 use Rattle.rules.specs.Lists.{total}
-use Rattle.rules.specs.Record.{Kind, bitsOf, kindsOf, widths, layout, bitCount, byteCount, fillingCount, codeOf, recordOf}
-use Rattle.rules.specs.Writing.{Given, givenFields}
+use Rattle.rules.specs.Record.{Figures, Kind, bitsOf, kindsOf, widths, layout, bitCount, byteCount, fillingCount, codeOf, recordOf}
+use Rattle.rules.specs.Writing.{givenFields}
 use Rattle.packing.specs.declared.Pending.{Pending}
 use Rattle.packing.specs.Pending.{packedSo, placeOf, Packable, PackedOn}
 use Rattle.rules.specs.Packing.{Fit}
@@ -51,7 +51,7 @@ pub packed-one : {s t : List ℕ} {p q : Pending} {w x : ℕ} → PackedOn s t p
 packed-one {w} {x} f = rw (mul-one w, one-field w x) f
 
 -- the first i rows of g are packed into the buffer, which was s
-pub record FirstRows (g : Given) (i : ℕ) (s t : List ℕ) (q : Pending) : Type 0 where
+pub record FirstRows (g : Figures) (i : ℕ) (s t : List ℕ) (q : Pending) : Type 0 where
   pub long : length t ≡ length s
   pub packed : PackedOn s t none q (bitsRows 0 (take i (rowsOf g))) (packRows 0 (take i (rowsOf g)) (take i (rowCodes g)))
 
@@ -77,7 +77,7 @@ pub record Fills (k : ℕ) (t : List ℕ) (q : Pending) : Type 0 where
   pub few : 8 * length t - bitCount k ≤ 56
   pub ready : Packable t q (8 * length t - bitCount k)
 
-module _ (g : Given) (s : List ℕ) (w : Writable g (length s)) where
+module _ (g : Figures) (s : List ℕ) (w : Writable g (length s)) where
   lengths : Lengths g (length s)
   lengths = lengths-are g (length s) (w .lengths)
 

@@ -8,15 +8,15 @@ use borrow.Author.Tests.{eqb-true, leb-true}
 use lib.Dec.{eqb, leb}
 use lib.IntN.{ℤ, pos}
 use lib.ListN.{length, length-map}
-use Rattle.rules.specs.Record.{Kind, lastYear, exposure, increment, index, reporting, weight, ulae, cells, layout, kindsOf, byteCount, codeOf, inRange, million, mostAmount, mostIndex}
-use Rattle.rules.specs.Writing.{Given, givenFields, givenLastYear, givenLengths, givenRanges}
+use Rattle.rules.specs.Record.{Figures, Kind, lastYear, exposure, increment, index, reporting, weight, ulae, cells, layout, kindsOf, byteCount, codeOf, inRange, million, mostAmount, mostIndex}
+use Rattle.rules.specs.Writing.{givenFields, givenLastYear, givenLengths, givenRanges}
 use Rattle.rules.specs.Lists.{every, between}
 use Rattle.laws.proofs.Lists.{both-left, both-right}
 use Rattle.layout.proofs.Sections.{join, Shaped, mapRows, zip-join, every-join}
 use Rattle.writing.specs.Writing.{rangesOf}
 
 -- the values of what is given, a row for each kind, and their bits
-abbrev valuesOf : Given → List (List ℤ)
+abbrev valuesOf : Figures → List (List ℤ)
 valuesOf g =
     (pos (g .k) ∷ [])
     ∷ map pos (g .exposures)
@@ -27,7 +27,7 @@ valuesOf g =
     ∷ map pos (g .ulae)
     ∷ []
 
-abbrev pub rowCodes : Given → List (List ℕ)
+abbrev pub rowCodes : Figures → List (List ℕ)
 rowCodes g =
     (g .k ∷ [])
     ∷ g .exposures
@@ -39,7 +39,7 @@ rowCodes g =
     ∷ []
 
 -- how many fields each row has, and of which kind
-abbrev pub rowsOf : Given → List (ℕ × Kind)
+abbrev pub rowsOf : Figures → List (ℕ × Kind)
 rowsOf g =
     (1, lastYear)
     ∷ (length (g .exposures), exposure)
@@ -51,7 +51,7 @@ rowsOf g =
     ∷ []
 
 -- the fields are the values, one row after another
-fields-join : (g : Given) → givenFields g ≡ join (valuesOf g)
+fields-join : (g : Figures) → givenFields g ≡ join (valuesOf g)
 unfolding givenFields
 fields-join g = rw (append-nil (map pos (g .ulae)))
 
@@ -72,14 +72,14 @@ all-six a b c d e f h =
     )
 
 -- what question 1 says
-pub few-years : (g : Given) → givenLastYear g ≡ true → g .k < 16
+pub few-years : (g : Figures) → givenLastYear g ≡ true → g .k < 16
 unfolding givenLastYear
 few-years g h =
     let l = leb-true (g .k) 15 (both-right (leb 1 (g .k)) (leb (g .k) 15) h) in
     omega arith
 
 -- what question 2 says: the buffer has m bytes, and each list its length
-pub record Lengths (g : Given) (m : ℕ) : Type 0 where
+pub record Lengths (g : Figures) (m : ℕ) : Type 0 where
   pub buffer : m ≡ byteCount (g .k)
   pub exposures : length (g .exposures) ≡ g .k + 1
   pub increments : length (g .increments) ≡ cells (g .k)
@@ -87,7 +87,7 @@ pub record Lengths (g : Given) (m : ℕ) : Type 0 where
   pub reporting : length (g .reporting) ≡ g .k + 1
   pub ulae : length (g .ulae) ≡ g .k + 1
 
-pub lengths-are : (g : Given) (m : ℕ) → givenLengths g m ≡ true → Lengths g m
+pub lengths-are : (g : Figures) (m : ℕ) → givenLengths g m ≡ true → Lengths g m
 unfolding givenLengths layout
 lengths-are g m h =
     let (a, b, c, d, e, f) =
@@ -103,11 +103,11 @@ lengths-are g m h =
     }
 
 -- the rows' own lengths
-values-shaped : (g : Given) → Shaped (rowsOf g) (valuesOf g)
+values-shaped : (g : Figures) → Shaped (rowsOf g) (valuesOf g)
 values-shaped g =
     (refl, (length-map (g .exposures) pos, (refl, (length-map (g .indices) pos, (length-map (g .reporting) pos, (refl, (length-map (g .ulae) pos, tt)))))))
 
-pub codes-shaped : (g : Given) → Shaped (rowsOf g) (rowCodes g)
+pub codes-shaped : (g : Figures) → Shaped (rowsOf g) (rowCodes g)
 codes-shaped g = (refl, (refl, (length-map (g .increments) (codeOf increment), (refl, (refl, (refl, (refl, tt)))))))
 
 -- the bits of a row whose kind has no sign bit are its sizes, and its range is between two limits
@@ -123,7 +123,7 @@ module _ (κ : Kind) (e : κ .signed ≡ false) where
   plain-range (x ∷ xs) = rw (plain-range xs, e)
 
 -- the bits of all fields, row by row
-codes-rows : (g : Given) → mapRows codeOf (rowsOf g) (valuesOf g) ≡ rowCodes g
+codes-rows : (g : Figures) → mapRows codeOf (rowsOf g) (valuesOf g) ≡ rowCodes g
 unfolding codeOf
 codes-rows g =
     rw (
@@ -133,7 +133,7 @@ codes-rows g =
       plain-codes ulae refl (g .ulae),
     )
 
-module _ (g : Given) (m : ℕ) (l : Lengths g m) where
+module _ (g : Figures) (m : ℕ) (l : Lengths g m) where
   -- the rows have the lengths that the layout gives
   pub rows-layout : rowsOf g ≡ layout (g .k)
   unfolding layout
@@ -163,7 +163,7 @@ module _ (g : Given) (m : ℕ) (l : Lengths g m) where
       )
 
 -- what question 4 says, row by row
-pub record Ranges (g : Given) : Type 0 where
+pub record Ranges (g : Figures) : Type 0 where
   pub exposures : every (between 1 million) (g .exposures) ≡ true
   pub increments : every (inRange increment) (g .increments) ≡ true
   pub indices : every (between 1 mostIndex) (g .indices) ≡ true
@@ -171,7 +171,7 @@ pub record Ranges (g : Given) : Type 0 where
   pub weight : every (between 0 million) (g .weight ∷ []) ≡ true
   pub ulae : every (between 0 mostAmount) (g .ulae) ≡ true
 
-pub ranges-hold : (g : Given) → rangesOf g ≡ true → Ranges g
+pub ranges-hold : (g : Figures) → rangesOf g ≡ true → Ranges g
 unfolding rangesOf every
 ranges-hold g h =
     let (a, b, c, d, e, f) =

@@ -19,8 +19,8 @@ ghost use Prim.Native.Nat.{_+_, _*_, _<_, _^_};
 ghost use lib.Dec.{eqb, leb};
 ghost use lib.ListN.{length, replicate};
 ghost use Rattle.rules.specs.Packing.{pack};
-ghost use Rattle.rules.specs.Record.{increment, inRange, codeOf, byteCount, cells, recordOf, million, mostAmount, mostIndex};
-ghost use Rattle.rules.specs.Writing.{given, givenFields, writeAnswer, writeInto};
+ghost use Rattle.rules.specs.Record.{figures, increment, inRange, codeOf, byteCount, cells, recordOf, million, mostAmount, mostIndex};
+ghost use Rattle.rules.specs.Writing.{givenFields, writeAnswer, writeInto};
 ghost use Rattle.rules.specs.Lists.{every, between};
 ghost use Rattle.packing.specs.Pending.{Packable, PackedOn};
 ghost use Rattle.writing.specs.Writing.{Writable};
@@ -162,12 +162,12 @@ fn put_record(
     buffer: &mut [u8],
 )
     requires { ⌜ Writable
-        (given k (now exposures) (now increments) (now indices) (now reporting) weight (now ulae))
+        (figures k (now exposures) (now increments) (now indices) (now reporting) weight (now ulae))
         (length (now buffer)) ⌝ }
     ensures { λ _. ⌜ now (buffer .exit)
         ≡ recordOf k
         (givenFields
-        (given k (now (exposures .entry)) (now (increments .entry)) (now (indices .entry)) (now (reporting .entry)) weight (now (ulae .entry)))) ⌝ }
+        (figures k (now (exposures .entry)) (now (increments .entry)) (now (indices .entry)) (now (reporting .entry)) weight (now (ulae .entry)))) ⌝ }
 {
     let none = Pending {
         at: 0,
@@ -200,11 +200,11 @@ pub extern "C" fn doonamurk_write(
 ) -> u64
     ensures { λ r. ⌜ (r
         ≡ writeAnswer
-        (given k (now (exposures .entry)) (now (increments .entry)) (now (indices .entry)) (now (reporting .entry)) weight (now (ulae .entry)))
+        (figures k (now (exposures .entry)) (now (increments .entry)) (now (indices .entry)) (now (reporting .entry)) weight (now (ulae .entry)))
         (length (now (buffer .entry))))
         × (now (buffer .exit)
         ≡ writeInto
-        (given k (now (exposures .entry)) (now (increments .entry)) (now (indices .entry)) (now (reporting .entry)) weight (now (ulae .entry)))
+        (figures k (now (exposures .entry)) (now (increments .entry)) (now (indices .entry)) (now (reporting .entry)) weight (now (ulae .entry)))
         (now (buffer .entry))) ⌝ }
 {
     if !given_last_year(k) {

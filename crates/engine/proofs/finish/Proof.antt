@@ -7,13 +7,13 @@ use mathlib.Core.Bool.{true}
 use mathlib.Core.List.{[], _∷_}
 use lib.Seq.{sets}
 use Rattle.rules.specs.Lists.{every}
-use Rattle.rules.specs.Record.{Figures}
+use Rattle.rules.specs.Record.{figures, Figures}
 use Rattle.rules.specs.Completion.{ultimatesPass}
 use Rattle.rules.specs.Expense.{paidTotal, ulaeTotal, ratioPass}
 use Rattle.rules.specs.Ladder.{developed, base, factorsPass, completedAll, completedPass}
 use Rattle.rules.specs.Results.{paidIn, provisionsIn, developmentIn}
 use Rattle.rules.specs.Engine.{completionQuestions, ratioQuestions, ladderQuestions, laterQuestions}
-use Rattle.engine.specs.Stages.{figures, Separated}
+use Rattle.engine.specs.Stages.{Separated}
 use Rattle.engine.proofs.Questions.{one-no, one-yes, refused, accepted, first-refused, later}
 use Rattle.engine.proofs.Later as stage
 use Rattle.engine.proofs.Later.{Worked}

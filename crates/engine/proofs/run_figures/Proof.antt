@@ -7,13 +7,12 @@ use mathlib.Core.Bool.{true}
 use mathlib.Core.List.{List, [], _∷_}
 use lib.IntN.{ℤ}
 use Rattle.rules.specs.Lists.{every}
-use Rattle.rules.specs.Record.{Figures}
+use Rattle.rules.specs.Record.{figures, Figures}
 use Rattle.rules.specs.Triangle.{cumulativesPass}
 use Rattle.rules.specs.Separation.{separationQuestions, separateAnswer}
 use Rattle.rules.specs.Results.{squareOf}
 use Rattle.rules.specs.declared.Factors.{Factors}
 use Rattle.rules.specs.Engine.{figureQuestions, laterQuestions}
-use Rattle.engine.specs.Stages.{figures}
 use Rattle.engine.proofs.Questions.{one-no, one-yes, first-refused, later}
 use Rattle.engine.proofs.Before as stage
 use Rattle.engine.proofs.run_figures.Statement.{statement}

@@ -5,11 +5,10 @@ use mathlib.Core.Path.{_≡_, refl, sym, _∙_}
 use Rattle.rules.specs.Lists.{every}
 use Rattle.rules.specs.Packing.{Fit}
 use Rattle.rules.specs.Questions.{firstNo}
-use Rattle.rules.specs.Record.{figuresOf}
+use Rattle.rules.specs.Record.{figures, figuresOf}
 use Rattle.rules.specs.Reading.{fieldQuestions}
 use Rattle.reading.proofs.Rows.{years-known, opening-yes}
 use Rattle.reading.proofs.Accepted.{filled, sound-figures}
-use Rattle.engine.specs.Stages.{figures}
 use Rattle.engine.proofs.Questions.{first-refused, later}
 use Rattle.engine.proofs.Before.{figures-are}
 use Rattle.engine.proofs.run_record.Statement.{statement}

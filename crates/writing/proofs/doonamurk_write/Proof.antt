@@ -10,8 +10,8 @@ use lib.Dec.{lit≤}
 use lib.ListN.{length}
 use lib.Seq.{take-length}
 use Rattle.rules.specs.Lists.{total}
-use Rattle.rules.specs.Record.{layout, million}
-use Rattle.rules.specs.Writing.{Given, given, givenLastYear, givenLengths, givenRanges, givenSum}
+use Rattle.rules.specs.Record.{Figures, figures, layout, million}
+use Rattle.rules.specs.Writing.{givenLastYear, givenLengths, givenRanges, givenSum}
 use Rattle.writing.specs.Writing.{rangesOf, Writable}
 use Rattle.laws.proofs.Lists.{at-most}
 use Rattle.writing.proofs.Rows.{few-years, lengths-are, ranges-are, ranges-hold}
@@ -20,9 +20,9 @@ use Rattle.writing.proofs.doonamurk_write.Statement.{statement}
 use Rattle.writing.proofs.doonamurk_write.Tie as tie
 
 -- what the function is given
-abbrev from : tie.Start → Given
+abbrev from : tie.Start → Figures
 from s =
-    given (s .args .k) (s .args .exposures .now) (s .args .increments .now) (s .args .indices .now) (s .args .reporting .now) (s .args .weight) (s .args .ulae .now)
+    figures (s .args .k) (s .args .exposures .now) (s .args .increments .now) (s .args .indices .now) (s .args .reporting .now) (s .args .weight) (s .args .ulae .now)
 
 -- where it starts, from each question that was passed
 abbrev start-1 : tie.After-given-last-year → tie.Start

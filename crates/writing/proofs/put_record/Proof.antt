@@ -3,8 +3,7 @@ use mathlib.Core.Path.{_≡_, refl, ap, _∙_}
 use mathlib.Core.List.{[], _∷_}
 use lib.Dec.{lit<, lit≤}
 use lib.Pow.{pow-pos}
-use Rattle.rules.specs.Record.{bitCount, million, mostAmount, mostIndex}
-use Rattle.rules.specs.Writing.{Given, given}
+use Rattle.rules.specs.Record.{Figures, figures, bitCount, million, mostAmount, mostIndex}
 use Rattle.layout.specs.declared.Places.{Places}
 use Rattle.layout.specs.Places.{placesOf}
 use Rattle.packing.proofs.Puts.{packed-then}
@@ -15,9 +14,9 @@ use Rattle.writing.proofs.put_record.Statement.{statement}
 use Rattle.writing.proofs.put_record.Tie as tie
 
 -- what the function is given
-abbrev from : tie.Start → Given
+abbrev from : tie.Start → Figures
 from s =
-    given (s .args .k) (s .args .exposures .now) (s .args .increments .now) (s .args .indices .now) (s .args .reporting .now) (s .args .weight) (s .args .ulae .now)
+    figures (s .args .k) (s .args .exposures .now) (s .args .increments .now) (s .args .indices .now) (s .args .reporting .now) (s .args .weight) (s .args .ulae .now)
 
 -- where it starts, from the end of each row
 abbrev start-1 : tie.After-put → tie.Start
