@@ -103,6 +103,14 @@ fn level_of(diagonals: &[u64; 16], h: usize, a: u64) -> u64
     diagonals[h] * BILLION / a
 }
 
+// The share of a year: what its running share is above that of the year below.
+fn share_of(a: u64, next: u64) -> u64
+    requires { ⌜ next ≤ a ⌝ }
+    ensures { λ r. ⌜ r ≡ a - next ⌝ }
+{
+    a - next
+}
+
 // No factors.
 fn no_factors(k: usize) -> Factors
     ensures { λ r. ⌜ r ≡ noFactors k ⌝ }
@@ -144,7 +152,7 @@ fn share_step(
     }
     let next = running_below(columns, corners, h, a);
     let mut f = level_step(columns, diagonals, corners, next, k, h - 1);
-    f.shares[h] = a - next;
+    f.shares[h] = share_of(a, next);
     f.levels[h] = level;
     f
 }

@@ -7,10 +7,12 @@ use native.Mathlib.Nat.{le-refl}
 use native.Mathlib.Omega.{arith}
 use borrow.Author.Needs.{needs}
 use borrow.Author.Tests.{not-true, not-false}
-use lib.IntN.{pos, natAbs}
+use mathlib.Core.List.{List}
+use lib.IntN.{ℤ, pos, natAbs}
 use lib.ListN.{getD}
 use Rattle.rules.specs.Triangle.{columnTotal, diagonalTotal}
 use Rattle.rules.specs.Separation.{billion, columnOf, diagonalOf, totalsPass, restsPass, separateAnswer, factorsOf}
+use Rattle.laws.proofs.Lists.{getD-upTo}
 use Rattle.totals.proofs.Most.{diagonal-most}
 use Rattle.separation.specs.Walk.{TotalsOf, CornersOf, factorsTo}
 use Rattle.separation.proofs.Totals.{listed, column-small, ready}
@@ -31,10 +33,10 @@ add-totals-pass c = search needs
 -- the columns and the diagonals in their lists
 column-at : (c : tie.After-d) (i : ℕ) → i ≤ c .before .before .before .before .before .before .before .before .args .k
     → getD (c .before .before .before .before .before .before .fill-columns .last .1 .1 .0) i (pos 0) ≡ columnTotal (c .before .before .before .before .before .before .before .before .args .square .now) i
-column-at c =
+column-at c i l =
     let at = c .before .before .before .before .before .before in
     let s = at .before .before in
-    listed (columnTotal (s .args .square .now)) (s .args .k) _ (s .pre .0) (at .fill-columns .ensures)
+    ap (λ (v : List ℤ). getD v i (pos 0)) (at .fill-columns .ensures) ∙ getD-upTo (columnTotal (s .args .square .now)) 16 i (pos 0) (omega arith)
 
 diagonal-at : (c : tie.After-d) (i : ℕ) → i ≤ c .before .before .before .before .before .before .before .before .args .k
     → getD (c .before .before .before .before .fill-diagonals .last .1 .1 .0) i (pos 0) ≡ diagonalTotal (c .before .before .before .before .before .before .before .before .args .square .now) i
