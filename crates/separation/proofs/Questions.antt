@@ -24,9 +24,9 @@ use Rattle.totals.proofs.Walk.{all-columns-to}
 use Rattle.separation.proofs.Steps.{running-least}
 use Rattle.laws.proofs.Questions.{after-refusal}
 
--- the answer to questions 9 and 10 of factors
-abbrev pub factorsAnswer : Factors → ℕ
-factorsAnswer f = firstNo ((9, leb 1 (getD (f .shares) 0 0)) ∷ (10, every (between 0 billion) (take (f .k + 1) (f .levels))) ∷ [])
+-- the answer to questions 9 and 10 of factors of the years 0 to k
+abbrev pub factorsAnswer : ℕ → Factors → ℕ
+factorsAnswer k f = firstNo ((9, leb 1 (getD (f .shares) 0 0)) ∷ (10, every (between 0 billion) (take (k + 1) (f .levels))) ∷ [])
 
 module _ (s : List (List ℤ)) (k : ℕ) where
   -- question 7, by lists of the columns and diagonals
@@ -74,9 +74,9 @@ module _ (s : List (List ℤ)) (k : ℕ) where
   answer-eight e q = rw (e, q)
 
   -- both say yes, and the factors give the answer
-  pub answer-factors : totalsPass s k ≡ true → restsPass s k ≡ true → (f : Factors) → f ≡ factorsOf s k → factorsAnswer f ≡ separateAnswer s k
+  pub answer-factors : totalsPass s k ≡ true → restsPass s k ≡ true → (f : Factors) → f ≡ factorsOf s k → factorsAnswer k f ≡ separateAnswer s k
   unfolding separateAnswer separationQuestions firstNo factorsOf padded
-  answer-factors e q f is = ap factorsAnswer is ∙ rw (e, q, ← nine, ← ten)
+  answer-factors e q f is = ap (factorsAnswer k) is ∙ rw (e, q, ← nine, ← ten)
 
   -- what is handed back with an answer
   pub none-back : (a : ℕ) → a ≡ separateAnswer s k → (a ≡ 0 → ⊥) → noFactors k ≡ separated s k

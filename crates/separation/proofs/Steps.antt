@@ -66,10 +66,10 @@ module _ (k : ℕ) (v d t : List ℕ) (a level : ℕ) where
   level-is s h of l e q = rw (q, e, of .diagonal h l)
 
   -- the factors of year 0
-  pub first-year : (h : ℕ) (f : Factors) → h ≤ 0 → f ≡ noFactors k → level ≡ getD d h 0 * billion / a → FactorsFound k v d t a h (withYear f 0 a level)
+  pub first-year : (h : ℕ) → h ≤ 0 → level ≡ getD d h 0 * billion / a → FactorsFound k v d t a h (withYear (noFactors k) 0 a level)
   unfolding factorsTo padded upTo shareOf noFactors
-  first-year zero f p n q s of corners l e = rw (n, level-is s 0 of l e q, e)
-  first-year (suc h) f p n q s of corners l e = absurd (not-suc-le-zero p)
+  first-year zero p q s of corners l e = rw (level-is s 0 of l e q, e)
+  first-year (suc h) p q s of corners l e = absurd (not-suc-le-zero p)
 
   -- those with one year more
   pub next-year : (h next : ℕ) (f : Factors) → 1 ≤ h → h < 16 → next ≡ a * (getD t h 0 - getD v h 0) / getD t h 0 → level ≡ getD d h 0 * billion / a

@@ -1,5 +1,6 @@
 // Taylor's separation: shares and levels from a square of averages and k alone, under questions 7 to 10.
 use entries::within;
+use rules::ACCEPTED;
 use rules::BILLION;
 use rules::Factors;
 use triangle::fill_columns;
@@ -102,6 +103,14 @@ fn level_of(diagonals: &[u64; 16], h: usize, a: u64) -> u64
     diagonals[h] * BILLION / a
 }
 
+// The share of a year: what its running share is above that of the year below.
+fn share_of(a: u64, next: u64) -> u64
+    requires { ⌜ next ≤ a ⌝ }
+    ensures { λ r. ⌜ r ≡ a - next ⌝ }
+{
+    a - next
+}
+
 // No factors.
 fn no_factors(k: usize) -> Factors
     ensures { λ r. ⌜ r ≡ noFactors k ⌝ }
@@ -114,15 +123,14 @@ fn no_factors(k: usize) -> Factors
     }
 }
 
-// Factors with the share and the level of year h.
-fn with_year(f: Factors, h: usize, share: u64, level: u64) -> Factors
-    requires { ⌜ h < 16 ⌝ }
-    ensures { λ r. ⌜ r ≡ withYear f h share level ⌝ }
+// The factors of year 0.
+fn first_year(share: u64, level: u64, k: usize) -> Factors
+    ensures { λ r. ⌜ r ≡ withYear (noFactors k) 0 share level ⌝ }
 {
-    let mut g = f;
-    g.shares[h] = share;
-    g.levels[h] = level;
-    g
+    let mut f = no_factors(k);
+    f.shares[0] = share;
+    f.levels[0] = level;
+    f
 }
 
 // The factors of the years below h, and beside them the share and the level of h, of which a is the running share.
@@ -139,12 +147,14 @@ fn share_step(
         × ((a ≤ billion) × ((h < 16) × (level ≡ getD (now diagonals) h 0 * billion / a))) ⌝ }
     ensures { λ r. ⌜ FactorsFound k (now (columns .entry)) (now (diagonals .entry)) (now (corners .entry)) a h r ⌝ }
 {
-    if h > 0 {
-        let next = running_below(columns, corners, h, a);
-        let f = level_step(columns, diagonals, corners, next, k, h - 1);
-        return with_year(f, h, a - next, level);
+    if h == 0 {
+        return first_year(a, level, k);
     }
-    with_year(no_factors(k), 0, a, level)
+    let next = running_below(columns, corners, h, a);
+    let mut f = level_step(columns, diagonals, corners, next, k, h - 1);
+    f.shares[h] = share_of(a, next);
+    f.levels[h] = level;
+    f
 }
 
 // The factors of the years 0 to h: the level of h, of which a is the running share, goes with its share.
@@ -171,19 +181,18 @@ fn refused(answer: u64, k: usize) -> Separation
 }
 
 // Questions 9 and 10 of the factors. The running shares are the less the earlier the year, so the first share tells question 9.
-fn factors_answer(f: Factors) -> u64
-    requires { ⌜ f .k < 16 ⌝ }
-    ensures { λ r. ⌜ r ≡ firstNo ((9, leb 1 (getD (f .shares) 0 0)) ∷ (10, every (between 0 billion) (take (f .k + 1) (f .levels))) ∷ []) ⌝ }
+fn factors_answer<'a>(shares: &'a [u64; 16], levels: &'a [u64; 16], k: usize) -> u64
+    requires { ⌜ k < 16 ⌝ }
+    ensures { λ r. ⌜ r
+        ≡ firstNo ((9, leb 1 (getD (now (shares .entry)) 0 0)) ∷ (10, every (between 0 billion) (take (k + 1) (now (levels .entry)))) ∷ []) ⌝ }
 {
-    let shares = f.shares;
     if shares[0] < 1 {
         return 9;
     }
-    let levels = f.levels;
-    if !within(&levels, f.k + 1, 0, BILLION) {
+    if !within(levels, k + 1, 0, BILLION) {
         return 10;
     }
-    0
+    ACCEPTED
 }
 
 // Shares and levels of the years 0 to k from a square of averages, or the number of the first of questions 7, 8, 9 and 10 that says no.
@@ -204,9 +213,10 @@ pub fn separate(square: &[[i64; 16]; 16], k: usize) -> Separation
     if !fill_corners(&v, &d, k, &mut corners) {
         return refused(8, k);
     }
-    let f = level_step(&v, &d, &corners, BILLION, k, k);
-    let answer = factors_answer(f);
-    if answer != 0 {
+    let level = level_of(&d, k, BILLION);
+    let f = share_step(&v, &d, &corners, BILLION, level, k, k);
+    let answer = factors_answer(&f.shares, &f.levels, k);
+    if answer != ACCEPTED {
         return refused(answer, k);
     }
     Separation { answer, factors: f }

@@ -57,7 +57,7 @@ module _ (k : ℕ) (p : List ℤ) (i : ℕ) (amounts : Increments p) where
     more-read = rw (e, ← add-one j) (step-read (paidOf k p i) mostAmount increment-most j s (omega arith) held-sum)
 
 -- a signed number from 0 to m is a whole number up to m
-whole : (z : ℤ) (m : ℕ) → leZ (pos 0) z && leZ z (pos m) ≡ true → (z ≡ pos (natAbs z)) × (natAbs z ≤ m)
+pub whole : (z : ℤ) (m : ℕ) → leZ (pos 0) z && leZ z (pos m) ≡ true → (z ≡ pos (natAbs z)) × (natAbs z ≤ m)
 whole (pos n) m e = (refl, leb-true n m (both-right (leZ (pos 0) (pos n)) _ e))
 whole (negsuc n) m e = absurd (false≢true e)
 
@@ -100,6 +100,9 @@ module _ (k : ℕ) (p : List ℤ) where
   unfolding columnSum
   sum-more i j = rw (add-one i) (sym (total-more (λ r. cumulativeIn k p r j) i))
 
-  -- the sums of the columns with one row more
-  pub columns-more : (i : ℕ) → upTo (λ j. getD (upTo (columnSum k p i) 16) j 0 + cumulativeIn k p i j) 16 ≡ upTo (columnSum k p (i + 1)) 16
-  columns-more i = upTo-ext _ _ 16 (λ j h. rw (getD-upTo (columnSum k p i) 16 j 0 h) (sum-more i j))
+  -- the sum of a column with one row more, where its cumulative is given and where it is not
+  pub sum-given : (i j : ℕ) → i + j ≤ k → columnSum k p i j + givenCumulative k p i j ≡ columnSum k p (i + 1) j
+  sum-given i j h = rw (← given-in i j h) (sum-more i j)
+
+  pub sum-past : (i j : ℕ) → k < i + j → columnSum k p i j ≡ columnSum k p (i + 1) j
+  sum-past i j h = omega (arith, sum-more i j, past-in i j h)

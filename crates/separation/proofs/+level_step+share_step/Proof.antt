@@ -12,10 +12,10 @@ use Rattle.separation.proofs.+level_step+share_step.Lts-level_step as l
 use Rattle.separation.proofs.share_step.Reads as share-step
 use Rattle.separation.proofs.share_step.Kinds as share-step-kinds
 use Rattle.separation.proofs.+level_step+share_step.Lts-share_step as share-step-lts
+use Rattle.separation.proofs.first_year.Reads as first-year-reads
 use Rattle.separation.proofs.level_of.Reads as level-of-reads
-use Rattle.separation.proofs.no_factors.Reads as no-factors-reads
 use Rattle.separation.proofs.running_below.Reads as running-below-reads
-use Rattle.separation.proofs.with_year.Reads as with-year-reads
+use Rattle.separation.proofs.share_of.Reads as share-of-reads
 use Rattle.separation.proofs.+level_step+share_step.{statement}
 use Rattle.separation.proofs.+level_step+share_step.Tie.{close}
 
@@ -41,187 +41,86 @@ abbrev share-step-below : ℕ → In 3 share-step-kinds.ps
 share-step-below t =
     and 3 share-step-kinds.ps (falls 3 share-step-kinds.ps _<_ μ-share-step t) share-step.Pre
 
-level-step-level-of-requires : (t : ℕ) → level-step-lts.Need-level-of-requires (
-  level-of-reads.Asked,
-  level-of-reads.Learnt,
-  share-step-below t,
-  share-step.Post,
-) (level-step-at t) level-step.Post
+-- what each step is told of those that it calls
+abbrev level-claims : ℕ → level-step-lts.Claims
+level-claims t = (level-of-reads.Asked, level-of-reads.Learnt, share-step-below t, share-step.Post)
+
+abbrev share-claims : ℕ → share-step-lts.Claims
+share-claims t =
+    (first-year-reads.Asked, first-year-reads.Learnt, running-below-reads.Asked, running-below-reads.Learnt, level-step-below t, level-step.Post, share-of-reads.Asked, share-of-reads.Learnt)
+
+level-step-level-of-requires : (t : ℕ) → level-step-lts.Need-level-of-requires (level-claims t) (level-step-at t) level-step.Post
 level-step-level-of-requires t c κs = (c .pre .1 .0 .diagonal (c .args .h) (le-refl (c .args .h)), c .pre .1 .1 .1)
 
-level-step-share-step-requires : (t : ℕ) → level-step-lts.Need-share-step-requires (
-  level-of-reads.Asked,
-  level-of-reads.Learnt,
-  share-step-below t,
-  share-step.Post,
-) (level-step-at t) level-step.Post
+level-step-share-step-requires : (t : ℕ) → level-step-lts.Need-share-step-requires (level-claims t) (level-step-at t) level-step.Post
 level-step-share-step-requires t c κs = (omega arith, (c .before .pre .1 .0, (c .before .pre .1 .1 .0, (c .before .pre .1 .1 .1, c .level-of .ensures))))
 
-level-step-returns : (t : ℕ) → level-step-lts.Need-returns (
-  level-of-reads.Asked,
-  level-of-reads.Learnt,
-  share-step-below t,
-  share-step.Post,
-) (level-step-at t) level-step.Post
+level-step-returns : (t : ℕ) → level-step-lts.Need-returns (level-claims t) (level-step-at t) level-step.Post
 level-step-returns t c = c .share-step .ensures
 
-share-step-running-below-requires : (t : ℕ) → share-step-lts.Need-running-below-requires (
-  running-below-reads.Asked,
-  running-below-reads.Learnt,
-  level-step-below t,
-  level-step.Post,
-  with-year-reads.Asked,
-  with-year-reads.Learnt,
-  no-factors-reads.Asked,
-  no-factors-reads.Learnt,
-) (share-step-at t) share-step.Post
+share-step-first-year-requires : (t : ℕ) → share-step-lts.Need-first-year-requires (share-claims t) (share-step-at t) share-step.Post
+share-step-first-year-requires t c κs = tt
+
+share-step-returns : (t : ℕ) → share-step-lts.Need-returns (share-claims t) (share-step-at t) share-step.Post
+share-step-returns t c s of corners l e =
+    let g = c .before .before in
+    c .first-year .ensures
+    ∙ first-year (g .args .k) (g .args .columns .now) (g .args .diagonals .now) (g .args .corners .now) (g .args .a) (g .args .level) (g .args .h) (omega arith) (g .pre .1 .1 .1 .1) s of corners l e
+
+share-step-running-below-requires : (t : ℕ) → share-step-lts.Need-running-below-requires (share-claims t) (share-step-at t) share-step.Post
 share-step-running-below-requires t c κs =
     let s = c .before in
     let r = s .pre .1 .0 in
     let h = s .args .h in
     (r .rest h (omega arith) (le-refl h), (r .corner h (le-refl h), (s .pre .1 .1 .0, s .pre .1 .1 .1 .0)))
 
-share-step-sub-level-step : (t : ℕ) → share-step-lts.Need-sub-level-step (
-  running-below-reads.Asked,
-  running-below-reads.Learnt,
-  level-step-below t,
-  level-step.Post,
-  with-year-reads.Asked,
-  with-year-reads.Learnt,
-  no-factors-reads.Asked,
-  no-factors-reads.Learnt,
-) (share-step-at t) share-step.Post
+share-step-sub-level-step : (t : ℕ) → share-step-lts.Need-sub-level-step (share-claims t) (share-step-at t) share-step.Post
 share-step-sub-level-step t c = omega arith
 
-share-step-level-step-requires : (t : ℕ) → share-step-lts.Need-level-step-requires (
-  running-below-reads.Asked,
-  running-below-reads.Learnt,
-  level-step-below t,
-  level-step.Post,
-  with-year-reads.Asked,
-  with-year-reads.Learnt,
-  no-factors-reads.Asked,
-  no-factors-reads.Learnt,
-) (share-step-at t) share-step.Post
+share-step-level-step-requires : (t : ℕ) → share-step-lts.Need-level-step-requires (share-claims t) (share-step-at t) share-step.Post
 share-step-level-step-requires t c κs =
     let s = c .before .before in
     let h = s .args .h in
     let low = ready-below (s .args .columns .now) (s .args .diagonals .now) (s .args .corners .now) h (h - 1) (omega arith) (s .pre .1 .0) in
     (omega arith, (low, (omega (arith, c .running-below .ensures .1), omega arith)))
 
-share-step-sub-with-year : (t : ℕ) → share-step-lts.Need-sub-with-year (
-  running-below-reads.Asked,
-  running-below-reads.Learnt,
-  level-step-below t,
-  level-step.Post,
-  with-year-reads.Asked,
-  with-year-reads.Learnt,
-  no-factors-reads.Asked,
-  no-factors-reads.Learnt,
-) (share-step-at t) share-step.Post
-share-step-sub-with-year t c = omega (arith, c .before .running-below .ensures .1)
+share-step-share-of-requires : (t : ℕ) → share-step-lts.Need-share-of-requires (share-claims t) (share-step-at t) share-step.Post
+share-step-share-of-requires t c κs = omega (arith, c .before .running-below .ensures .1)
 
-share-step-with-year-requires : (t : ℕ) → share-step-lts.Need-with-year-requires (
-  running-below-reads.Asked,
-  running-below-reads.Learnt,
-  level-step-below t,
-  level-step.Post,
-  with-year-reads.Asked,
-  with-year-reads.Learnt,
-  no-factors-reads.Asked,
-  no-factors-reads.Learnt,
-) (share-step-at t) share-step.Post
-share-step-with-year-requires t c κs = omega arith
+share-step-mul-f : (t : ℕ) → share-step-lts.Need-mul-f (share-claims t) (share-step-at t) share-step.Post
+share-step-mul-f t c = omega arith
 
-share-step-returns : (t : ℕ) → share-step-lts.Need-returns (
-  running-below-reads.Asked,
-  running-below-reads.Learnt,
-  level-step-below t,
-  level-step.Post,
-  with-year-reads.Asked,
-  with-year-reads.Learnt,
-  no-factors-reads.Asked,
-  no-factors-reads.Learnt,
-) (share-step-at t) share-step.Post
-share-step-returns t c s of corners l e =
-    let g = c .before .before .before .before in
-    let f = c .before in
-    let next = f .before .running-below in
-    c .with-year .ensures
-    ∙ next-year (g .args .k) (g .args .columns .now) (g .args .diagonals .now) (g .args .corners .now) (g .args .a) (g .args .level) (g .args .h) (next .result) (f .level-step .result)
-    (omega arith) (omega arith) (next .ensures .0) (g .pre .1 .1 .1 .1) (f .level-step .ensures) s of corners l e
+share-step-element-write-f : (t : ℕ) → share-step-lts.Need-element-write-f (share-claims t) (share-step-at t) share-step.Post
+share-step-element-write-f t c = omega arith
 
-share-step-no-factors-requires : (t : ℕ) → share-step-lts.Need-no-factors-requires (
-  running-below-reads.Asked,
-  running-below-reads.Learnt,
-  level-step-below t,
-  level-step.Post,
-  with-year-reads.Asked,
-  with-year-reads.Learnt,
-  no-factors-reads.Asked,
-  no-factors-reads.Learnt,
-) (share-step-at t) share-step.Post
-share-step-no-factors-requires t c κs = tt
+share-step-mul-f-2 : (t : ℕ) → share-step-lts.Need-mul-f-2 (share-claims t) (share-step-at t) share-step.Post
+share-step-mul-f-2 t c = omega arith
 
-share-step-with-year-requires-2 : (t : ℕ) → share-step-lts.Need-with-year-requires-2 (
-  running-below-reads.Asked,
-  running-below-reads.Learnt,
-  level-step-below t,
-  level-step.Post,
-  with-year-reads.Asked,
-  with-year-reads.Learnt,
-  no-factors-reads.Asked,
-  no-factors-reads.Learnt,
-) (share-step-at t) share-step.Post
-share-step-with-year-requires-2 t c κs = omega arith
+share-step-element-write-f-2 : (t : ℕ) → share-step-lts.Need-element-write-f-2 (share-claims t) (share-step-at t) share-step.Post
+share-step-element-write-f-2 t c = omega arith
 
-share-step-returns-2 : (t : ℕ) → share-step-lts.Need-returns-2 (
-  running-below-reads.Asked,
-  running-below-reads.Learnt,
-  level-step-below t,
-  level-step.Post,
-  with-year-reads.Asked,
-  with-year-reads.Learnt,
-  no-factors-reads.Asked,
-  no-factors-reads.Learnt,
-) (share-step-at t) share-step.Post
+share-step-returns-2 : (t : ℕ) → share-step-lts.Need-returns-2 (share-claims t) (share-step-at t) share-step.Post
 share-step-returns-2 t c s of corners l e =
-    let g = c .before .before .before in
-    let f = c .before .no-factors in
-    c .with-year2 .ensures
-    ∙ first-year (g .args .k) (g .args .columns .now) (g .args .diagonals .now) (g .args .corners .now) (g .args .a) (g .args .level) (g .args .h) (f .result)
-    (omega arith) (f .ensures) (g .pre .1 .1 .1 .1) s of corners l e
+    let at = c .before in
+    let g = at .before .before .before in
+    let next = at .before .running-below in
+    rw (c .share-of .ensures)
+    (next-year (g .args .k) (g .args .columns .now) (g .args .diagonals .now) (g .args .corners .now) (g .args .a) (g .args .level) (g .args .h) (next .result) (at .level-step .result)
+    (omega arith) (omega arith) (next .ensures .0) (g .pre .1 .1 .1 .1) (at .level-step .ensures) s of corners l e)
 
 pub +level-step+share-step-spec : {M : Type 1} → statement M
-+level-step+share-step-spec = close μ-level-step μ-share-step (λ t. level-step-lts.spec (
-  level-of-reads.Asked,
-  level-of-reads.Learnt,
-  share-step-below t,
-  share-step.Post,
-)
-    (level-step-at t)
-    level-step.Post
-    (level-step-level-of-requires t)
-    (level-step-share-step-requires t)
-    (level-step-returns t))
-    λ t. share-step-lts.spec (
-      running-below-reads.Asked,
-      running-below-reads.Learnt,
-      level-step-below t,
-      level-step.Post,
-      with-year-reads.Asked,
-      with-year-reads.Learnt,
-      no-factors-reads.Asked,
-      no-factors-reads.Learnt,
-    )
-    (share-step-at t)
-    share-step.Post
++level-step+share-step-spec =
+    close μ-level-step μ-share-step
+    (λ t. level-step-lts.spec (level-claims t) (level-step-at t) level-step.Post (level-step-level-of-requires t) (level-step-share-step-requires t) (level-step-returns t))
+    (λ t. share-step-lts.spec (share-claims t) (share-step-at t) share-step.Post
+    (share-step-first-year-requires t)
+    (share-step-returns t)
     (share-step-running-below-requires t)
     (share-step-sub-level-step t)
     (share-step-level-step-requires t)
-    (share-step-sub-with-year t)
-    (share-step-with-year-requires t)
-    (share-step-returns t)
-    (share-step-no-factors-requires t)
-    (share-step-with-year-requires-2 t)
-    (share-step-returns-2 t)
+    (share-step-share-of-requires t)
+    (share-step-mul-f t)
+    (share-step-element-write-f t)
+    (share-step-mul-f-2 t)
+    (share-step-element-write-f-2 t)
+    (share-step-returns-2 t))

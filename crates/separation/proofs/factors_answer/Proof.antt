@@ -3,34 +3,30 @@ use borrow.Author.Needs.{needs}
 use borrow.Author.Tests.{le-leb, lt-leb, not-true, not-false}
 use mathlib.Core.Path.{_≡_, sym, _∙_}
 use mathlib.Core.Bool.{true, false}
-use native.Mathlib.Omega.{arith}
 use lib.Dec.{leb}
 use lib.ListN.{getD}
 use Rattle.rules.specs.Questions.{firstNo}
 use Rattle.separation.proofs.factors_answer.Statement.{statement}
 use Rattle.separation.proofs.factors_answer.Tie as tie
 
-array-read-if1 : tie.Need-array-read-if1
-array-read-if1 c = search needs
+element-copy-out-if1 : tie.Need-element-copy-out-if1
+element-copy-out-if1 c = search needs
 
 returns : tie.Need-returns
 unfolding firstNo
 returns c =
-    let first : leb 1 (getD (c .before .before .args .f .shares) 0 0) ≡ false = lt-leb _ _ (c .if1 .taken) in
+    let first : leb 1 (getD (c .before .before .args .shares .now) 0 0) ≡ false = lt-leb _ _ (c .if1 .taken) in
     rw first
-
-slice-aggregate-within : tie.Need-slice-aggregate-within
-slice-aggregate-within c = search needs
 
 add-within : tie.Need-add-within
 add-within c = search needs
 
 within-requires : tie.Need-within-requires
-within-requires c κs = omega (arith, slice-aggregate-within (c .before))
+within-requires c κs = search needs
 
 -- the first share is at least 1
-first-yes : (c : tie.After-within) → leb 1 (getD (c .before .before .before .before .before .before .args .f .shares) 0 0) ≡ true
-first-yes c = le-leb _ _ (c .before .before .before .before .if1 .left)
+first-yes : (c : tie.After-within) → leb 1 (getD (c .before .before .before .before .args .shares .now) 0 0) ≡ true
+first-yes c = le-leb _ _ (c .before .before .if1 .left)
 
 returns-2 : tie.Need-returns-2
 unfolding firstNo
@@ -43,11 +39,4 @@ returns-3 c = rw (first-yes (c .before), sym (c .before .within .ensures) ∙ no
 pub factors-answer-spec : {M : Type 1} → statement M
 factors-answer-spec =
     tie.close
-    (tie.spec
-    array-read-if1
-    returns
-    slice-aggregate-within
-    add-within
-    within-requires
-    returns-2
-    returns-3)
+    (tie.spec element-copy-out-if1 returns add-within within-requires returns-2 returns-3)

@@ -7,10 +7,12 @@ use native.Mathlib.Nat.{le-refl}
 use native.Mathlib.Omega.{arith}
 use borrow.Author.Needs.{needs}
 use borrow.Author.Tests.{not-true, not-false}
-use lib.IntN.{pos, natAbs}
+use mathlib.Core.List.{List}
+use lib.IntN.{ℤ, pos, natAbs}
 use lib.ListN.{getD}
 use Rattle.rules.specs.Triangle.{columnTotal, diagonalTotal}
-use Rattle.rules.specs.Separation.{columnOf, diagonalOf, totalsPass, restsPass, separateAnswer, factorsOf}
+use Rattle.rules.specs.Separation.{billion, columnOf, diagonalOf, totalsPass, restsPass, separateAnswer, factorsOf}
+use Rattle.laws.proofs.Lists.{getD-upTo}
 use Rattle.totals.proofs.Most.{diagonal-most}
 use Rattle.separation.specs.Walk.{TotalsOf, CornersOf, factorsTo}
 use Rattle.separation.proofs.Totals.{listed, column-small, ready}
@@ -31,10 +33,10 @@ add-totals-pass c = search needs
 -- the columns and the diagonals in their lists
 column-at : (c : tie.After-d) (i : ℕ) → i ≤ c .before .before .before .before .before .before .before .before .args .k
     → getD (c .before .before .before .before .before .before .fill-columns .last .1 .1 .0) i (pos 0) ≡ columnTotal (c .before .before .before .before .before .before .before .before .args .square .now) i
-column-at c =
+column-at c i l =
     let at = c .before .before .before .before .before .before in
     let s = at .before .before in
-    listed (columnTotal (s .args .square .now)) (s .args .k) _ (s .pre .0) (at .fill-columns .ensures)
+    ap (λ (v : List ℤ). getD v i (pos 0)) (at .fill-columns .ensures) ∙ getD-upTo (columnTotal (s .args .square .now)) 16 i (pos 0) (omega arith)
 
 diagonal-at : (c : tie.After-d) (i : ℕ) → i ≤ c .before .before .before .before .before .before .before .before .args .k
     → getD (c .before .before .before .before .fill-diagonals .last .1 .1 .0) i (pos 0) ≡ diagonalTotal (c .before .before .before .before .before .before .before .before .args .square .now) i
@@ -86,14 +88,14 @@ totals c =
       diagonal = λ h l. sizes .1 h (omega arith) ∙ ap natAbs (diagonal-at (c .before .before) h l);
     }
 
+diagonals-most : (c : tie.Else1) (i : ℕ) → i ≤ start (c .before) .args .k → getD (c .before .totals-pass .last .1 .1 .1 .1 .0) i 0 ≤ billion
+diagonals-most c i l =
+    let s = start (c .before) in
+    let of = totals c in
+    rw (of .diagonal i l) (diagonal-most (s .args .square .now) (s .args .k) (s .pre .0) (s .pre .1 .1) (of .pass) i l)
+
 fill-corners-requires : tie.Need-fill-corners-requires
-fill-corners-requires c κs =
-    let at = c .before .before .before in
-    let s = start (at .before) in
-    let of = totals at in (
-      s .pre .0,
-      (λ i l. rw (of .diagonal i l) (diagonal-most (s .args .square .now) (s .args .k) (s .pre .0) (s .pre .1 .1) (of .pass) i l), refl),
-    )
+fill-corners-requires c κs = let at = c .before .before .before in (start (at .before) .pre .0, (diagonals-most at, refl))
 
 refused-requires-2 : tie.Need-refused-requires-2
 refused-requires-2 c κs = search needs
@@ -120,30 +122,41 @@ yes-eight c = sym (c .before .fill-corners .ensures (first c .args .square .now)
 corners : (c : tie.Else2) → CornersOf (first c .args .square .now) (first c .args .k) (c .before .fill-corners .last .1 .1 .1 .0)
 corners c = c .before .fill-corners .ensures (first c .args .square .now) (totals (passed c)) .1 (not-false _ (c .if2 .left))
 
-level-step-requires : tie.Need-level-step-requires
-level-step-requires c κs =
-    let at = c .before .before .before in
+level-of-requires : tie.Need-level-of-requires
+level-of-requires c κs = let at = passed (c .before) in (diagonals-most at _ (le-refl _), start (at .before) .pre .0)
+
+share-step-requires : tie.Need-share-step-requires
+share-step-requires c κs =
+    let of = c .before .before .before in
+    let at = of .before .before in
     let s = first at in
-    (ready (s .args .square .now) (s .args .k) _ _ _ (totals (passed at)) (yes-eight at) (corners at), (omega arith, s .pre .0))
+    (ready (s .args .square .now) (s .args .k) _ _ _ (totals (passed at)) (yes-eight at) (corners at), (omega arith, (s .pre .0, of .level-of .ensures)))
 
 -- the factors are those of the square
-found : (c : tie.After-level-step) → c .level-step .result ≡ factorsOf (first (c .before .before .before .before) .args .square .now) (first (c .before .before .before .before) .args .k)
+abbrev eighth : tie.After-share-step → tie.Else2
+eighth c = c .before .before .before .before .before .before
+
+found : (c : tie.After-share-step) → c .share-step .result ≡ factorsOf (first (eighth c) .args .square .now) (first (eighth c) .args .k)
 unfolding factorsTo factorsOf
 found c =
-    let at = c .before .before .before .before in
+    let at = eighth c in
     let s = first at in
-    c .level-step .ensures (s .args .square .now) (totals (passed at)) (corners at) (le-refl (s .args .k)) (latest-running (s .args .square .now) (s .args .k))
+    c .share-step .ensures (s .args .square .now) (totals (passed at)) (corners at) (le-refl (s .args .k)) (latest-running (s .args .square .now) (s .args .k))
 
 factors-answer-requires : tie.Need-factors-answer-requires
-unfolding factorsOf
-factors-answer-requires c κs = rw (found c) (first (c .before .before .before .before) .pre .0)
+factors-answer-requires c κs = first (eighth (c .before .before .before)) .pre .0
 
 -- and give the answer
-answered : (c : tie.After-factors-answer) → c .factors-answer .result ≡ separateAnswer (first (c .before .before .before .before .before) .args .square .now) (first (c .before .before .before .before .before) .args .k)
+abbrev walked : tie.After-factors-answer → tie.After-share-step
+walked c = c .before .before .before .before
+
+abbrev begun : tie.After-factors-answer → tie.Start
+begun c = first (eighth (walked c))
+
+answered : (c : tie.After-factors-answer) → c .factors-answer .result ≡ separateAnswer (begun c .args .square .now) (begun c .args .k)
 answered c =
-    let at = c .before .before .before .before .before in
-    let s = first at in
-    c .factors-answer .ensures ∙ answer-factors (s .args .square .now) (s .args .k) (totals (passed at) .pass) (yes-eight at) _ (found (c .before))
+    let at = eighth (walked c) in
+    c .factors-answer .ensures ∙ answer-factors (begun c .args .square .now) (begun c .args .k) (totals (passed at) .pass) (yes-eight at) _ (found (walked c))
 
 refused-requires-3 : tie.Need-refused-requires-3
 refused-requires-3 c κs = search needs
@@ -151,14 +164,14 @@ refused-requires-3 c κs = search needs
 returns-3 : tie.Need-returns-3
 returns-3 c =
     let at = c .before .before in
-    let s = first (at .before .before .before .before .before) in
+    let s = begun at in
     (c .refused3 .ensures .0 ∙ answered at, c .refused3 .ensures .1 ∙ none-back (s .args .square .now) (s .args .k) _ (answered at) (c .before .if3 .taken))
 
 returns-4 : tie.Need-returns-4
 returns-4 c =
     let at = c .before in
-    let s = first (at .before .before .before .before .before) in
-    (answered at, found (at .before) ∙ factors-back (s .args .square .now) (s .args .k) _ (answered at) (c .if3 .left))
+    let s = begun at in
+    (answered at, found (walked at) ∙ factors-back (s .args .square .now) (s .args .k) _ (answered at) (c .if3 .left))
 
 pub separate-spec : {M : Type 1} → statement M
 separate-spec =
@@ -173,7 +186,8 @@ separate-spec =
     fill-corners-requires
     refused-requires-2
     returns-2
-    level-step-requires
+    level-of-requires
+    share-step-requires
     factors-answer-requires
     refused-requires-3
     returns-3

@@ -1,0 +1,152 @@
+-- The loop's invariant: the first `count` records are taken, and all of their rows are put. Assumes nothing.
+use borrow.Author.Needs.{needs}
+use borrow.Author.Tests.{not-true, not-false}
+use mathlib.Core.Path.{_≡_, refl, sym, ap, _∙_}
+use mathlib.Core.Bool.{false≢true}
+use mathlib.Core.List.{List}
+use native.Mathlib.Numerals.{add-one}
+use native.Mathlib.Omega.{arith}
+use Prim.Native.Nat.{ℕ, _+_, _-_, _≤_, zero-le}
+use lib.ListN.{length, take, drop, length-append}
+use Rattle.rules.specs.Lists.{upTo, joined}
+use Rattle.laws.proofs.Joined.{joined-more}
+use Rattle.composing.specs.Text.{Put}
+use Rattle.composing.proofs.Puts.{put-none, put-more, put-same, put-length, put-room}
+use Rattle.list_runs.specs.Runs.{listRow}
+use Rattle.list_stream.specs.Stream.{lengthAt, startOf, recordAt, rowsText}
+use Rattle.list_stream.proofs.Rows.{row-most, whole-inside}
+use Rattle.list_stream.proofs.put_rows.Statement.{statement}
+use Rattle.list_stream.proofs.put_rows.Tie as tie
+
+-- the place after one record more, the row of that record, and the length of the rows with it
+next-start : (s : List ℕ) (n p : ℕ) → p ≡ startOf s n → p + 2 + lengthAt s p ≡ startOf s (n + 1)
+unfolding startOf
+next-start s n p e = rw (add-one n, e)
+
+record-is : (s : List ℕ) (n p size : ℕ) → p ≡ startOf s n → size ≡ lengthAt s p → listRow (take size (drop (p + 2) s)) ≡ listRow (recordAt s n)
+unfolding recordAt
+record-is s n p size e f = rw (f, e)
+
+rows-length : (s : List ℕ) (n : ℕ) → length (rowsText s (n + 1)) ≡ length (rowsText s n) + length (listRow (recordAt s n))
+unfolding rowsText
+rows-length s n = rw (add-one n) (ap length (joined-more (λ i. listRow (recordAt s i)) n) ∙ length-append (joined (upTo (λ i. listRow (recordAt s i)) n)) (listRow (recordAt s n)))
+
+pub record Turn (s before after : List ℕ) (room count from end : ℕ) : Type 0 where
+  pub long : room ≡ length before
+  pub few : count ≤ from
+  pub place : from ≡ startOf s count
+  pub inside : from ≤ length s
+  pub put : Put before after 0 end (rowsText s count)
+  pub whole : end ≡ length (rowsText s count)
+  pub fits : end ≤ length before
+
+abbrev Inv-loop : tie.InvT-loop
+Inv-loop s out₀ room count₀ from₀ end₀ out count from end = Turn s out₀ out room count from end
+
+abbrev μ-loop : tie.MeasureT-loop
+μ-loop s out₀ room count₀ from₀ end₀ out count from end = length s - from
+
+loop-holds : tie.Need-loop-holds Inv-loop μ-loop
+unfolding startOf rowsText upTo joined
+loop-holds c = record { long = refl; few = omega arith; place = refl; inside = omega arith; put = put-none _ _; whole = refl; fits = omega arith }
+
+sub-loop : tie.Need-sub-loop Inv-loop μ-loop
+sub-loop c = let i = c .loop .inv in omega (arith, i .long, i .fits)
+
+has-whole-requires : tie.Need-has-whole-requires Inv-loop μ-loop
+has-whole-requires c κs = c .before .loop .inv .inside
+
+same-length : tie.Need-same-length Inv-loop μ-loop
+same-length c = put-length (c .before .before .before .loop .inv .put)
+
+returns : tie.Need-returns Inv-loop μ-loop
+returns c =
+    let t = c .before in
+    let i = t .before .before .loop .inv in
+    let none = sym (t .has-whole .ensures) ∙ not-true (t .has-whole .result) (c .if1 .taken) in
+    record { place = i .place; inside = i .inside; put = i .put; whole = i .whole; fits = i .fits; done = λ w. absurd (false≢true (sym none ∙ w)) }
+
+-- the record at hand stands inside
+here : (c : tie.Else1 Inv-loop μ-loop) → c .before .before .before .loop .from + 2 + lengthAt (c .before .before .before .before .before .before .args .s .now) (c .before .before .before .loop .from) ≤ length (c .before .before .before .before .before .before .args .s .now)
+here c =
+    let t = c .before in
+    let at = t .before .before in
+    whole-inside (at .before .before .before .args .s .now) (at .loop .from) (sym (t .has-whole .ensures) ∙ not-false (t .has-whole .result) (c .if1 .left))
+
+length-at-requires : tie.Need-length-at-requires Inv-loop μ-loop
+length-at-requires c κs = omega (arith, here c)
+
+put-record-requires : tie.Need-put-record-requires Inv-loop μ-loop
+put-record-requires c κs = let t = c .before in omega (arith, here (t .before), t .length-at .ensures .0)
+
+-- the place after it
+abbrev taken : tie.After-slice-known2 Inv-loop μ-loop → tie.After-length-at Inv-loop μ-loop
+taken c = c .before .before .before .before
+
+past : (c : tie.After-slice-known2 Inv-loop μ-loop) →
+    let n = taken c in
+    let at = n .before .before .before .before in
+    at .loop .from + 2 + n .length-at .result ≤ length (at .before .before .before .args .s .now)
+past c = let n = taken c in omega (arith, here (n .before), n .length-at .ensures .0)
+
+add-from : tie.Need-add-from Inv-loop μ-loop
+add-from c = omega (arith, past c)
+
+add-from-2 : tie.Need-add-from-2 Inv-loop μ-loop
+add-from-2 c = omega (arith, past c)
+
+add-count : tie.Need-add-count Inv-loop μ-loop
+add-count c = omega (arith, past c, taken c .before .before .before .before .loop .inv .few)
+
+loop-less : tie.Need-loop-less Inv-loop μ-loop
+loop-less c = omega (arith, past c)
+
+loop-again : tie.Need-loop-again Inv-loop μ-loop
+unfolding rowsText
+loop-again c =
+    let n = taken c in
+    let at = n .before .before .before .before in
+    let s = at .before .before .before .args .s .now in
+    let i = at .loop .inv in
+    let count = at .loop .count in
+    let put = put-same (record-is s count (at .loop .from) (n .length-at .result) (i .place) (n .length-at .ensures .0)) (c .before .before .put-record .ensures) in
+    let row = row-most (recordAt s count) in
+    let ended = put-room put (omega (arith, row, put-length (i .put), i .long)) in
+    record {
+      long = i .long;
+      few = omega (arith, i .few);
+      place = rw (n .length-at .ensures .0) (next-start s count (at .loop .from) (i .place));
+      inside = past c;
+      put = put-more (λ j. listRow (recordAt s j)) count (i .put) put;
+      whole = omega (arith, ended, rows-length s count, i .whole);
+      fits = omega (arith, ended, row, i .long);
+    }
+
+same-length-2 : tie.Need-same-length-2 Inv-loop μ-loop
+same-length-2 c = put-length (c .before .loop .inv .put)
+
+returns-2 : tie.Need-returns-2 Inv-loop μ-loop
+returns-2 c =
+    let i = c .before .loop .inv in
+    record { place = i .place; inside = i .inside; put = i .put; whole = i .whole; fits = i .fits; done = λ w. omega (arith, i .long, i .fits) }
+
+pub put-rows-spec : {M : Type 1} → statement M
+put-rows-spec =
+    tie.close
+    (tie.spec
+    Inv-loop
+    μ-loop
+    loop-holds
+    sub-loop
+    has-whole-requires
+    same-length
+    returns
+    length-at-requires
+    put-record-requires
+    add-from
+    add-from-2
+    add-count
+    loop-less
+    loop-again
+    same-length-2
+    returns-2)
