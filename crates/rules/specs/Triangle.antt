@@ -39,9 +39,12 @@ cumulativeOf k p i j = sumTo (paidOf k p i) (suc j)
 abbrev pub mostCumulative : ℕ
 mostCumulative = 100000000000
 
--- whether every given C of row i is from 0 to 10^11
+-- whether C_ij, and whether every given C of row i, is from 0 to 10^11
+abbrev pub cumulativePasses : ℕ → List ℤ → ℕ → ℕ → Bool
+cumulativePasses k p i j = leZ (pos 0) (cumulativeOf k p i j) && leZ (cumulativeOf k p i j) (pos mostCumulative)
+
 unfoldable pub rowPasses : ℕ → List ℤ → ℕ → Bool
-rowPasses k p i = every (λ j. leZ (pos 0) (cumulativeOf k p i j) && leZ (cumulativeOf k p i j) (pos mostCumulative)) (below (k + 1 - i))
+rowPasses k p i = every (cumulativePasses k p i) (below (k + 1 - i))
 
 -- 6. Is every given C from 0 to 10^11?
 unfoldable pub cumulativesPass : ℕ → List ℤ → Bool

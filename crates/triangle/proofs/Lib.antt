@@ -2,4 +2,5 @@ pub mod Rounding
 pub mod Added
 pub mod Cumulatives
 pub mod Square
+pub mod Reached
 pub mod Passed

@@ -1,16 +1,16 @@
 // The averages of a triangle in a square, the totals of its columns and diagonals, and question 6.
 use rules::MOST_CUMULATIVE;
 ghost use mathlib.Core.Path.{_≡_};
-ghost use mathlib.Core.Bool.{true};
+ghost use mathlib.Core.Bool.{true, cond};
 ghost use Prim.Native.Nat.{ℕ, _+_, _-_, _*_, _≤_, _<_};
 ghost use lib.IntN.{pos, natAbs};
 ghost use lib.ListN.{set, replicate};
 ghost use lib.Seq.{sets};
 ghost use Rattle.rules.specs.Lists.{upTo, below, every, padded};
 ghost use Rattle.rules.specs.Record.{million, mostAmount};
-ghost use Rattle.rules.specs.Triangle.{rowStart, paidOf, rowPasses, cumulativesPass, paidTo, averageOf, averagesOf, ZeroOutside, columnTotal, diagonalTotal};
+ghost use Rattle.rules.specs.Triangle.{rowStart, paidOf, rowPasses, cumulativesPass, paidTo, averageOf, ZeroOutside, columnTotal, diagonalTotal};
 ghost use Rattle.triangle.specs.Bounds.{Increments, Exposures, mostAverage, Cells};
-ghost use Rattle.triangle.specs.Columns.{columnSum, columnTo};
+ghost use Rattle.triangle.specs.Columns.{columnSum, rowsPassing, cellsPassing, averagesTo, columnsTo, paidsTo, columnTo};
 
 // 100 × paid / claims to the nearest whole hundredth, halves away from zero.
 pub fn average(paid: i64, claims: u64) -> i64
@@ -25,8 +25,8 @@ pub fn average(paid: i64, claims: u64) -> i64
     }
 }
 
-// Question 6 of row i, whose increments start at place `at`. Where it says yes, the row's averages are stored, its cumulatives are added to the sums of
-// their columns over the rows before it, and its paid cumulative stands at place i.
+// Question 6 of row i, whose increments start at place `at`. As far as it says yes, the row's averages are stored and its cumulatives are added to the sums
+// of their columns over the rows before it; where all pass, its paid cumulative stands at place i.
 fn fill_row(
     row: &mut [i64; 16],
     columns: &mut [u64; 16],
@@ -45,10 +45,9 @@ fn fill_row(
         × ((claims ≤ million)
         × ((every (rowPasses k (now increments)) (below i) ≡ true) × (now columns ≡ upTo (columnSum k (now increments) i) 16))))))) ⌝ }
     ensures { λ r. ⌜ (r ≡ rowPasses k (now (increments .entry)) i)
-        × (r ≡ true
-        → (now (row .exit) ≡ sets (now (row .entry)) 0 (upTo (λ j. averageOf (paidOf k (now (increments .entry)) i j) claims) (k + 1 - i)))
-        × ((now (columns .exit) ≡ upTo (columnSum k (now (increments .entry)) (i + 1)) 16)
-        × (now (paid .exit) ≡ set (now (paid .entry)) i (paidTo k (now (increments .entry)) i)))) ⌝ }
+        × ((now (row .exit) ≡ sets (now (row .entry)) 0 (upTo (λ j. averageOf (paidOf k (now (increments .entry)) i j) claims) (cellsPassing k (now (increments .entry)) i)))
+        × ((now (columns .exit) ≡ columnsTo k (now (increments .entry)) i (cellsPassing k (now (increments .entry)) i))
+        × (now (paid .exit) ≡ cond r (set (now (paid .entry)) i (paidTo k (now (increments .entry)) i)) (now (paid .entry))))) ⌝ }
 {
     let mut sum: i64 = 0;
     let count = k + 1 - i;
@@ -68,8 +67,8 @@ fn fill_row(
     true
 }
 
-// Question 6 row by row; where it says yes of every row, their averages are in the square, with the sums of the cumulatives' columns and the paid
-// cumulatives beside it.
+// Question 6 row by row. As far as it says yes, the averages are in the square, with the sums of the cumulatives' columns and the paid cumulatives of
+// whole rows beside it.
 pub fn fill_rows(
     k: usize,
     exposures: &[u64; 16],
@@ -83,10 +82,10 @@ pub fn fill_rows(
         × (Increments (now increments)
         × ((now square ≡ replicate 16 (replicate 16 (pos 0))) × ((now columns ≡ replicate 16 0) × (now paid ≡ replicate 16 0))))) ⌝ }
     ensures { λ r. ⌜ (r ≡ cumulativesPass k (now (increments .entry)))
-        × (r ≡ true
-        → (now (square .exit) ≡ averagesOf k (now (exposures .entry)) (now (increments .entry)))
-        × ((now (columns .exit) ≡ upTo (columnSum k (now (increments .entry)) (k + 1)) 16)
-        × (now (paid .exit) ≡ padded 16 0 (upTo (paidTo k (now (increments .entry))) (k + 1))))) ⌝ }
+        × ((now (square .exit) ≡ averagesTo k (now (exposures .entry)) (now (increments .entry)))
+        × ((now (columns .exit)
+        ≡ columnsTo k (now (increments .entry)) (rowsPassing k (now (increments .entry))) (cellsPassing k (now (increments .entry)) (rowsPassing k (now (increments .entry)))))
+        × (now (paid .exit) ≡ paidsTo k (now (increments .entry))))) ⌝ }
 {
     let mut at: usize = 0;
     let n = k + 1;

@@ -14,6 +14,7 @@ use Rattle.rules.specs.Results.{squareOf, paidIn}
 use Rattle.rules.specs.declared.Factors.{Factors}
 use Rattle.rules.specs.Engine.{figureQuestions, laterQuestions}
 use Rattle.engine.proofs.Questions.{one-no, one-yes, first-refused, later}
+use Rattle.triangle.proofs.Reached.{all-averages, all-columns, all-paid}
 use Rattle.engine.proofs.Before as stage
 use Rattle.engine.proofs.run_figures.Statement.{statement}
 use Rattle.engine.proofs.run_figures.Tie as tie
@@ -29,11 +30,8 @@ fill-rows-requires c κs = search needs
 abbrev start1 : tie.After-fill-rows → tie.Start
 start1 c = c .before .before .before .before
 
-passed : (c : tie.Else1) → c .before .fill-rows .result ≡ true
-passed c = not-false (c .before .fill-rows .result) (c .if1 .left)
-
 yes-six : (c : tie.Else1) → cumulativesPass (F (start1 (c .before)) .k) (F (start1 (c .before)) .increments) ≡ true
-yes-six c = sym (c .before .fill-rows .ensures .0) ∙ passed c
+yes-six c = sym (c .before .fill-rows .ensures .0) ∙ not-false (c .before .fill-rows .result) (c .if1 .left)
 
 returns : tie.Need-returns
 unfolding figureQuestions
@@ -45,7 +43,7 @@ returns c =
 -- the square, and the answer of questions 7 to 10
 square-is : (c : tie.Else1) → c .before .fill-rows .last .1 .1 .1 .0 ≡ squareOf (F (start1 (c .before)))
 unfolding squareOf
-square-is c = c .before .fill-rows .ensures .1 (passed c) .0
+square-is c = let s = start1 (c .before) in c .before .fill-rows .ensures .1 .0 ∙ all-averages (s .args .k) (s .args .increments .now) (yes-six c) (s .args .exposures .now)
 
 separate-requires : tie.Need-separate-requires
 separate-requires c κs =
@@ -88,7 +86,7 @@ finish-requires c κs =
     let two = c .before .before .before .before .before .before .before .before in
     let at = separate2 two in
     let six = at .before .before in
-    let rows = six .before .fill-rows .ensures .1 (passed six) .1 in
+    let rows = six .before .fill-rows .ensures .1 .1 in
     let s = start1 (six .before) in
     let f = F s in
     let factors = stage.factors-are f _ (square-is six) (at .separate .result .factors) (at .separate .ensures .1) (accepted-is two) in (
@@ -96,8 +94,8 @@ finish-requires c κs =
         sound = s .pre .0;
         cumulatives = yes-six six;
         square = square-is six;
-        columns = rows .0;
-        paid = rows .1;
+        columns = rows .0 ∙ all-columns (f .k) (f .increments) (yes-six six);
+        paid = rows .1 ∙ all-paid (f .k) (f .increments) (yes-six six);
         accepted = accepted-is two;
         shares = ap (λ (g : Factors). g .shares) factors;
         levels = ap (λ (g : Factors). g .levels) factors;

@@ -14,30 +14,27 @@ use mir.Syntax.{w64}
 use mir.Val.{toZ, ofZ}
 use mir.Facts.{toZ-ofZ}
 use Rattle.rules.specs.Lists.{upTo, below, every}
-use Rattle.rules.specs.Triangle.{paidOf, sumTo, cumulativeOf, mostCumulative, rowPasses, givenCumulative, paidTo, averageOf}
+use Rattle.rules.specs.Triangle.{paidOf, sumTo, cumulativeOf, mostCumulative, cumulativePasses, rowPasses, givenCumulative, paidTo, averageOf}
+use Rattle.entries.proofs.Leading.{leading-all, leading-stop}
 use Rattle.laws.proofs.Lists.{getD-upTo, every-next, fails-at}
 use Rattle.laws.proofs.Joined.{first-more}
 use Rattle.laws.proofs.Order.{under, over, inside}
 use Rattle.laws.proofs.Rows.{row-room}
 use Rattle.laws.proofs.Signed.{held}
-use Rattle.triangle.specs.Columns.{columnSum}
-use Rattle.triangle.proofs.Added.{mixed, mixed-after, mixed-none, mixed-more, mixed-all}
-use Rattle.triangle.proofs.Cumulatives.{increment-most, increment-read, more-fits, more-is, more-read, last-read, whole, cell-is, cell-most, column-most, sum-given, sum-past}
+use Rattle.triangle.specs.Columns.{columnSum, cellsPassing, columnsTo}
+use Rattle.triangle.proofs.Added.{mixed, mixed-after, mixed-none, mixed-more}
+use Rattle.triangle.proofs.Cumulatives.{increment-most, increment-read, more-fits, more-is, more-read, last-read, whole, cell-is, cell-most, column-most, sum-given}
 use Rattle.triangle.proofs.fill_row.Statement.{statement}
 use Rattle.triangle.proofs.fill_row.Tie as tie
 use Rattle.triangle.proofs.fill_row.Reads as reads
 use Rattle.triangle.proofs.fill_row.Lts as lts
 use Rattle.triangle.proofs.average.Reads as average-reads
 
--- question 6 of one cumulative
-abbrev passes : ℕ → List ℤ → ℕ → ℕ → Bool
-passes k p i j = leZ (pos 0) (cumulativeOf k p i j) && leZ (cumulativeOf k p i j) (pos mostCumulative)
-
 abbrev Inv-loop : tie.InvT-loop
 Inv-loop row₀ columns₀ paid increments claims k i at sum₀ count j₀ row columns sum j =
     (j ≤ count)
     × (sum ≡ ofZ w64 (sumTo (paidOf k increments i) j))
-    × (every (passes k increments i) (below j) ≡ true)
+    × (every (cumulativePasses k increments i) (below j) ≡ true)
     × (row ≡ sets row₀ 0 (upTo (λ r. averageOf (paidOf k increments i r) claims) j))
     × (columns ≡ upTo (mixed (columnSum k increments i) (columnSum k increments (i + 1)) j) 16)
 
@@ -48,10 +45,16 @@ abbrev μ-loop : tie.MeasureT-loop
 room : (s : tie.Start Inv-loop μ-loop) → s .args .at + (s .args .k + 1 - s .args .i) ≤ 136
 room s = rw (s .pre .1 .1 .1 .0) (row-room (s .args .k) (s .args .i) (omega arith) (omega arith))
 
--- one cumulative that fails
-fails : (s : tie.Start Inv-loop μ-loop) (j : ℕ) → j < s .args .k + 1 - s .args .i → passes (s .args .k) (s .args .increments .now) (s .args .i) j ≡ false → false ≡ rowPasses (s .args .k) (s .args .increments .now) (s .args .i)
-unfolding rowPasses
-fails s j h e = sym (fails-at (passes (s .args .k) (s .args .increments .now) (s .args .i)) (λ (j : ℕ). j) (s .args .k + 1 - s .args .i) j h e)
+-- cumulative j is the first that fails
+module _ (s : tie.Start Inv-loop μ-loop) (j : ℕ) (h : j < s .args .k + 1 - s .args .i) (before : every (cumulativePasses (s .args .k) (s .args .increments .now) (s .args .i)) (below j) ≡ true)
+    (e : cumulativePasses (s .args .k) (s .args .increments .now) (s .args .i) j ≡ false) where
+  fails : false ≡ rowPasses (s .args .k) (s .args .increments .now) (s .args .i)
+  unfolding rowPasses
+  fails = sym (fails-at (cumulativePasses (s .args .k) (s .args .increments .now) (s .args .i)) (λ (j : ℕ). j) (s .args .k + 1 - s .args .i) j h e)
+
+  stops : j ≡ cellsPassing (s .args .k) (s .args .increments .now) (s .args .i)
+  unfolding cellsPassing
+  stops = sym (leading-stop (cumulativePasses (s .args .k) (s .args .increments .now) (s .args .i)) (s .args .k + 1 - s .args .i) j h before e)
 
 add-count : tie.Need-add-count Inv-loop μ-loop
 add-count c = omega arith
@@ -93,19 +96,27 @@ sum-read c =
     more-read (s .args .k) (s .args .increments .now) (s .args .i) (s .pre .0) (s .args .at) (s .pre .1 .1 .1 .0) (l .j) (l .sum) (omega arith) (l .inv .1)
 
 returns : tie.Need-returns Inv-loop μ-loop
+unfolding columnsTo
 returns c =
     let t = c .before in
     let s = t .before .before .before in
-    (fails s (t .before .before .loop .j) (omega arith) (under (pos 0) (pos mostCumulative) (sum t) (rw (sum-read t) at (c .if1 .taken))), λ z. absurd (false≢true z))
+    let l = t .before .before .loop in
+    let no-six = under (pos 0) (pos mostCumulative) (sum t) (rw (sum-read t) at (c .if1 .taken)) in
+    let m = stops s (l .j) (omega arith) (l .inv .2) no-six in
+    (fails s (l .j) (omega arith) (l .inv .2) no-six, (rw m at (l .inv .3), (rw m at (l .inv .4), refl)))
 
 cast-if2 : tie.Need-cast-if2 Inv-loop μ-loop
 cast-if2 c = omega arith
 
 returns-2 : tie.Need-returns-2 Inv-loop μ-loop
+unfolding columnsTo
 returns-2 c =
     let t = c .before .before in
     let s = t .before .before .before in
-    (fails s (t .before .before .loop .j) (omega arith) (over (pos 0) (pos mostCumulative) (sum t) (rw (sum-read t) at (c .if2 .taken))), λ z. absurd (false≢true z))
+    let l = t .before .before .loop in
+    let no-six = over (pos 0) (pos mostCumulative) (sum t) (rw (sum-read t) at (c .if2 .taken)) in
+    let m = stops s (l .j) (omega arith) (l .inv .2) no-six in
+    (fails s (l .j) (omega arith) (l .inv .2) no-six, (rw m at (l .inv .3), (rw m at (l .inv .4), refl)))
 
 -- a cumulative that passes is a whole number of at most 10^11
 passed : (c : tie.Else2 Inv-loop μ-loop) → leZ (pos 0) (sum (c .before .before)) && leZ (sum (c .before .before)) (pos mostCumulative) ≡ true
@@ -182,7 +193,7 @@ loop-again c =
     let value : getD (l .columns) (l .j) 0 + natAbs (sum (e .before .before)) ≡ columnSum k p (i + 1) (l .j) = rw (was at (omega arith)) (sum-given k p i (l .j) (omega arith)) in (
       omega arith,
       more-is k p i (s .pre .0) (s .args .at) (s .pre .1 .1 .1 .0) (l .j) (l .sum) (omega arith) (l .inv .1),
-      every-next (passes k p i) (λ (j : ℕ). j) (l .j) (l .inv .2) (passed e),
+      every-next (cumulativePasses k p i) (λ (j : ℕ). j) (l .j) (l .inv .2) (passed e),
       rw (kept, t .average .ensures .0, read, l .inv .3) (first-more (λ r. averageOf (paidOf k p i r) (s .args .claims)) (s .args .row .now) (l .j)),
       rw (sum-read (e .before .before), value, l .inv .4) (mixed-more (columnSum k p i) (columnSum k p (i + 1)) 16 (l .j) (omega arith)),
     )
@@ -215,7 +226,7 @@ element-write-paid : tie.Need-element-write-paid Inv-loop μ-loop
 element-write-paid c = omega arith
 
 returns-3 : tie.Need-returns-3 Inv-loop μ-loop
-unfolding paidTo givenCumulative
+unfolding paidTo givenCumulative rowPasses cellsPassing columnsTo
 returns-3 c =
     let s = c .before .before in
     let l = c .before .loop in
@@ -223,8 +234,8 @@ returns-3 c =
     let p = s .args .increments .now in
     let i = s .args .i in
     let e : l .j ≡ k + 1 - i = omega arith in
-    let all = mixed-all (columnSum k p i) (columnSum k p (i + 1)) 16 (l .j) (λ c h m. sum-past k p i c (omega arith)) in
-    (sym (row-passed c), λ z. (rw e at (l .inv .3), (l .inv .4 ∙ all, rw (last c))))
+    let m = e ∙ sym (leading-all (cumulativePasses k p i) (k + 1 - i) (row-passed c)) in
+    (sym (row-passed c), (rw m at (l .inv .3), (rw m at (l .inv .4), rw (last c))))
 
 pub fill-row-spec : {M : Type 1} → statement M
 fill-row-spec =

@@ -1,35 +1,22 @@
 -- The loop's invariant: the rows before i pass, their averages, their sums by column and their paid cumulatives are stored, and `at` is where row i
 -- starts. Assumes nothing.
 use mathlib.Core.Path.{_≡_, refl, sym, _∙_}
-use mathlib.Core.Bool.{true, false, false≢true}
-use mathlib.Core.List.{List, []}
-use Prim.Native.Nat.{ℕ, _+_, _-_, _≤_, _<_}
+use mathlib.Core.Bool.{true}
+use Prim.Native.Nat.{ℕ, _+_, _-_, _≤_}
+use native.Mathlib.Numerals.{add-one}
 use native.Mathlib.Omega.{arith}
 use borrow.Author.Tests.{not-true, not-false}
-use lib.IntN.{ℤ, pos}
-use lib.ListN.{getD, set, replicate}
-use lib.Seq.{sets}
+use lib.IntN.{pos}
+use lib.ListN.{replicate}
 use Rattle.rules.specs.Lists.{upTo, below, padded, every, total}
-use Rattle.rules.specs.Triangle.{rowStart, paidOf, averageOf, rowPasses, cumulativesPass, paidTo, averageRow, averagesOf}
-use Rattle.laws.proofs.Lists.{every-next, fails-at, length-upTo}
-use Rattle.laws.proofs.Joined.{sets-filled}
-use Rattle.laws.proofs.Padded.{filled-none, filled-more, rest-at}
+use Rattle.rules.specs.Triangle.{rowStart, rowPasses, cumulativesPass, paidTo, averageRow, averagesOf}
+use Rattle.laws.proofs.Lists.{every-next}
+use Rattle.laws.proofs.Padded.{filled-none, filled-more}
 use Rattle.laws.proofs.Rows.{row-room, start-more}
-use Rattle.triangle.specs.Columns.{columnSum}
+use Rattle.triangle.specs.Columns.{columnSum, averagesTo, paidsTo}
+use Rattle.triangle.proofs.Reached.{row-cells, row-columns, row-stored, stops, fails, all-averages, all-columns, all-paid}
 use Rattle.triangle.proofs.fill_rows.Statement.{statement}
 use Rattle.triangle.proofs.fill_rows.Tie as tie
-
--- the square with the rows before i, after the stores into row i
-more-rows : (k : ℕ) (n : List ℕ) (p : List ℤ) (i : ℕ) → k < 16 → i < 16 → (q : List (List ℤ)) (r : List ℤ)
-    → q ≡ padded 16 (replicate 16 (pos 0)) (upTo (averageRow k n p) i)
-    → r ≡ sets (getD q i []) 0 (upTo (λ j. averageOf (paidOf k p i j) (getD n i 0)) (k + 1 - i))
-    → set q i r ≡ padded 16 (replicate 16 (pos 0)) (upTo (averageRow k n p) (i + 1))
-unfolding averageRow
-more-rows k n p i h l q r e f =
-    let was : getD q i [] ≡ replicate 16 (pos 0) = rw e (rest-at 16 (replicate 16 (pos 0)) (averageRow k n p) i i [] (omega arith) l) in
-    let row : r ≡ averageRow k n p i
-    = f ∙ rw was (sets-filled 16 (pos 0) _ (omega (arith, length-upTo (λ j. averageOf (paidOf k p i j) (getD n i 0)) (k + 1 - i)))) in
-    rw (row, e) (filled-more 16 (replicate 16 (pos 0)) (averageRow k n p) i l)
 
 abbrev Inv-loop : tie.InvT-loop
 Inv-loop k exposures increments square₀ columns₀ paid₀ at₀ n i₀ square columns paid at i =
@@ -75,13 +62,22 @@ abbrev turn : tie.After-fill-row Inv-loop μ-loop → tie.At-loop Inv-loop μ-lo
 turn c = c .before .before .before .before .before .before
 
 returns : tie.Need-returns Inv-loop μ-loop
-unfolding cumulativesPass
+unfolding averagesTo paidsTo
 returns c =
     let t = c .before in
     let s = turn t .before in
-    let i = turn t .loop .i in
-    let failed = sym (t .fill-row .ensures .0) ∙ not-true (t .fill-row .result) (c .if1 .taken) in
-    (sym (fails-at (rowPasses (s .args .k) (s .args .increments .now)) (λ (j : ℕ). j) (s .args .k + 1) i (omega arith) failed), λ z. absurd (false≢true z))
+    let l = turn t .loop in
+    let k = s .args .k in
+    let p = s .args .increments .now in
+    let no-six = not-true (t .fill-row .result) (c .if1 .taken) in
+    let failed = sym (t .fill-row .ensures .0) ∙ no-six in
+    let all = fails k p (l .i) (omega arith) (l .inv .2) failed in
+    let rows = stops k p (l .i) (omega arith) (l .inv .2) failed in
+    let filled = t .fill-row .ensures .1 in (
+      sym all,
+      (rw (all, rows) (row-stored k p (s .args .exposures .now) (l .i) (omega arith) (omega arith) (l .square) _ (l .inv .3) (filled .0)),
+      (rw rows (filled .1 .0), rw rows (rw no-six at (filled .1 .1) ∙ l .inv .5))),
+    )
 
 sub-at : tie.Need-sub-at Inv-loop μ-loop
 sub-at c = omega arith
@@ -98,6 +94,7 @@ loop-less : tie.Need-loop-less Inv-loop μ-loop
 loop-less c = omega arith
 
 loop-again : tie.Need-loop-again Inv-loop μ-loop
+unfolding averageRow upTo
 loop-again c =
     let t = c .before in
     let s = turn t .before in
@@ -106,13 +103,14 @@ loop-again c =
     let n = s .args .exposures .now in
     let p = s .args .increments .now in
     let yes-six = not-false (t .fill-row .result) (c .if1 .left) in
-    let filled = t .fill-row .ensures .1 yes-six in (
+    let passed = sym (t .fill-row .ensures .0) ∙ yes-six in
+    let filled = t .fill-row .ensures .1 in (
       omega arith,
       rw (l .inv .1) (sym (start-more k (l .i))),
-      every-next (rowPasses k p) (λ (j : ℕ). j) (l .i) (l .inv .2) (sym (t .fill-row .ensures .0) ∙ yes-six),
-      more-rows k n p (l .i) (omega arith) (omega arith) (l .square) _ (l .inv .3) (filled .0),
-      filled .1 .0,
-      filled .1 .1 ∙ rw (l .inv .5) (filled-more 16 0 (paidTo k p) (l .i) (omega arith)),
+      every-next (rowPasses k p) (λ (j : ℕ). j) (l .i) (l .inv .2) passed,
+      row-stored k p n (l .i) (omega arith) (omega arith) (l .square) _ (l .inv .3) (filled .0) ∙ rw (row-cells k p (l .i) passed, add-one (l .i)),
+      filled .1 .0 ∙ row-columns k p (l .i) passed,
+      rw yes-six at (filled .1 .1) ∙ rw (l .inv .5) (filled-more 16 0 (paidTo k p) (l .i) (omega arith)),
     )
 
 returns-2 : tie.Need-returns-2 Inv-loop μ-loop
@@ -120,8 +118,12 @@ unfolding cumulativesPass averagesOf
 returns-2 c =
     let s = c .before .before in
     let l = c .before .loop in
-    let all : l .i ≡ s .args .k + 1 = omega arith in
-    (sym (rw all at (l .inv .2)), λ z. (rw all at (l .inv .3), (rw all at (l .inv .4), rw all at (l .inv .5))))
+    let k = s .args .k in
+    let p = s .args .increments .now in
+    let end : l .i ≡ k + 1 = omega arith in
+    let pass = rw end at (l .inv .2) in
+    let square = rw end at (l .inv .3) in
+    (sym pass, (square ∙ sym (all-averages k p pass (s .args .exposures .now)), ((rw end at (l .inv .4)) ∙ sym (all-columns k p pass), (rw end at (l .inv .5)) ∙ sym (all-paid k p pass))))
 
 pub fill-rows-spec : {M : Type 1} → statement M
 fill-rows-spec =
