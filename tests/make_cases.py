@@ -1,6 +1,6 @@
 #!/usr/bin/env python3
 """make_cases.py: writes the stored input and expected output of the test programs read_cases, write_cases and run_cases and of the programs reserve,
-report, pack and unpack; the records of the examples from their texts, and their pages (tests/pages); and the texts that pack must accept or refuse, with
+reserve_many, report, pack and unpack; the records of the examples from their texts, and their pages (tests/pages); and the texts that pack must accept or refuse, with
 the record of each or what pack says (tests/texts).
 
 What is expected comes from model.py and page.py, which are written from document 01 and from the docs and share nothing with the Rattle code.
@@ -303,6 +303,8 @@ def main():
     record = model.pack(model.MOTOR_ACCOUNT)
     store("reserve", record, "".join(f"{v}\n" for v in model.run(record, model.result_count(3))[1]))
     store("report", record, page.page(record))
+    records = [record for _, record in run_inputs()]
+    store("reserve_many", b"".join(len(record).to_bytes(2, "big") + record for record in records), "".join(map(row, records)))
     examples()
     texts()
 
@@ -406,6 +408,12 @@ def texts():
         put(os.path.join(folder, name), data)
     for name in sorted(set(os.listdir(folder)) - set(made)):
         print(f"tests/texts/{name} is not made here")
+
+
+def row(record):
+    """The line of a record among many: the entries of its list with blanks between, or its refusal."""
+    number_, results = model.run(record, model.result_count(15))
+    return (f"refused {number_}" if number_ else " ".join(map(str, results))) + "\n"
 
 
 def shown(number_, values, room):

@@ -23,13 +23,7 @@ fn put_run(out: &mut [u8], at: usize, packed: &[u8], between: u8) -> usize
     if answer != ACCEPTED {
         return put_refused(out, at, answer);
     }
-    put_separated(
-        out,
-        at,
-        &list,
-        entries_of(last_year_of(packed)),
-        between,
-    )
+    put_separated(out, at, &list, entries_of(last_year_of(packed)), between)
 }
 
 // The list of a record, one entry a line.

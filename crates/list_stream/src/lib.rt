@@ -1,12 +1,11 @@
 // Many records in one stream, each behind its length in two bytes, the high one first: the row of each goes into a lent buffer.
 use list_runs::put_list_row;
 ghost use mathlib.Core.Path.{_≡_};
-ghost use mathlib.Core.Bool.{true};
-ghost use Prim.Native.Nat.{_+_, _*_, _<_, _≤_};
+ghost use Prim.Native.Nat.{ℕ, _+_, _<_, _≤_};
 ghost use lib.ListN.{length, getD, take, drop};
 ghost use Rattle.composing.specs.Text.{Put};
 ghost use Rattle.list_runs.specs.Runs.{listRow};
-ghost use Rattle.list_stream.specs.Stream.{lengthAt, wholeAt, mostRow, RowsPut};
+ghost use Rattle.list_stream.specs.Stream.{lengthAt, wholeAt, RowsPut};
 
 // The most bytes of a row.
 const MOST_ROW: usize = 10_758;
@@ -72,4 +71,14 @@ pub fn put_rows(s: &[u8], out: &mut [u8]) -> Taken
         count += 1;
     }
     Taken { count, from, end }
+}
+
+// The bytes from place `from` up to place `to` move to the start.
+pub fn move_down(s: &mut [u8], from: usize, to: usize)
+    requires { ⌜ (from ≤ to) × (to ≤ length (now s)) ⌝ }
+    ensures { λ _. ⌜ ((j : ℕ) → from + j < to → getD (now (s .exit)) j 0 ≡ getD (now (s .entry)) (from + j) 0) ⌝ }
+{
+    for i in from..to {
+        s[i - from] = s[i];
+    }
 }

@@ -1,0 +1,44 @@
+-- The loop's invariant: the pending bytes stand in the input. Assumes nothing.
+use borrow.Author.Needs.{needs}
+use mathlib.Core.Logic.{⊎-elim}
+use native.Mathlib.Omega.{arith}
+use Prim.Native.Nat.{_≤_, _-_}
+use Rattle.reserve_many.proofs.main.Statement.{statement}
+use Rattle.reserve_many.proofs.main.Tie as tie
+
+abbrev Inv-loop : tie.InvT-loop
+Inv-loop input₀ text₀ from₀ have₀ place₀ turn₀ t10 t11 input text from have place turn = (from ≤ have) × (have ≤ 131072)
+
+abbrev μ-loop : tie.MeasureT-loop
+μ-loop input₀ text₀ from₀ have₀ place₀ turn₀ t10 t11 input text from have place turn = 9000000000000000000 - turn
+
+loop-again : tie.Need-loop-again Inv-loop μ-loop
+loop-again c = ⊎-elim (λ w. search needs) (λ w. search needs) (c .if2 .came)
+
+pub main-spec : {M : Type 1} → statement M
+main-spec =
+    tie.close
+    (tie.spec
+    Inv-loop
+    μ-loop
+    (λ c κs. search needs)
+    (λ c. search needs)
+    (λ c κs. search needs)
+    (λ c κs. search needs)
+    (λ c. search needs)
+    (λ c κs. search needs)
+    (λ c. search needs)
+    (λ c. search needs)
+    (λ c κs. search needs)
+    (λ c. search needs)
+    (λ c κs. search needs)
+    (λ c. search needs)
+    (λ c κs. search needs)
+    (λ c. search needs)
+    (λ c κs. search needs)
+    (λ c. search needs)
+    (λ c. search needs)
+    (λ c. search needs)
+    (λ c. search needs)
+    loop-again
+    (λ c. search needs))
