@@ -1,6 +1,6 @@
 #!/usr/bin/env python3
 """make_cases.py: writes the stored input and expected output of the test programs read_cases, write_cases and run_cases and of the programs reserve,
-reserve_many, report, pack and unpack; the records of the examples from their texts, and their pages (tests/pages); and the texts that pack must accept or refuse, with
+reserve_many, report, csv, pack and unpack; the records of the examples from their texts, their pages and their lists as comma-separated values (tests/pages); and the texts that pack must accept or refuse, with
 the record of each or what pack says (tests/texts).
 
 What is expected comes from model.py and page.py, which are written from document 01 and from the docs and share nothing with the Rattle code.
@@ -310,7 +310,7 @@ def main():
 
 
 def examples():
-    """The record and the page of every example; the longest of them is what pack and unpack are given."""
+    """The record, the page and the list of every example; the longest of them is what pack, unpack and csv are given."""
     for path in sorted(glob.glob(os.path.join(HERE, "..", "examples", "*.txt"))):
         name = os.path.splitext(os.path.basename(path))[0]
         with open(path, "rb") as text:
@@ -319,9 +319,11 @@ def examples():
         record = model.pack(fields)
         put(os.path.splitext(path)[0] + ".rec", record)
         put(os.path.join(HERE, "pages", name + ".txt"), page.page(record))
+        put(os.path.join(HERE, "pages", name + ".csv"), page.csv(record))
         if name == "liability_book":
             store("pack", given, record)
             store("unpack", record, page.sheet(fields))
+            store("csv", record, page.csv(record))
 
 
 def typed(text):

@@ -1,7 +1,7 @@
-"""The report of a record as a page of text, and the figures of a record as text, in plain Python.
+"""The report of a record as a page of text, its result list as comma-separated values, and the figures of a record as text, in plain Python.
 
-Written from the page in README.md, docs/SHEET.md and the definitions (crates/page/specs, crates/sheet/specs), and not from the Rattle code; the numbers
-come from model.py. make_cases.py makes of it what report and unpack are expected to write.
+Written from the page in README.md, docs/SHEET.md and the definitions (crates/page/specs, crates/csv_text/specs, crates/sheet/specs), and not from the Rattle
+code; the numbers come from model.py. make_cases.py makes of it what report, csv and unpack are expected to write.
 """
 
 import model
@@ -92,6 +92,39 @@ def page(record):
 
     text += "\nChain ladder: completed cumulatives, by origin year and development year\n"
     return text + past_diagonal(k, completed)
+
+
+def csv(record):
+    """The lines that csv writes of a record that the engine accepts: section, origin year, development or payment year, value, unit."""
+    k = record[0] >> 4
+    number, results = model.run(record, model.result_count(k))
+    assert number == 0
+    (averages, shares, levels, future, payments, provisions, provision_total, unreported, reserves, reserve_total, ratio, factors,
+     completed) = sections(k, results)
+    claim, money = "hundredths a claim", "currency units"
+    lines = [("section", "origin year", "year", "value", "unit")]
+
+    def put(name, unit, entries):
+        lines.extend((name, origin, year, value, unit) for origin, year, value in entries)
+
+    def past(rows):
+        return ((i, k + 1 - i + place, value) for i, row in enumerate(rows) for place, value in enumerate(row))
+
+    put("average", claim, ((i, j, value) for i, row in enumerate(averages) for j, value in enumerate(row)))
+    put("share", "billionths", (("", j, value) for j, value in enumerate(shares)))
+    put("level", claim, (("", h, value) for h, value in enumerate(levels)))
+    put("future level", claim, (("", k + t, value) for t, value in enumerate(future, 1)))
+    put("payment", money, past(payments))
+    put("provision", money, ((i, "", value) for i, value in enumerate(provisions)))
+    put("total provision", money, [("", "", provision_total)])
+    put("not reported", money, ((i, "", value) for i, value in enumerate(unreported)))
+    put("ulae reserve", money, ((i, "", value) for i, value in enumerate(reserves)))
+    put("total ulae reserve", money, [("", "", reserve_total)])
+    put("ulae ratio", "millionths", [("", "", ratio)])
+    put("development factor", "millionths", (("", h, value) for h, value in enumerate(factors)))
+    put("completed cumulative", money, past(completed))
+    assert [value for *_, value, _ in lines[1:]] == results
+    return "".join(",".join(str(cell) for cell in line) + "\n" for line in lines)
 
 
 def sheet(fields):

@@ -1,10 +1,14 @@
-// Numbers and lists on standard output. What arrives there is outside the contracts: the kit says nothing of what a write leaves behind, so the
-// routines promise only that they are safe and end, and the gate compares what each program writes with its stored output.
+// Numbers, lists and texts on standard output, what is wrong on standard error, and records from standard input. What arrives there is outside the
+// contracts: the kit says nothing of what a read or a write leaves behind, so the routines promise only that they are safe and end, and the gate
+// compares what each program writes with its stored output.
 use entries::size_of;
+use kinds::is_text;
 use libc::STDERR_FILENO;
+use libc::STDIN_FILENO;
 use libc::STDOUT_FILENO;
 ghost use Prim.Native.Nat.{_≤_};
 ghost use lib.ListN.{length};
+ghost use Rattle.io.specs.Counts.{Counts};
 
 // Writes text as it is.
 pub fn put_text(text: &[u8]) {
@@ -74,4 +78,80 @@ pub fn put_output(text: &[u8], n: usize) {
     if !put_first(STDOUT_FILENO, text, n) {
         io::write_all(STDERR_FILENO, b"the output could not be written\n");
     }
+}
+
+// Says a line on standard error.
+pub fn say(line: &[u8]) {
+    io::write_all(STDERR_FILENO, line);
+}
+
+// Writes a text that was composed in a buffer and ends before place n. One that fills its buffer may have been cut: it is not written.
+pub fn put_composed(text: &[u8], n: usize) {
+    if n < text.len() {
+        put_output(text, n);
+    } else {
+        say(b"the output does not fit its buffer of ");
+        io::print_decimal(STDERR_FILENO, text.len() as u64);
+        say(b" bytes\n");
+    }
+}
+
+// What was read: how many bytes, and whether a read failed after them.
+pub struct Arrived {
+    size: usize,
+    failed: bool,
+}
+
+// One read of standard input; no bytes where it failed or the input has ended.
+fn read_once(buf: &mut [u8]) -> Arrived
+    ensures { λ r. ⌜ r .size ≤ length (now (buf .exit)) ⌝ }
+{
+    let got = libc::read(STDIN_FILENO, buf);
+    Arrived {
+        size: io::count(got, buf),
+        failed: got < 0,
+    }
+}
+
+// Reads standard input until the buffer is full, the input ends or a read fails.
+pub fn read_input(buf: &mut [u8]) -> Arrived
+    ensures { λ r. ⌜ Counts (r .size) (now (buf .exit)) ⌝ }
+{
+    let mut done: usize = 0;
+    let length = buf.len();
+    while done < length {
+        let more = read_once(&mut buf[done..]);
+        if more.size == 0 {
+            return Arrived {
+                size: done,
+                failed: more.failed,
+            };
+        }
+        done += more.size;
+    }
+    Arrived {
+        size: done,
+        failed: false,
+    }
+}
+
+// Reads the record on standard input and answers how many bytes it has; 0 where none arrived, after saying why.
+pub fn read_record(buf: &mut [u8]) -> usize
+    ensures { λ r. ⌜ Counts r (now (buf .exit)) ⌝ }
+{
+    let arrived = read_input(buf);
+    let size = arrived.size;
+    if arrived.failed {
+        say(b"the input could not be read\n");
+        return 0;
+    }
+    if size == 0 {
+        say(b"nothing arrived: no record on standard input\n");
+        return 0;
+    }
+    if is_text(&buf[..size]) {
+        say(b"this is a text, not a record: make a record of it with pack first\n");
+        return 0;
+    }
+    size
 }

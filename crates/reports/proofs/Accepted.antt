@@ -2,42 +2,37 @@
 use Prim.Native.Nat.{ℕ, zero, suc, _+_, _-_, _≤_, _<_}
 use native.Mathlib.Numerals.{add-one}
 use native.Mathlib.Omega.{arith}
-use borrow.Author.Tests.{leb-true, ne-eqb}
-use mathlib.Core.Path.{_≡_, refl, _∙_}
+use borrow.Author.Tests.{ne-eqb}
+use mathlib.Core.Path.{_≡_, _∙_}
 use mathlib.Core.Bool.{Bool, true, false, cond}
-use mathlib.Core.List.{List, [], _∷_, _++_, map}
+use mathlib.Core.List.{List, _++_, map}
 use lib.Dec.{eqb}
 use lib.IntN.{ℤ, pos, natAbs}
 use lib.ListN.{length, getD, drop, replicate, length-map, List·getD-append, List·getD-map}
-use lib.Seq.{sets-eq}
 use Rattle.rules.specs.Packing.{Fit}
-use Rattle.rules.specs.Lists.{upTo, padded, every}
-use Rattle.rules.specs.Questions.{firstNo, afterCall}
+use Rattle.rules.specs.Lists.{upTo, padded}
 use Rattle.rules.specs.Record.{Figures, lastYearOf, figuresOf}
-use Rattle.rules.specs.Reading.{openingQuestions, fieldQuestions}
-use Rattle.rules.specs.Triangle.{futureStart, cumulativesPass, paidTo}
-use Rattle.rules.specs.Separation.{separationQuestions}
+use Rattle.rules.specs.Triangle.{futureStart, paidTo}
 use Rattle.rules.specs.Completion.{mostUltimate}
 use Rattle.rules.specs.Ladder.{completedRow, completedAll, completedPass}
-use Rattle.rules.specs.Results.{completedSection, sectionStart, resultCount, mostEntries, separationSections, completionSections, reserveSections, ladderSections, paidIn, developmentIn, sections, resultsOf}
-use Rattle.rules.specs.Engine.{completionQuestions, ratioQuestions, ladderQuestions, laterQuestions, figureQuestions, holdsList, questions, runAnswer, runInto}
+use Rattle.rules.specs.Results.{completedSection, sectionStart, mostEntries, separationSections, completionSections, reserveSections, ladderSections, paidIn, developmentIn, sections, resultsOf}
+use Rattle.rules.specs.Engine.{runAnswer}
 use Rattle.laws.proofs.Rows.{cells-most}
 use Rattle.laws.proofs.Joined.{future-length, future-cells}
-use Rattle.laws.proofs.Questions.{both-zero, yes-said}
 use Rattle.triangle.specs.Bounds.{Increments, Exposures}
 use Rattle.triangle.specs.Columns.{paidsTo}
 use Rattle.triangle.proofs.Reached.{all-paid}
 use Rattle.triangle.proofs.Passed.{paid-most}
-use Rattle.reading.specs.Sound.{Sound}
-use Rattle.reading.proofs.Accepted.{sound-figures}
 use Rattle.wording.specs.Wording.{refusalText}
-use Rattle.results.proofs.Places.{results-length, section-entry, section-inside, length-completed}
+use Rattle.results.proofs.Places.{section-entry, section-inside, length-completed}
 use Rattle.results.proofs.Limits.{most-list, completed-most}
 use Rattle.listing.specs.Starts.{Addable}
 use Rattle.listing.proofs.Known.{known, start-least}
 use Rattle.page.specs.Page.{ladderUltimate, pageOf}
 use Rattle.web_page.specs.Web.{webPageOf}
-use Rattle.reports.specs.Report.{filledBy, paidBy, webRefusal, reportOf, htmlReportOf, reportIn}
+use Rattle.outcomes.proofs.Accepted.{cumulatives, completed, sound, filled}
+use Rattle.outcomes.specs.Outcome.{filledBy}
+use Rattle.reports.specs.Report.{paidBy, webRefusal, reportOf, htmlReportOf, reportIn}
 
 -- the last completed cumulative of year i + 1 stands in the list
 pub ladder-room : (k i p : ℕ) → k < 16 → i < k → p ≡ sectionStart k completedSection → p + futureStart (suc i) + i < mostEntries
@@ -71,59 +66,21 @@ module _ (f : Figures) (rest : List ℤ) (q : completedPass (completedAll (f .k)
       ∙ List·getD-map pos all j 0 in
       rw e (omega (arith, completed-most all q j))
 
--- the questions that an accepted run has passed
+-- of an accepted run
 module _ (s : List ℕ) (ok : runAnswer s mostEntries ≡ 0) where
-  first : (firstNo (openingQuestions s) ≡ 0) × (firstNo ((3, holdsList s mostEntries) ∷ (fieldQuestions s ++ figureQuestions (figuresOf s))) ≡ 0)
-  unfolding runAnswer questions openingQuestions every
-  first = both-zero (openingQuestions s) _ refl ok
-
-  after-room : (firstNo ((3, holdsList s mostEntries) ∷ []) ≡ 0) × (firstNo (fieldQuestions s ++ figureQuestions (figuresOf s)) ≡ 0)
-  unfolding every
-  after-room = both-zero ((3, holdsList s mostEntries) ∷ []) _ refl (first .1)
-
-  later : (firstNo (fieldQuestions s) ≡ 0) × (firstNo (figureQuestions (figuresOf s)) ≡ 0)
-  unfolding fieldQuestions every
-  later = both-zero (fieldQuestions s) _ refl (after-room .1)
-
-  pub opening : firstNo (openingQuestions s) ≡ 0
-  opening = first .0
-
-  pub fields : firstNo (fieldQuestions s) ≡ 0
-  fields = later .0
-
-  pub room : resultCount (figuresOf s .k) ≤ mostEntries
-  unfolding holdsList figuresOf every
-  room = leb-true (resultCount (lastYearOf s)) mostEntries (yes-said 3 ((3, holdsList s mostEntries) ∷ []) refl (after-room .0))
-
-  pub cumulatives : cumulativesPass (figuresOf s .k) (figuresOf s .increments) ≡ true
-  unfolding figureQuestions separationQuestions laterQuestions completionQuestions ratioQuestions ladderQuestions every
-  cumulatives = yes-said 6 (figureQuestions (figuresOf s)) refl (later .1)
-
-  completed : completedPass (completedAll (figuresOf s .k) (paidIn (figuresOf s)) (developmentIn (figuresOf s))) ≡ true
-  unfolding figureQuestions separationQuestions laterQuestions completionQuestions ratioQuestions ladderQuestions every
-  completed = yes-said 14 (figureQuestions (figuresOf s)) refl (later .1)
-
-  pub sound : Fit 8 s → Sound (figuresOf s)
-  sound h = sound-figures s h opening fields
-
   -- what is paid is small
   pub paid-small : Addable (paidBy s)
   unfolding paidIn
-  paid-small i = omega (arith, paid-most (figuresOf s .k) (figuresOf s .increments) cumulatives i)
+  paid-small i = omega (arith, paid-most (figuresOf s .k) (figuresOf s .increments) (cumulatives s ok) i)
 
   -- its figures can be put into rows again, and what is paid comes of that
   pub rows-ready : Fit 8 s → (k : ℕ) (n : List ℕ) (p : List ℤ) → k ≡ figuresOf s .k → n ≡ figuresOf s .exposures → p ≡ figuresOf s .increments
       → (k < 16) × (Exposures k n × Increments p)
-  rows-ready h k n p ek en ep = let good = sound h in rw (ek, en, ep) (good .few, (good .exposures, good .increments))
+  rows-ready h k n p ek en ep = let good = sound s ok h in rw (ek, en, ep) (good .few, (good .exposures, good .increments))
 
   pub paid-is : (k : ℕ) (p : List ℤ) (c : List ℕ) → k ≡ figuresOf s .k → p ≡ figuresOf s .increments → c ≡ paidsTo k p → c ≡ paidBy s
   unfolding paidIn
-  paid-is k p c ek ep e = (rw (ek, ep) at e) ∙ all-paid (figuresOf s .k) (figuresOf s .increments) cumulatives
-
-  -- the list begins with the results
-  pub filled : filledBy s ≡ resultsOf (figuresOf s) ++ drop (0 + length (resultsOf (figuresOf s))) (replicate mostEntries (pos 0))
-  unfolding runInto afterCall
-  filled = rw ok (sets-eq (resultsOf (figuresOf s)) (replicate mostEntries (pos 0)) 0 (omega (arith, room, results-length (figuresOf s))))
+  paid-is k p c ek ep e = (rw (ek, ep) at e) ∙ all-paid (figuresOf s .k) (figuresOf s .increments) (cumulatives s ok)
 
   -- the chain ladder's ultimates are small
   ladder-at : (paid : List ℕ) → Addable paid → (i : ℕ) → i < figuresOf s .k + 1 → ladderUltimate (figuresOf s .k) (filledBy s) paid i ≤ mostUltimate
@@ -133,7 +90,7 @@ module _ (s : List ℕ) (ok : runAnswer s mostEntries ≡ 0) where
       let f = figuresOf s in
       let rest = drop (0 + length (resultsOf f)) (replicate mostEntries (pos 0)) in
       let inside : futureStart (suc i) + i < futureStart (f .k + 1) = omega (arith, start-least (f .k) (suc i) (omega arith)) in
-      rw filled (completed-small f rest completed (futureStart (suc i) + i) inside)
+      rw (filled s ok) (completed-small f rest (completed s ok) (futureStart (suc i) + i) inside)
 
   ladder-small : (paid : List ℕ) → Addable paid → Addable (padded 16 0 (upTo (ladderUltimate (figuresOf s .k) (filledBy s) paid) (figuresOf s .k + 1)))
   ladder-small paid small = most-list mostUltimate 16 (figuresOf s .k + 1) (ladderUltimate (figuresOf s .k) (filledBy s) paid) (ladder-at paid small)

@@ -3,21 +3,16 @@ use Prim.Native.Nat.{ℕ, _+_}
 use mathlib.Core.Bool.{Bool, cond}
 use mathlib.Core.List.{List, _++_}
 use lib.Dec.{eqb}
-use lib.IntN.{ℤ, pos}
-use lib.ListN.{replicate}
 use Rattle.rules.specs.Lists.{upTo, padded}
 use Rattle.rules.specs.Record.{lastYearOf, figuresOf}
 use Rattle.rules.specs.Results.{mostEntries, paidIn}
-use Rattle.rules.specs.Engine.{runAnswer, runInto}
+use Rattle.rules.specs.Engine.{runAnswer}
+use Rattle.outcomes.specs.Outcome.{filledBy}
 use Rattle.wording.specs.Wording.{refusalText}
 use Rattle.page.specs.Page.{ladderUltimate, pageOf}
 use Rattle.web_page.specs.Web.{webStart, webText, webPageOf}
 
--- the list that the engine fills, of as many entries as are enough for every k; and in arrays of sixteen, zero past year k, what is paid and the chain
--- ladder's ultimates by origin year
-abbrev pub filledBy : List ℕ → List ℤ
-filledBy s = runInto s (replicate mostEntries (pos 0))
-
+-- in arrays of sixteen, zero past year k, what is paid and the chain ladder's ultimates by origin year
 abbrev pub paidBy : List ℕ → List ℕ
 paidBy s = paidIn (figuresOf s)
 

@@ -24,7 +24,8 @@ ghost use Rattle.wording.specs.Wording.{refusalText};
 ghost use Rattle.listing.specs.Starts.{Addable};
 ghost use Rattle.page.specs.Page.{ladderUltimate, pageOf};
 ghost use Rattle.web_page.specs.Web.{webPageOf};
-ghost use Rattle.reports.specs.Report.{filledBy, paidBy, webRefusal, reportOf, htmlReportOf, reportIn};
+ghost use Rattle.outcomes.specs.Outcome.{filledBy};
+ghost use Rattle.reports.specs.Report.{paidBy, webRefusal, reportOf, htmlReportOf, reportIn};
 
 // What is paid by origin year goes into the list, from the record of an accepted run.
 fn fill_paid(packed: &[u8], paid: &mut [u64; 16])

@@ -1,11 +1,10 @@
 -- The ratio and the two tables follow one another (put-three). Assumes nothing.
-use mathlib.Core.Path.{refl}
 use native.Mathlib.Omega.{arith}
 use Prim.Native.Nat.{_+_}
 use Rattle.composing.proofs.Puts.{put-three}
-use Rattle.page.specs.Page.{rising, ratioLine, completedTable}
-use Rattle.page.proofs.Lines.{entries-rising}
-use Rattle.page.proofs.Places.{placed}
+use Rattle.rows.proofs.Counts.{entries-rising}
+use Rattle.rows.proofs.Places.{placed}
+use Rattle.page.specs.Page.{ratioLine, completedTable}
 use borrow.Author.Needs.{needs}
 use Rattle.page.proofs.put_ladder.Statement.{statement}
 use Rattle.page.proofs.put_ladder.Tie as tie
@@ -24,17 +23,19 @@ put-development-requires c κs =
 
 put-triangle-requires : tie.Need-put-triangle-requires
 put-triangle-requires c κs =
-    let s = c .before .before .before .before .before .before .before .before .before .before .before in
+    let s = c .before .before .before .before .before .before .before .before .before .before .before .before in
     let at = placed (s .args .places) (s .args .k) (s .pre .0) (s .pre .1) in
-    (s .pre .0, (omega arith, (omega arith, omega (arith, entries-rising (s .args .k + 1) (rising (s .args .k + 1)) refl refl))))
+    rw (c .before .before .rising-from .ensures) (s .pre .0, (omega arith, (omega arith, omega (arith, entries-rising (s .args .k + 1) (s .args .k + 1)))))
 
 returns : tie.Need-returns
 unfolding ratioLine completedTable
 returns c =
-    let s = c .before .before .before .before .before .before .before .before .before .before .before .before .before .before in
+    let s = c .before .before .before .before .before .before .before .before .before .before .before .before .before .before .before in
     let at = placed (s .args .places) (s .args .k) (s .pre .0) (s .pre .1) .at in
-    let b = c .before .before .before .before .before .before .before in
-    put-three (rw (at .ratio) at (b .before .before .before .before .put-ratio .ensures)) (b .put-development .ensures) (rw (at .completed) at (c .before .before .put-triangle .ensures))
+    put-three
+    (rw (at .ratio) at (c .before .before .before .before .before .before .before .before .before .before .before .before .put-ratio .ensures))
+    (c .before .before .before .before .before .before .before .before .put-development .ensures)
+    (rw (at .completed, c .before .before .before .before .before .rising-from .ensures) at (c .before .before .put-triangle .ensures))
 
 pub put-ladder-spec : {M : Type 1} → statement M
 put-ladder-spec =
@@ -43,6 +44,7 @@ put-ladder-spec =
     put-ratio-requires
     put-development-requires
     (λ c. search needs)
+    (λ c κs. search needs)
     (λ c. search needs)
     put-triangle-requires
     (λ c. search needs)

@@ -3,9 +3,9 @@ use native.Mathlib.Omega.{arith}
 use mathlib.Core.Path.{_≡_, refl, _∙_}
 use Rattle.rules.specs.Packing.{Fit}
 use Rattle.rules.specs.Record.{figuresOf}
-use Rattle.reading.proofs.Rows.{years-known, opening-yes}
 use Rattle.reading.proofs.Accepted.{Filled, filled}
-use Rattle.reports.proofs.Accepted.{opening, fields, rows-ready, paid-is, paid-small}
+use Rattle.outcomes.proofs.Accepted.{opening, fields, some}
+use Rattle.reports.proofs.Accepted.{rows-ready, paid-is, paid-small}
 use Rattle.reports.proofs.fill_paid.Statement.{statement}
 use Rattle.reports.proofs.fill_paid.Tie as tie
 
@@ -34,7 +34,7 @@ last-year-of-requires : tie.Need-last-year-of-requires
 last-year-of-requires c κs =
     let s = start c in
     let packed = s .args .packed .now in
-    years-known packed (opening-yes packed (opening packed (s .pre .0)) .0) .0
+    some packed (s .pre .0)
 
 year-is : (c : tie.After-last-year-of) → c .last-year-of .result ≡ figuresOf (start (c .before) .args .packed .now) .k
 unfolding figuresOf

@@ -1,0 +1,30 @@
+-- The heading and the groups of sections follow one another (put-five). Assumes nothing.
+use Rattle.composing.proofs.Puts.{put-five}
+use Rattle.csv_text.specs.Csv.{csvOf}
+use borrow.Author.Needs.{needs}
+use Rattle.csv_text.proofs.put_csv.Statement.{statement}
+use Rattle.csv_text.proofs.put_csv.Tie as tie
+
+returns : tie.Need-returns
+unfolding csvOf
+returns c =
+    put-five
+    (c .before .before .before .before .before .before .before .before .before .before .before .before .before .before .before .before .before .before .put-bytes .ensures)
+    (c .before .before .before .before .before .before .before .before .before .before .before .before .before .before .put-separation .ensures)
+    (c .before .before .before .before .before .before .before .before .before .before .put-completion .ensures)
+    (c .before .before .before .before .before .before .put-expense .ensures)
+    (c .before .before .put-ladder .ensures)
+
+pub put-csv-spec : {M : Type 1} → statement M
+put-csv-spec =
+    tie.close
+    (tie.spec
+    (λ c κs. search needs)
+    (λ c. search needs)
+    (λ c κs. search needs)
+    (λ c κs. search needs)
+    (λ c κs. search needs)
+    (λ c κs. search needs)
+    (λ c κs. search needs)
+    (λ c. search needs)
+    returns)

@@ -1,0 +1,193 @@
+// The result list as comma-separated values in a lent buffer.
+use composing::put_bytes;
+use csv_rows::by_itself;
+use csv_rows::by_origin;
+use csv_rows::by_year;
+use csv_rows::future_cells;
+use csv_rows::given_cells;
+use csv_rows::put_section;
+use listing::Starts;
+use listing::starts_of;
+use rules::MOST_ENTRIES;
+ghost use mathlib.Core.Path.{_≡_};
+ghost use Prim.Native.Nat.{_<_};
+ghost use Rattle.composing.specs.Text.{Put};
+ghost use Rattle.listing.specs.Starts.{startsOf};
+ghost use Rattle.csv_text.specs.Csv.{separationLines, completionLines, expenseLines, ladderLines, csvOf};
+
+// The averages, the shares and the levels.
+fn put_separation(
+    out: &mut [u8],
+    at: usize,
+    list: &[i64; MOST_ENTRIES],
+    k: usize,
+    places: Starts,
+) -> usize
+    requires { ⌜ (k < 16) × (places ≡ startsOf k) ⌝ }
+    ensures { λ r. ⌜ Put (now (out .entry)) (now (out .exit)) at r (separationLines k (now (list .entry))) ⌝ }
+{
+    let years = by_year(0, k + 1);
+    let a = put_section(
+        out,
+        at,
+        list,
+        b"average",
+        b"hundredths a claim",
+        given_cells(k),
+        0,
+    );
+    let b = put_section(out, a, list, b"share", b"billionths", years, places.shares);
+    put_section(
+        out,
+        b,
+        list,
+        b"level",
+        b"hundredths a claim",
+        years,
+        places.levels,
+    )
+}
+
+// The future levels, the payments, the provisions and their total.
+fn put_completion(
+    out: &mut [u8],
+    at: usize,
+    list: &[i64; MOST_ENTRIES],
+    k: usize,
+    places: Starts,
+) -> usize
+    requires { ⌜ (k < 16) × (places ≡ startsOf k) ⌝ }
+    ensures { λ r. ⌜ Put (now (out .entry)) (now (out .exit)) at r (completionLines k (now (list .entry))) ⌝ }
+{
+    let a = put_section(
+        out,
+        at,
+        list,
+        b"future level",
+        b"hundredths a claim",
+        by_year(k + 1, k),
+        places.ahead,
+    );
+    let b = put_section(
+        out,
+        a,
+        list,
+        b"payment",
+        b"currency units",
+        future_cells(k),
+        places.payments,
+    );
+    let c = put_section(
+        out,
+        b,
+        list,
+        b"provision",
+        b"currency units",
+        by_origin(k),
+        places.provisions,
+    );
+    put_section(
+        out,
+        c,
+        list,
+        b"total provision",
+        b"currency units",
+        by_itself(),
+        places.provision,
+    )
+}
+
+// What is not reported, the ULAE reserves, their total and the ratio.
+fn put_expense(
+    out: &mut [u8],
+    at: usize,
+    list: &[i64; MOST_ENTRIES],
+    k: usize,
+    places: Starts,
+) -> usize
+    requires { ⌜ (k < 16) × (places ≡ startsOf k) ⌝ }
+    ensures { λ r. ⌜ Put (now (out .entry)) (now (out .exit)) at r (expenseLines k (now (list .entry))) ⌝ }
+{
+    let origins = by_origin(k);
+    let single = by_itself();
+    let a = put_section(
+        out,
+        at,
+        list,
+        b"not reported",
+        b"currency units",
+        origins,
+        places.unreported,
+    );
+    let b = put_section(
+        out,
+        a,
+        list,
+        b"ulae reserve",
+        b"currency units",
+        origins,
+        places.reserves,
+    );
+    let c = put_section(
+        out,
+        b,
+        list,
+        b"total ulae reserve",
+        b"currency units",
+        single,
+        places.reserve,
+    );
+    put_section(
+        out,
+        c,
+        list,
+        b"ulae ratio",
+        b"millionths",
+        single,
+        places.ratio,
+    )
+}
+
+// The development factors and the completed cumulatives.
+fn put_ladder(
+    out: &mut [u8],
+    at: usize,
+    list: &[i64; MOST_ENTRIES],
+    k: usize,
+    places: Starts,
+) -> usize
+    requires { ⌜ (k < 16) × (places ≡ startsOf k) ⌝ }
+    ensures { λ r. ⌜ Put (now (out .entry)) (now (out .exit)) at r (ladderLines k (now (list .entry))) ⌝ }
+{
+    let a = put_section(
+        out,
+        at,
+        list,
+        b"development factor",
+        b"millionths",
+        by_year(0, k),
+        places.factors,
+    );
+    put_section(
+        out,
+        a,
+        list,
+        b"completed cumulative",
+        b"currency units",
+        future_cells(k),
+        places.completed,
+    )
+}
+
+// The whole list, from the start of the buffer on.
+pub fn put_csv(out: &mut [u8], list: &[i64; MOST_ENTRIES], k: usize) -> usize
+    requires { ⌜ k < 16 ⌝ }
+    ensures { λ r. ⌜ Put (now (out .entry)) (now (out .exit)) 0 r (csvOf k (now (list .entry))) ⌝ }
+{
+    let places = starts_of(k);
+    let a = put_bytes(out, 0, b"section,origin year,year,value,unit\n");
+    let b = put_separation(out, a, list, k, places);
+    let c = put_completion(out, b, list, k, places);
+    let d = put_expense(out, c, list, k, places);
+    put_ladder(out, d, list, k, places)
+}

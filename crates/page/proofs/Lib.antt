@@ -1,3 +1,0 @@
-pub mod Amounts
-pub mod Lines
-pub mod Places
