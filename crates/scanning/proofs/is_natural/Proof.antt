@@ -8,7 +8,7 @@ use lib.ListN.{length, take}
 use lib.Seq.{take-length}
 use Rattle.rules.specs.Lists.{every}
 use Rattle.laws.proofs.Lists.{every-more, every-fails}
-use Rattle.scanning.specs.Scan.{isDigit}
+use Rattle.scanning.specs.Numbers.{isDigit}
 use Rattle.scanning.proofs.Numbers.{natural-is, natural-none}
 use borrow.Author.Needs.{needs}
 use Rattle.scanning.proofs.is_natural.Statement.{statement}

@@ -3,7 +3,7 @@ use mathlib.Core.Path.{_≡_, refl}
 use Prim.Native.Nat.{_-_, _≤_, _<_, _^_}
 use native.Mathlib.Omega.{arith}
 use lib.ListN.{length, drop}
-use Rattle.scanning.specs.Scan.{sizeFrom}
+use Rattle.scanning.specs.Numbers.{sizeFrom}
 use Rattle.scanning.proofs.Numbers.{size-more, size-end}
 use borrow.Author.Needs.{needs}
 use Rattle.scanning.proofs.size_of_digits.Statement.{statement}
