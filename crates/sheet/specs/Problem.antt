@@ -1,40 +1,50 @@
--- What is wrong with a text of figures, in words. Assumes nothing.
-use Prim.Native.Nat.{ℕ}
+-- What is wrong with a text of figures, in words (docs/SHEET.md). Assumes nothing.
+use Prim.Native.Nat.{ℕ, suc}
 use mathlib.Core.Bool.{cond}
 use mathlib.Core.List.{List, [], _∷_, _++_}
 use lib.Dec.{eqb}
-use lib.ListN.{getD}
-use Rattle.composing.specs.Text.{ascii, decimal}
-use Rattle.sheet.specs.Sheet.{Due, due, dueLines}
+use lib.ListN.{getD, length, take}
+use Rattle.composing.specs.Text.{ascii, decimal, integer}
+use Rattle.sheet.specs.declared.Due.{Due}
+use Rattle.sheet.specs.Table.{labelDue, dueAt}
+use Rattle.sheet.specs.Sheet.{Typed, lastYearIn}
 
--- the line due at place i of the lines for the years 0 to k; past them nothing is due
-unfoldable pub dueAt : ℕ → ℕ → Due
-dueAt k i = getD (dueLines k) i (due "" 0)
+-- a word of the text, in quotes
+abbrev pub named : List ℕ → List ℕ
+named w = ascii "`" ++ (w ++ ascii "`")
 
--- so many numbers
-unfoldable pub numbersText : ℕ → List ℕ
-numbersText n = decimal n ++ cond (eqb n 1) (ascii " number") (ascii " numbers")
+-- a cell, which may be empty
+unfoldable pub cellText : List ℕ → List ℕ
+cellText w = cond (eqb (length w) 0) (ascii "an empty cell") (named w)
 
--- for a number that no problem has
-abbrev pub otherText : List ℕ
-otherText = ascii "no problem has this number"
+-- number c of the line, counted from 0, and what is due there
+unfoldable pub numberText : Due → ℕ → List ℕ → List ℕ
+numberText d c w =
+    ascii "number " ++ (decimal (suc c) ++ (ascii " of " ++ (named (labelDue d) ++ (ascii " is " ++ (cellText w
+    ++ (ascii ", and a whole number from " ++ (integer (d .least) ++ (ascii " to " ++ (integer (d .most) ++ ascii " is due")))))))))
+
+-- how many numbers the line takes, and how many stand there
+unfoldable pub takesText : ℕ → List ℕ
+takesText n = decimal n ++ cond (eqb n 1) (ascii " number, and ") (ascii " numbers, and ")
+
+unfoldable pub standText : ℕ → List ℕ
+standText n = decimal n ++ cond (eqb n 1) (ascii " stands there") (ascii " stand there")
 
 -- the words of the problems 1 to 6 of `readSheet` where d is due
-unfoldable pub problemWords : Due → List (List ℕ)
-problemWords d =
-    otherText
-    ∷ (ascii "a line that starts with `" ++ (d .label ++ ascii "` is due"))
-    ∷ ascii "a word is not a whole number (only paid amounts may be below zero)"
-    ∷ (ascii "`" ++ (d .label ++ (ascii "` takes " ++ numbersText (d .count))))
-    ∷ (ascii "the text ends where `" ++ (d .label ++ ascii "` is due"))
-    ∷ ascii "there is more than the figures call for"
-    ∷ ascii "k is not from 1 to 15"
+unfoldable pub problemWords : Due → ℕ → List ℕ → List (List ℕ)
+problemWords d c w =
+    ascii "no problem has this number"
+    ∷ (ascii "a line that starts with " ++ (named (labelDue d) ++ (ascii " is due, not with " ++ named w)))
+    ∷ numberText d c w
+    ∷ (named (labelDue d) ++ (ascii " takes " ++ (takesText (d .count) ++ standText c)))
+    ∷ numberText d c w
+    ∷ (ascii "the text ends where " ++ (named (labelDue d) ++ ascii " is due"))
+    ∷ (named w ++ ascii " stands where the text should end: there is more than the figures call for")
     ∷ []
 
--- the words of one of them
-unfoldable pub problemWord : ℕ → Due → List ℕ
-problemWord problem d = getD (problemWords d) problem otherText
-
--- a line of words for a problem in a line of the text, where the line at this place of the lines for the years 0 to k was due
-unfoldable pub problemText : ℕ → ℕ → ℕ → ℕ → List ℕ
-problemText problem line place k = ascii "line " ++ (decimal line ++ (ascii ": " ++ (problemWord problem (dueAt k place) ++ ascii "\n")))
+-- what is wrong, in a line of words; of the word the first 20 bytes
+unfoldable pub problemText : Typed → List ℕ
+problemText t =
+    ascii "line "
+    ++ (decimal (t .line)
+    ++ (ascii ": " ++ (getD (problemWords (dueAt (lastYearIn (t .numbers)) (t .place)) (t .cell) (take 20 (t .word))) (t .problem) [] ++ ascii "\n")))
