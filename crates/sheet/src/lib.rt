@@ -102,7 +102,10 @@ pub fn put_label(out: &mut [u8], at: usize, row: usize) -> usize
     put_bytes(
         out,
         at,
-        cell_at(b"labels k exposures paid indices reporting weight ulae", row),
+        cell_at(
+            b"labels k exposures paid indices reporting weight ulae",
+            row,
+        ),
     )
 }
 
