@@ -11,6 +11,7 @@ use lib.ListN.{length, getD, take, drop}
 use Rattle.rules.specs.Lists.{every}
 use Rattle.composing.specs.Text.{ascii}
 use Rattle.scanning.specs.Parts.{among, fails, before}
+use Rattle.scanning.proofs.Parts.{before-most}
 use Rattle.cells.specs.Cells.{unreturned, decides, separators, unspaced}
 use Rattle.cells.specs.Walk.{isOver}
 
@@ -38,6 +39,19 @@ every-before p (x ∷ xs) = go (p x) (every-before p xs)
         → eqb (cond (not t) 0 (suc (before (fails p) xs))) (suc (length xs)) ≡ t && every p xs
     go true h = rw (compare·suc-suc) h
     go false h = ne-eqb 0 (suc (length xs)) (λ e. omega arith)
+
+-- how many there are, and whether one fails
+pub before-all : {A : Type 0} (xs : List A) → before (fails (λ (x : A). true)) xs ≡ length xs
+unfolding before
+before-all [] = refl
+before-all (x ∷ xs) = ap suc (before-all xs)
+
+module _ {A : Type 0} (p : A → Bool) (xs : List A) where
+  pub every-yes : length xs ≤ before (fails p) xs → every p xs ≡ true
+  every-yes h = sym (every-before p xs) ∙ eq-eqb (before (fails p) xs) (length xs) (omega (arith, before-most (fails p) xs))
+
+  pub every-no : before (fails p) xs < length xs → every p xs ≡ false
+  every-no h = sym (every-before p xs) ∙ ne-eqb (before (fails p) xs) (length xs) (λ e. omega arith)
 
 pub every-is : (set xs : List ℕ) (n : ℕ) → n ≡ before (fails (among set)) xs → eqb n (length xs) ≡ every (among set) xs
 every-is set xs n e = rw e (every-before (among set) xs)

@@ -10,6 +10,7 @@ use lib.ListN.{length, getD, take, drop, length-drop}
 use Rattle.rules.specs.Lists.{every}
 use Rattle.composing.specs.Text.{ascii}
 use Rattle.scanning.specs.Parts.{among, fails, before, until, from, past, onto, pieces}
+use Rattle.scanning.proofs.Parts.{until-length}
 use Rattle.cells.specs.Cells.{decides, separators, unspaced, trimmed, unquoted, cellOf, filled, used, cellsBy, cellsOf}
 use Rattle.cells.specs.Walk.{decider, cellsText, isOver, fromCell, firstCell, afterCell}
 
@@ -29,6 +30,25 @@ module _ (p : ℕ → Bool) where
       go true h = refl
       go false h = rw h
 
+  after-last : (xs : List ℕ) → length xs ≤ before p xs → after xs ≡ []
+  unfolding before after
+  after-last [] h = refl
+  after-last (b ∷ bs) h = go (p b) (after-last bs) h
+    where
+      go : (t : Bool) → (length bs ≤ before p bs → after bs ≡ []) → suc (length bs) ≤ cond t 0 (suc (before p bs)) → cond t (pieces p bs) (after bs) ≡ []
+      go true f k = absurd (omega arith)
+      go false f k = f (omega arith)
+
+  after-more : (xs : List ℕ) → before p xs < length xs → after xs ≡ pieces p (past p xs)
+  unfolding before after past
+  after-more [] h = absurd (omega arith)
+  after-more (b ∷ bs) h = go (p b) (after-more bs) h
+    where
+      go : (t : Bool) → (before p bs < length bs → after bs ≡ pieces p (past p bs)) → cond t 0 (suc (before p bs)) < suc (length bs)
+          → cond t (pieces p bs) (after bs) ≡ pieces p (drop (suc (cond t 0 (suc (before p bs)))) (b ∷ bs))
+      go true f k = refl
+      go false f k = f (omega arith)
+
   -- those of what stands past it, but where an empty piece does not count
   pub after-past : {X : Type 0} (f : List (List ℕ) → X) → f [] ≡ f ([] ∷ []) → (xs : List ℕ) → f (after xs) ≡ f (pieces p (past p xs))
   unfolding pieces before after past
@@ -39,6 +59,17 @@ module _ (p : ℕ → Bool) where
           → f (cond t (pieces p bs) (after bs)) ≡ f (pieces p (drop (suc (cond t 0 (suc (before p bs)))) (b ∷ bs)))
       go true h = refl
       go false h = h
+
+  -- a text whose first piece is all of it, and another
+  pub pieces-last : (xs : List ℕ) → length xs ≤ length (until p xs) → pieces p xs ≡ until p xs ∷ []
+  pieces-last xs h = pieces-first xs ∙ ap (λ (l : List (List ℕ)). until p xs ∷ l) (after-last xs (rw (until-length p xs) at h))
+
+  pub pieces-more : (xs : List ℕ) → length (until p xs) < length xs → pieces p xs ≡ until p xs ∷ pieces p (past p xs)
+  pieces-more xs h = pieces-first xs ∙ ap (λ (l : List (List ℕ)). until p xs ∷ l) (after-more xs (rw (until-length p xs) at h))
+
+  pub past-shorter : (xs : List ℕ) → length (until p xs) < length xs → length (past p xs) < length xs
+  unfolding past
+  past-shorter xs h = omega (arith, length-drop (suc (before p xs)) xs)
 
   -- separators in front make no filled piece, and then one comes first
   filled-from : (xs : List ℕ) → filled (pieces p xs) ≡ filled (pieces p (from (fails p) xs))

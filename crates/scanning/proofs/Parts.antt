@@ -7,20 +7,27 @@ use native.Mathlib.Numerals.{add-one}
 use native.Mathlib.Omega.{arith}
 use borrow.Author.Tests.{eq-eqb, ne-eqb}
 use lib.ListN.{length, getD, take, drop, length-drop, drop-of-length-le}
-use lib.Seq.{drop-cons, drop-length, take-all}
+use lib.Seq.{drop-cons, drop-length, take-all, length-take-le}
 use Rattle.scanning.specs.Parts.{among, before, until, from, past}
 
-module _ {A : Type 0} (p : A → Bool) (d : A) where
-  -- it is at most the length
-  pub before-most : (xs : List A) → before p xs ≤ length xs
-  unfolding before
-  before-most [] = zero-le
-  before-most (b ∷ bs) = go (p b) (before-most bs)
-    where
-      go : (t : Bool) → before p bs ≤ length bs → cond t 0 (suc (before p bs)) ≤ suc (length bs)
-      go true h = zero-le
-      go false h = omega arith
+-- it is at most the length
+pub before-most : {A : Type 0} (p : A → Bool) (xs : List A) → before p xs ≤ length xs
+unfolding before
+before-most p [] = zero-le
+before-most p (b ∷ bs) = go (p b) (before-most p bs)
+  where
+    go : (t : Bool) → before p bs ≤ length bs → cond t 0 (suc (before p bs)) ≤ suc (length bs)
+    go true h = zero-le
+    go false h = omega arith
 
+pub until-length : (p : ℕ → Bool) (xs : List ℕ) → length (until p xs) ≡ before p xs
+unfolding until
+until-length p xs = length-take-le (before p xs) xs (before-most p xs)
+
+pub until-most : (p : ℕ → Bool) (xs : List ℕ) → length (until p xs) ≤ length xs
+until-most p xs = omega (arith, until-length p xs, before-most p xs)
+
+module _ {A : Type 0} (p : A → Bool) (d : A) where
   -- the entries before place i passed, and entry i is taken
   pub before-found : (xs : List A) (i : ℕ) → i < length xs → before p xs ≡ i + before p (drop i xs) → p (getD xs i d) ≡ true → i ≡ before p xs
   unfolding before
