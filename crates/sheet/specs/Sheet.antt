@@ -57,7 +57,7 @@ sameText [] (y ∷ ys) = false
 sameText (x ∷ xs) [] = false
 sameText (x ∷ xs) (y ∷ ys) = eqb x y && sameText xs ys
 
--- a problem, and how many cells come before the one that it is about
+-- a problem, and the number of the cell that it is about, counted from 1
 abbrev pub wrong : ℕ → ℕ → Wrong
 wrong p c = record { problem = p; cell = c }
 
@@ -69,14 +69,14 @@ wrongIn d line =
     cond (sameText (labelOf line) (labelDue d))
     (cond (every isNumber cs)
     (cond (eqb (length cs) (d .count))
-    (cond (every (isWithin (d .least) (d .most)) cs) (wrong 0 0) (wrong 4 (before (fails (isWithin (d .least) (d .most))) cs)))
+    (cond (every (isWithin (d .least) (d .most)) cs) (wrong 0 0) (wrong 4 (suc (before (fails (isWithin (d .least) (d .most))) cs))))
     (wrong 3 (length cs)))
-    (wrong 2 (before (fails isNumber) cs)))
+    (wrong 2 (suc (before (fails isNumber) cs))))
     (wrong 1 0)
 
 -- the word that a problem is about: the label, or the cell
 unfoldable pub wordIn : Wrong → List ℕ → List ℕ
-wordIn w line = cond (eqb (w .problem) 1) (labelOf line) (cond (eqb (w .problem) 3) [] (getD (cellsOf line) (w .cell) []))
+wordIn w line = cond (eqb (w .problem) 1) (labelOf line) (cond (eqb (w .problem) 3) [] (getD (cellsOf line) (w .cell - 1) []))
 
 -- what reading comes to: a problem (0 for none), the line of the text, the place of the line due, the cell and the word that the problem is
 -- about, and the numbers of the lines that were as due

@@ -17,7 +17,7 @@ pub struct Due {
     pub most: i64,
 }
 
-// What is wrong with a line, and how many cells come before the one that it is about.
+// What is wrong with a line, and the number of the cell that it is about.
 pub struct Wrong {
     pub problem: u64,
     pub cell: usize,

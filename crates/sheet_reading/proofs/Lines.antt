@@ -39,9 +39,9 @@ module _ (d : Due) (line : List ℕ) where
     count = sym (e ∙ before-all (cellsOf line))
 
     -- a cell that is no number
-    pub wrong-number : a < n → wrong 2 a ≡ wrongIn d line
+    pub wrong-number : a < n → wrong 2 (a + 1) ≡ wrongIn d line
     unfolding wrongIn
-    wrong-number h = rw (same, every-no isNumber (cellsOf line) (omega (arith, count)), f)
+    wrong-number h = rw (same, every-no isNumber (cellsOf line) (omega (arith, count)), add-one a, f)
 
     module _ (numbers : n ≤ a) where
       all : every isNumber (cellsOf line) ≡ true
@@ -54,9 +54,9 @@ module _ (d : Due) (line : List ℕ) where
 
       module _ (right : n ≡ d .count) (b : ℕ) (g : b ≡ before (fails (isWithin (d .least) (d .most))) (cellsOf line)) where
         -- a number out of its range
-        pub wrong-range : b < n → wrong 4 b ≡ wrongIn d line
+        pub wrong-range : b < n → wrong 4 (b + 1) ≡ wrongIn d line
         unfolding wrongIn
-        wrong-range h = rw (same, all, count, eq-eqb n (d .count) right, every-no (isWithin (d .least) (d .most)) (cellsOf line) (omega (arith, count)), g)
+        wrong-range h = rw (same, all, count, eq-eqb n (d .count) right, every-no (isWithin (d .least) (d .most)) (cellsOf line) (omega (arith, count)), add-one b, g)
 
         -- nothing
         pub wrong-none : n ≤ b → wrong 0 0 ≡ wrongIn d line

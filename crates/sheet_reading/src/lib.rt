@@ -17,7 +17,7 @@ use sheet::due_at;
 use sheet::has_label;
 ghost use mathlib.Core.Path.{_≡_};
 ghost use mathlib.Core.List.{List, []};
-ghost use Prim.Native.Nat.{ℕ, _+_, _<_, _≤_, _^_};
+ghost use Prim.Native.Nat.{ℕ, _+_, _-_, _<_, _≤_, _^_};
 ghost use lib.ListN.{length, getD, take};
 ghost use lib.Seq.{sets};
 ghost use Rattle.rules.specs.Lists.{upTo};
@@ -44,7 +44,7 @@ fn wrong_in(line: &[u8], d: Due) -> Wrong
     if a < n {
         return Wrong {
             problem: 2,
-            cell: a,
+            cell: a + 1,
         };
     }
     if n != d.count {
@@ -57,13 +57,19 @@ fn wrong_in(line: &[u8], d: Due) -> Wrong
     if b < n {
         return Wrong {
             problem: 4,
-            cell: b,
+            cell: b + 1,
         };
     }
     Wrong {
         problem: 0,
         cell: 0,
     }
+}
+
+fn one_less(n: usize) -> usize
+    ensures { λ r. ⌜ r ≡ n - 1 ⌝ }
+{
+    if n > 0 { n - 1 } else { 0 }
 }
 
 // The word that a problem is about.
@@ -76,7 +82,7 @@ fn put_word(word: &mut [u8], line: &[u8], w: Wrong) -> usize
     if w.problem == 3 {
         return 0;
     }
-    put_bytes(word, 0, cell_at(line, w.cell))
+    put_bytes(word, 0, cell_at(line, one_less(w.cell)))
 }
 
 // k, the first of the numbers so far, or 0.
@@ -156,8 +162,8 @@ fn read_line(line: &[u8], f: Found, list: &mut [i64], word: &mut [u8]) -> Found
 // The end of a text, after what was found so far.
 fn read_end(f: Found, list: &[i64]) -> Found
     requires { ⌜ (length (now list) ≡ mostFields) × Good (take (f .count) (now list)) (f .place) (f .count) ⌝ }
-    ensures { λ r. ⌜ (r .word ≡ 0) × ((w₀ : List ℕ) → Reads (readLines (fine (f .line) (f .place) (take (f .count) (now (list .entry)))) [])
-        r (now (list .entry)) (now (list .entry)) w₀ w₀) ⌝ }
+    ensures { λ r. ⌜ ((w : List ℕ) → Reads (readLines (fine (f .line) (f .place) (take (f .count) (now (list .entry)))) [])
+        r (now (list .entry)) (now (list .entry)) w w) ⌝ }
 {
     let k = last_year(list, f.count) as usize;
     let mut problem: u64 = 5;

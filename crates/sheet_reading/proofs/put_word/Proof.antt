@@ -20,8 +20,8 @@ returns-2 c =
 returns-3 : tie.Need-returns-3
 unfolding wordIn
 returns-3 c =
-    let p = c .before .before .before .before .before .before .before .before .before .before .before .args .w .problem in
-    rw (ne-eqb p 1 (c .before .before .before .before .before .before .before .if1 .left), ne-eqb p 3 (c .before .before .before .before .before .if2 .left), ← c .before .before .before .cell-at .ensures) (c .before .before .put-bytes2 .ensures)
+    let p = c .before .before .before .before .before .before .before .before .before .before .before .before .args .w .problem in
+    rw (ne-eqb p 1 (c .before .before .before .before .before .before .before .before .if1 .left), ne-eqb p 3 (c .before .before .before .before .before .before .if2 .left), ← c .before .before .before .before .one-less .ensures, ← c .before .before .before .cell-at .ensures) (c .before .before .put-bytes2 .ensures)
 
 pub put-word-spec : {M : Type 1} → statement M
 put-word-spec =
@@ -32,6 +32,7 @@ put-word-spec =
     (λ c. search needs)
     returns
     returns-2
+    (λ c κs. search needs)
     (λ c κs. search needs)
     (λ c κs. search needs)
     (λ c. search needs)

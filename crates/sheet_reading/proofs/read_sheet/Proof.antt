@@ -80,7 +80,7 @@ returns-2 c =
     let d = c .before .before .before .before .before .before .before .before in
     let rest = d .before .before .before .before .before .before .loop .rest .now in
     let all : length rest ≤ length (until p rest) = omega (arith, ap length (d .before .before .before .before .until .ensures), c .before .before .before .if2 .taken) in
-    state-end _ _ _ _ _ _ _ (next d [] (pieces-last p rest all) (c .before .before .before .before .if1 .left)) (c .read-end .ensures .1 _)
+    state-end _ _ _ _ _ _ _ (next d [] (pieces-last p rest all) (c .before .before .before .before .if1 .left)) (c .read-end .ensures _)
 
 loop-less : tie.Need-loop-less Inv-loop μ-loop
 loop-less c =

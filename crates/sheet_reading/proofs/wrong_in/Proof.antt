@@ -53,8 +53,10 @@ wrong-in-spec =
     returns
     (λ c κs. search needs)
     (λ c κs. search needs)
+    (λ c. search needs)
     returns-2
     returns-3
     (λ c κs. search needs)
+    (λ c. search needs)
     returns-4
     returns-5)
