@@ -40,8 +40,8 @@ fn put_refused(out: &mut [u8], problem: u64, place: usize) -> usize
 }
 
 // What was found wrong, in words.
-fn put_wrong(out: &mut [u8], f: Found, list: &[i64], word: &[u8; 20]) -> usize
-    requires { ⌜ (f .count ≤ length (now list)) × ((lastYearIn (take (f .count) (now list)) < 16) × (f .word ≤ 20)) ⌝ }
+fn put_wrong(out: &mut [u8], f: Found, list: &[i64], word: &[u8]) -> usize
+    requires { ⌜ (f .count ≤ length (now list)) × ((lastYearIn (take (f .count) (now list)) < 16) × (f .word ≤ length (now word))) ⌝ }
     ensures { λ r. ⌜ Put (now (out .entry)) (now (out .exit)) 0 r
         (refusedText (f .problem) (f .place)
         ++ problemLine (f .problem) (f .line) (dueAt (lastYearIn (take (f .count) (now (list .entry)))) (f .place)) (f .cell) (take (f .word) (now (word .entry)))) ⌝ }

@@ -88,9 +88,20 @@ good-more (v ∷ vs) (suc i) m line g left a =
       some = λ h. g .some (omega arith);
     }
 
--- what is known of a reading: k is below 16, and where nothing is wrong it is from 1, and there are as many numbers as it calls for
+-- room for the numbers of the next line, and no more than 201 so far
+pub good-room : (vs : List ℤ) (i m : ℕ) → Good vs i m → (i ≡ lineCount (lastYearIn vs) → ⊥) → m + dueAt (lastYearIn vs) i .count ≤ mostFields
+good-room vs i m g h = omega (arith, g .start, start-room (lastYearIn vs) i (g .few) (omega (arith, g .within)))
+
+pub good-most : (vs : List ℤ) (i m : ℕ) → Good vs i m → m ≤ mostFields
+unfolding startAt
+good-most vs i m g =
+    let k = lastYearIn vs in
+    omega (arith, g .start, total-part (λ j. dueAt k j .count) i (lineCount k) (g .within), start-all k, cells-most k (g .few))
+
+-- what is known of a reading: k is below 16, there are at most 201 numbers, and where nothing is wrong it is from 1, and there are as many numbers as it calls for
 pub record Known (t : Typed) : Type 0 where
   pub few : lastYearIn (t .numbers) < 16
+  pub most : length (t .numbers) ≤ mostFields
   pub some : t .problem ≡ 0 → 1 ≤ lastYearIn (t .numbers)
   pub count : t .problem ≡ 0 → length (t .numbers) ≡ cells (lastYearIn (t .numbers)) + 4 * lastYearIn (t .numbers) + 5
 
@@ -100,13 +111,14 @@ pub record Step (n : ℕ) (vs : List ℤ) (t : Typed) : Type 0 where
   pub new : List ℤ
   pub added : t .numbers ≡ vs ++ new
   pub few : lastYearIn (t .numbers) < 16
+  pub most : length (t .numbers) ≤ mostFields
   pub plain : t .problem ≡ 0 → t ≡ fine (t .line) (t .place) (t .numbers)
   pub good : t .problem ≡ 0 → Good (t .numbers) (t .place) (length (t .numbers))
 
 -- nothing is added
 step-none : (p n i c : ℕ) (w : List ℕ) (vs : List ℤ) → Good vs i (length vs) → (p ≡ 0 → ⊥) → Step n vs (typed p n i c w vs)
 step-none p n i c w vs g h =
-    record { line = refl; new = []; added = sym (append-nil vs); few = g .few; plain = λ e. absurd (h e); good = λ e. absurd (h e) }
+    record { line = refl; new = []; added = sym (append-nil vs); few = g .few; most = good-most vs i (length vs) g; plain = λ e. absurd (h e); good = λ e. absurd (h e) }
 
 pub line-step : (n i : ℕ) (vs : List ℤ) (line : List ℕ) → Good vs i (length vs) → Step n vs (readLine n i vs line)
 unfolding readLine
@@ -117,7 +129,7 @@ line-step n i vs line g =
         → Step n vs (cond a (fine n i vs) (cond b (typed 6 n i 0 (labelOf line) vs)
         (cond c (fine n (suc i) (vs ++ map wholeOf (cellsOf line)))
         (typed (wrongIn (dueAt (lastYearIn vs) i) line .problem) n i (wrongIn (dueAt (lastYearIn vs) i) line .cell) (wordIn (wrongIn (dueAt (lastYearIn vs) i) line) line) vs))))
-    go true b e c f = record { line = refl; new = []; added = sym (append-nil vs); few = g .few; plain = λ h. refl; good = λ h. g }
+    go true b e c f = record { line = refl; new = []; added = sym (append-nil vs); few = g .few; most = good-most vs i (length vs) g; plain = λ h. refl; good = λ h. g }
     go false true e c f = step-none 6 n i 0 (labelOf line) vs g (λ h. omega arith)
     go false false e true f =
         let due = as-due (dueAt (lastYearIn vs) i) line (eqb-true _ 0 f) in
@@ -127,6 +139,7 @@ line-step n i vs line g =
           new = map wholeOf (cellsOf line);
           added = refl;
           few = more .few;
+          most = rw (more .size) (good-most _ _ _ more);
           plain = λ h. refl;
           good = λ h. record { size = refl; start = more .size ∙ more .start; within = more .within; few = more .few; some = more .some };
         }
@@ -142,10 +155,11 @@ lines-known t [] h g = go (eqb (t .place) (lineCount (lastYearIn (t .numbers))))
         let last = eqb-true (t .place) (lineCount (lastYearIn (t .numbers))) e in
         record {
           few = g .few;
+          most = good-most (t .numbers) (t .place) (length (t .numbers)) g;
           some = λ z. g .some (omega arith);
           count = λ z. g .start ∙ rw last (start-all (lastYearIn (t .numbers)));
         }
-    go false e = record { few = g .few; some = λ z. absurd (omega arith); count = λ z. absurd (omega arith) }
+    go false e = record { few = g .few; most = good-most (t .numbers) (t .place) (length (t .numbers)) g; some = λ z. absurd (omega arith); count = λ z. absurd (omega arith) }
 lines-known t (l ∷ ls) h g =
     let u = readLine (suc (t .line)) (t .place) (t .numbers) (contentOf l) in
     let s = line-step (suc (t .line)) (t .place) (t .numbers) (contentOf l) g in
@@ -156,18 +170,8 @@ lines-known t (l ∷ ls) h g =
     go u s true e f = f (eqb-true (u .problem) 0 e)
     go u s false e f =
         let no = eqb-false (u .problem) 0 e in
-        record { few = s .few; some = λ z. absurd (no z); count = λ z. absurd (no z) }
+        record { few = s .few; most = s .most; some = λ z. absurd (no z); count = λ z. absurd (no z) }
 
 pub sheet-known : (text : List ℕ) → Known (readSheet text)
 unfolding readSheet
 sheet-known text = lines-known (fine 0 0 []) (lines (unmarked text)) refl good-none
-
--- room for the numbers of the next line, and no more than 201 so far
-pub good-room : (vs : List ℤ) (i m : ℕ) → Good vs i m → (i ≡ lineCount (lastYearIn vs) → ⊥) → m + dueAt (lastYearIn vs) i .count ≤ mostFields
-good-room vs i m g h = omega (arith, g .start, start-room (lastYearIn vs) i (g .few) (omega (arith, g .within)))
-
-pub good-most : (vs : List ℤ) (i m : ℕ) → Good vs i m → m ≤ mostFields
-unfolding startAt
-good-most vs i m g =
-    let k = lastYearIn vs in
-    omega (arith, g .start, total-part (λ j. dueAt k j .count) i (lineCount k) (g .within), start-all k, cells-most k (g .few))

@@ -34,7 +34,7 @@ module _ (d : Due) (line : List ℕ) where
   wrong-label h = rw h
 
   module _ (same : sameText (labelOf line) (labelDue d) ≡ true) (n a : ℕ) (e : n ≡ before (fails (λ (w : List ℕ). true)) (cellsOf line))
-    (f : a ≡ before (fails isNumber) (cellsOf line)) where
+      (f : a ≡ before (fails isNumber) (cellsOf line)) where
     count : length (cellsOf line) ≡ n
     count = sym (e ∙ before-all (cellsOf line))
 

@@ -34,9 +34,8 @@ unfolding readSheet
 state-start text list word = record { read = refl; good = good-none; stored = refl; kept = refl }
 
 module _ (text : List ℕ) (list₀ : List ℤ) (word₀ : List ℕ) (l : List ℕ) (ls : List (List ℕ)) (list list′ : List ℤ) (word word′ : List ℕ) (f r : Found)
-  (s : State text list₀ word₀ (l ∷ ls) list word f)
-  (h : Reads (readLine (f .line + 1) (f .place) (take (f .count) list) (contentOf l)) r list list′ word word′) where
-
+    (s : State text list₀ word₀ (l ∷ ls) list word f)
+    (h : Reads (readLine (f .line + 1) (f .place) (take (f .count) list) (contentOf l)) r list list′ word word′) where
   abbrev t : Typed
   t = readLine (f .line + 1) (f .place) (take (f .count) list) (contentOf l)
 

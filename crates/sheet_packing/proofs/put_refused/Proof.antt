@@ -1,56 +1,36 @@
+-- By the problem and the place. Assumes nothing.
+use borrow.Author.Tests.{eq-eqb, ne-eqb}
+use Rattle.composing.specs.Text.{decimal, decimalIn}
+use Rattle.composing.proofs.Puts.{put-none}
+use Rattle.sheet_packing.specs.Said.{refusedText}
 use borrow.Author.Needs.{needs}
 use Rattle.sheet_packing.proofs.put_refused.Statement.{statement}
 use Rattle.sheet_packing.proofs.put_refused.Tie as tie
-use Rattle.sheet_packing.proofs.put_refused.Reads as reads
-use Rattle.sheet_packing.proofs.put_refused.Lts as lts
-use Rattle.composing.proofs.put_bytes.Reads as put-bytes-reads
 
--- src/lib.rt:34:9
 returns : tie.Need-returns
-returns c = ?
+unfolding refusedText
+returns c = rw (ne-eqb (c .before .before .args .problem) 4 (c .if1 .taken)) (put-none _ 0)
 
--- src/lib.rt:37:34
-slice-aggregate-put-bytes : tie.Need-slice-aggregate-put-bytes
-slice-aggregate-put-bytes c = search needs
-
--- src/lib.rt:37:9
-put-bytes-requires : tie.Need-put-bytes-requires
-put-bytes-requires c κs = search needs
-
--- src/lib.rt:37:9
-same-length : tie.Need-same-length
-same-length c = search needs
-
--- src/lib.rt:37:9
 returns-2 : tie.Need-returns-2
-returns-2 c = ?
+unfolding refusedText decimal decimalIn
+returns-2 c =
+    rw (eq-eqb (c .before .before .before .before .before .before .before .before .args .problem) 4 (c .before .before .before .before .before .before .if1 .left), eq-eqb (c .before .before .before .before .before .before .before .before .args .place) 0 (c .before .before .before .before .before .if2 .taken)) (c .before .before .put-bytes .ensures)
 
--- src/lib.rt:39:23
-slice-aggregate-put-bytes-2 : tie.Need-slice-aggregate-put-bytes-2
-slice-aggregate-put-bytes-2 c = search needs
-
--- src/lib.rt:39:5
-put-bytes-requires-2 : tie.Need-put-bytes-requires-2
-put-bytes-requires-2 c κs = search needs
-
--- src/lib.rt:30:1
-same-length-2 : tie.Need-same-length-2
-same-length-2 c = search needs
-
--- src/lib.rt:30:1
 returns-3 : tie.Need-returns-3
-returns-3 c = ?
+unfolding refusedText decimal decimalIn
+returns-3 c =
+    rw (eq-eqb (c .before .before .before .before .before .before .before .before .args .problem) 4 (c .before .before .before .before .before .before .if1 .left), ne-eqb (c .before .before .before .before .before .before .before .before .args .place) 0 (c .before .before .before .before .before .if2 .left)) (c .before .before .put-bytes2 .ensures)
 
 pub put-refused-spec : {M : Type 1} → statement M
 put-refused-spec =
     tie.close
     (tie.spec
     returns
-    slice-aggregate-put-bytes
-    put-bytes-requires
-    same-length
+    (λ c. search needs)
+    (λ c κs. search needs)
+    (λ c. search needs)
     returns-2
-    slice-aggregate-put-bytes-2
-    put-bytes-requires-2
-    same-length-2
+    (λ c. search needs)
+    (λ c κs. search needs)
+    (λ c. search needs)
     returns-3)
