@@ -1,6 +1,7 @@
 // Writes the files that its arguments name to standard output, each behind its length (two bytes, high byte first), as `reserve_many` reads them. Of a
-// file it takes at most 4,096 bytes, more than any record has, so that a longer one is refused as it is alone. One that cannot be read is told on
-// standard error and stands as a record without bytes, so that every file has its place.
+// file it takes at most 4,096 bytes, more than any record has, so that a longer one is refused as it is alone. A text stands as a record without bytes, and
+// so does a file that cannot be read, which is told on standard error; so every file has its place.
+use kinds::is_text;
 use libc::STDERR_FILENO;
 use libc::STDOUT_FILENO;
 
@@ -42,6 +43,9 @@ fn put_file(i: usize) -> bool {
         tell(b"could not be read: ", &name[..n]);
     }
     let m = io::count(got, &bytes);
+    if is_text(&bytes[..m]) {
+        return put_record(b"");
+    }
     put_record(&bytes[..m])
 }
 

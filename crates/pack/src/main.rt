@@ -13,6 +13,14 @@ fn put_record(packed: &[u8; MOST_BYTES], n: usize) {
 fn main() {
     let mut text = io::large_buffer();
     let n = io::read_full(0, &mut text);
+    if n == 0 {
+        put_first(
+            STDERR_FILENO,
+            b"nothing arrived: no text on standard input\n",
+            64,
+        );
+        return;
+    }
     if n == 65536 {
         put_first(STDERR_FILENO, b"the text is longer than 65,535 bytes\n", 64);
         return;

@@ -10,7 +10,7 @@ use lib.IntN.{pos, negℤ}
 use lib.ListN.{length, getD, take, drop}
 use lib.Seq.{drop-cons, drop-length}
 use Rattle.rules.specs.Lists.{every}
-use Rattle.scanning.specs.Scan.{isDigit, isNatural, isNumber, ceiling, withDigit, sizeFrom, wholeOf}
+use Rattle.scanning.specs.Numbers.{isDigit, isNatural, isNumber, ceiling, withDigit, sizeFrom, wholeOf}
 use Rattle.scanning.proofs.Parts.{from-place}
 
 -- a word that is not empty is a natural number where every byte is a digit

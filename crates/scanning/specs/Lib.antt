@@ -1,2 +1,3 @@
-pub mod Scan
 pub mod Parts
+pub mod Numbers
+pub mod Sets

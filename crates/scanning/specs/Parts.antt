@@ -1,46 +1,40 @@
--- The parts of a text as they are met from its front: its first line, its first word, and what comes after them. Assumes nothing.
+-- Parts of a text: bytes of a set, what stands before and after them, and the pieces between them. Assumes nothing.
 use Prim.Native.Nat.{ℕ, suc}
-use mathlib.Core.Bool.{Bool, not, cond}
+use mathlib.Core.Bool.{Bool, false, not, cond, _||_}
 use mathlib.Core.List.{List, [], _∷_}
 use lib.Dec.{eqb}
 use lib.ListN.{take, drop}
-use Rattle.scanning.specs.Scan.{pieces, filled, endsLine, isBlank, isNatural, isNumber}
 
--- how many bytes come before the first that the test takes
-unfoldable pub before : (ℕ → Bool) → List ℕ → ℕ
+-- whether a byte is one of these
+unfoldable pub among : List ℕ → ℕ → Bool
+among [] b = false
+among (x ∷ xs) b = eqb b x || among xs b
+
+-- the test that says no where p says yes
+abbrev pub fails : {A : Type 0} → (A → Bool) → A → Bool
+fails p = λ x. not (p x)
+
+-- how many entries come before the first that the test takes
+unfoldable pub before : {A : Type 0} → (A → Bool) → List A → ℕ
 before p [] = 0
-before p (b ∷ bs) = cond (p b) 0 (suc (before p bs))
+before p (x ∷ xs) = cond (p x) 0 (suc (before p xs))
 
--- whether a byte is the byte b
-abbrev pub is : ℕ → ℕ → Bool
-is b x = eqb x b
+-- a text up to the first byte that the test takes, from it on, and past it
+unfoldable pub until : (ℕ → Bool) → List ℕ → List ℕ
+until p xs = take (before p xs) xs
 
--- whether a byte stands in a word
-abbrev pub inWord : ℕ → Bool
-inWord b = not (isBlank b)
+unfoldable pub from : (ℕ → Bool) → List ℕ → List ℕ
+from p xs = drop (before p xs) xs
 
--- the first line of a text, and what comes after it and its line feed
-unfoldable pub firstLine : List ℕ → List ℕ
-firstLine xs = take (before endsLine xs) xs
+unfoldable pub past : (ℕ → Bool) → List ℕ → List ℕ
+past p xs = drop (suc (before p xs)) xs
 
-unfoldable pub afterLine : List ℕ → List ℕ
-afterLine xs = drop (suc (before endsLine xs)) xs
+-- a byte in front of the first piece
+unfoldable pub onto : ℕ → List (List ℕ) → List (List ℕ)
+onto b [] = (b ∷ []) ∷ []
+onto b (x ∷ xs) = (b ∷ x) ∷ xs
 
--- the words of a line that has no comment
-unfoldable pub wordsIn : List ℕ → List (List ℕ)
-wordsIn xs = filled (pieces isBlank xs)
-
--- a line from its first word on
-abbrev pub fromWord : List ℕ → List ℕ
-fromWord xs = drop (before inWord xs) xs
-
--- the first word of a line, nothing where it has none, and what comes after it
-unfoldable pub firstWord : List ℕ → List ℕ
-firstWord xs = take (before isBlank (fromWord xs)) (fromWord xs)
-
-unfoldable pub afterWord : List ℕ → List ℕ
-afterWord xs = drop (before isBlank (fromWord xs)) (fromWord xs)
-
--- whether a word is a number, where numbers may be below zero and where they may not
-unfoldable pub isNumberBy : Bool → List ℕ → Bool
-isNumberBy signed w = cond signed (isNumber w) (isNatural w)
+-- the pieces of a text between the bytes that the test takes, in order, empty ones too
+unfoldable pub pieces : (ℕ → Bool) → List ℕ → List (List ℕ)
+pieces p [] = [] ∷ []
+pieces p (b ∷ bs) = cond (p b) ([] ∷ pieces p bs) (onto b (pieces p bs))

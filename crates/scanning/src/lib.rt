@@ -1,153 +1,73 @@
-// Lines, words and numbers of a text.
+// Parts of a text, and numbers.
 ghost use mathlib.Core.Path.{_≡_};
-ghost use mathlib.Core.List.{map};
-ghost use Prim.Native.Nat.{_+_, _≤_, _<_, _^_};
+ghost use Prim.Native.Nat.{_≤_, _<_, _^_};
 ghost use lib.ListN.{length};
-ghost use lib.Seq.{sets};
-ghost use Rattle.rules.specs.Lists.{every};
-ghost use Rattle.scanning.specs.Scan.{isMark, lines, uncommented, isBlank, isDigit, isNatural, isNumber, withDigit, sizeFrom, wholeOf};
-ghost use Rattle.scanning.specs.Parts.{before, is, inWord, firstLine, afterLine, wordsIn, firstWord, afterWord, isNumberBy};
+ghost use Rattle.scanning.specs.Parts.{among, before, until, from, past};
+ghost use Rattle.scanning.specs.Numbers.{isDigit, isNatural, isNumber, withDigit, sizeFrom, wholeOf};
+ghost use Rattle.scanning.specs.Sets.{meets};
 
-// How many bytes come before the first that is b.
-fn find(text: &[u8], b: u8) -> usize
-    ensures { λ r. ⌜ (r ≡ before (is b) (now (text .entry))) × (r ≤ length (now (text .entry))) ⌝ }
+// Whether a byte is one of these.
+pub fn is_among(b: u8, set: &[u8]) -> bool
+    ensures { λ r. ⌜ r ≡ among (now (set .entry)) b ⌝ }
+{
+    let n = set.len();
+    for i in 0..n {
+        if set[i] == b {
+            return true;
+        }
+    }
+    false
+}
+
+// Whether that is as wanted.
+fn is_met(b: u8, set: &[u8], wanted: bool) -> bool
+    ensures { λ r. ⌜ r ≡ meets wanted (now (set .entry)) b ⌝ }
+{
+    if wanted {
+        return is_among(b, set);
+    }
+    !is_among(b, set)
+}
+
+// How many bytes come before the first that is one of these, or, where that is not wanted, before the first that is not.
+pub fn find(text: &[u8], set: &[u8], wanted: bool) -> usize
+    ensures { λ r. ⌜ (r ≡ before (meets wanted (now (set .entry))) (now (text .entry))) × (r ≤ length (now (text .entry))) ⌝ }
 {
     let n = text.len();
     for i in 0..n {
-        if text[i] == b {
+        if is_met(text[i], set, wanted) {
             return i;
         }
     }
     n
 }
 
-// The first line of a text without its comment.
-pub fn first_line(text: &[u8]) -> &[u8]
-    ensures { λ r. ⌜ now r ≡ uncommented (firstLine (now (text .entry))) ⌝ }
+// A text up to the first byte that is one of these.
+pub fn until<'a>(text: &'a [u8], set: &[u8]) -> &'a [u8]
+    ensures { λ r. ⌜ now r ≡ «until» (among (now (set .entry))) (now (text .entry)) ⌝ }
 {
-    let e = find(text, 10);
-    let line = &text[..e];
-    let c = find(line, 35);
-    &line[..c]
+    let e = find(text, set, true);
+    &text[..e]
 }
 
-// What comes after the first line.
-pub fn after_line(text: &[u8]) -> &[u8]
-    ensures { λ r. ⌜ now r ≡ afterLine (now (text .entry)) ⌝ }
+// A text from the first byte on that is one of these, or that is not.
+pub fn from<'a>(text: &'a [u8], set: &[u8], wanted: bool) -> &'a [u8]
+    ensures { λ r. ⌜ now r ≡ «from» (meets wanted (now (set .entry))) (now (text .entry)) ⌝ }
 {
-    let e = find(text, 10);
+    let e = find(text, set, wanted);
+    &text[e..]
+}
+
+// A text past the first byte that is one of these.
+pub fn past<'a>(text: &'a [u8], set: &[u8]) -> &'a [u8]
+    ensures { λ r. ⌜ now r ≡ «past» (among (now (set .entry))) (now (text .entry)) ⌝ }
+{
+    let e = find(text, set, true);
     if e < text.len() {
         let a = e + 1;
         return &text[a..];
     }
     &text[e..]
-}
-
-// How many lines a text has.
-pub fn count_lines(text: &[u8]) -> usize
-    ensures { λ r. ⌜ r ≡ length (lines (now (text .entry))) ⌝ }
-{
-    let mut count: usize = 1;
-    let n = text.len();
-    for i in 0..n {
-        if text[i] == 10 {
-            count += 1;
-        }
-    }
-    count
-}
-
-fn is_mark(b: u8) -> bool
-    ensures { λ r. ⌜ r ≡ isMark b ⌝ }
-{
-    if b == 239 {
-        return true;
-    }
-    if b == 187 {
-        return true;
-    }
-    b == 191
-}
-
-fn is_blank(b: u8) -> bool
-    ensures { λ r. ⌜ r ≡ isBlank b ⌝ }
-{
-    if b == 32 {
-        return true;
-    }
-    if b == 9 {
-        return true;
-    }
-    if b == 13 {
-        return true;
-    }
-    if b == 44 {
-        return true;
-    }
-    if b == 59 {
-        return true;
-    }
-    is_mark(b)
-}
-
-// How many blanks come before the first word.
-fn blanks(line: &[u8]) -> usize
-    ensures { λ r. ⌜ (r ≡ before inWord (now (line .entry))) × (r ≤ length (now (line .entry))) ⌝ }
-{
-    let n = line.len();
-    for i in 0..n {
-        if !is_blank(line[i]) {
-            return i;
-        }
-    }
-    n
-}
-
-// How many bytes come before the first blank.
-fn word_end(line: &[u8]) -> usize
-    ensures { λ r. ⌜ (r ≡ before isBlank (now (line .entry))) × (r ≤ length (now (line .entry))) ⌝ }
-{
-    let n = line.len();
-    for i in 0..n {
-        if is_blank(line[i]) {
-            return i;
-        }
-    }
-    n
-}
-
-// The first word of a line, nothing where it has none.
-pub fn first_word(line: &[u8]) -> &[u8]
-    ensures { λ r. ⌜ now r ≡ firstWord (now (line .entry)) ⌝ }
-{
-    let a = blanks(line);
-    let rest = &line[a..];
-    let e = word_end(rest);
-    &rest[..e]
-}
-
-// What comes after the first word.
-pub fn after_word(line: &[u8]) -> &[u8]
-    ensures { λ r. ⌜ now r ≡ afterWord (now (line .entry)) ⌝ }
-{
-    let a = blanks(line);
-    let rest = &line[a..];
-    let e = word_end(rest);
-    &rest[e..]
-}
-
-// How many words a line has.
-pub fn count_words(line: &[u8]) -> usize
-    ensures { λ r. ⌜ r ≡ length (wordsIn (now (line .entry))) ⌝ }
-{
-    let mut rest = line;
-    let mut count: usize = 0;
-    while first_word(rest).len() > 0 {
-        count += 1;
-        let next = after_word(rest);
-        rest = next;
-    }
-    count
 }
 
 fn is_digit(b: u8) -> bool
@@ -186,34 +106,6 @@ pub fn is_number(word: &[u8]) -> bool
         return is_natural(&word[1..]);
     }
     is_natural(word)
-}
-
-// Whether a word is a number, where numbers may be below zero and where they may not.
-fn is_number_by(word: &[u8], signed: bool) -> bool
-    ensures { λ r. ⌜ r ≡ isNumberBy signed (now (word .entry)) ⌝ }
-{
-    if signed {
-        return is_number(word);
-    }
-    is_natural(word)
-}
-
-// Whether every word of a line is a number.
-pub fn all_numbers(line: &[u8], signed: bool) -> bool
-    ensures { λ r. ⌜ r ≡ every (isNumberBy signed) (wordsIn (now (line .entry))) ⌝ }
-{
-    let mut rest = line;
-    loop {
-        let word = first_word(rest);
-        if word.len() == 0 {
-            return true;
-        }
-        if !is_number_by(word, signed) {
-            return false;
-        }
-        let next = after_word(rest);
-        rest = next;
-    }
 }
 
 fn wide(b: u8) -> u64
@@ -259,24 +151,4 @@ pub fn number_of(word: &[u8]) -> i64
         return 0 - (size_of_digits(&word[1..]) as i64);
     }
     size_of_digits(word) as i64
-}
-
-// The values of the words of a line go into the list from place `at` on.
-pub fn put_numbers(line: &[u8], list: &mut [i64], at: usize) -> usize
-    requires { ⌜ at + length (wordsIn (now line)) ≤ length (now list) ⌝ }
-    ensures { λ r. ⌜ (r ≡ at + length (wordsIn (now (line .entry))))
-        × (now (list .exit) ≡ sets (now (list .entry)) at (map wholeOf (wordsIn (now (line .entry))))) ⌝ }
-{
-    let mut rest = line;
-    let mut place = at;
-    loop {
-        let word = first_word(rest);
-        if word.len() == 0 {
-            return place;
-        }
-        list[place] = number_of(word);
-        place += 1;
-        let next = after_word(rest);
-        rest = next;
-    }
 }

@@ -1,37 +1,21 @@
--- Figures as text: labelled lines, the same fields in the same order as a record. Written and read by one table of lines. Assumes nothing.
+-- Figures as text, written and read (docs/SHEET.md). Assumes nothing.
 use Prim.Native.Nat.{ℕ, suc, _+_, _-_}
 use mathlib.Core.Bool.{Bool, true, false, cond, _&&_}
 use mathlib.Core.List.{List, [], _∷_, _++_, map}
-use Prim.Native.String.{String}
 use lib.Dec.{eqb}
 use lib.IntN.{ℤ, pos, natAbs}
 use lib.ListN.{length, getD, take, drop}
-use Rattle.rules.specs.Lists.{upTo, every, between}
-use Rattle.rules.specs.Questions.{firstNo}
+use Rattle.rules.specs.Lists.{every}
 use Rattle.rules.specs.Record.{byteCount}
 use Rattle.rules.specs.Writing.{givenIn, writeAnswer, writeInto}
 use Rattle.composing.specs.Text.{ascii, integer}
-use Rattle.scanning.specs.Scan.{lines, words, isNatural, isNumber, wholeOf}
-
--- a line that is due: its label, how many numbers follow it, and whether they may be below zero
-pub record Due : Type 0 where
-  pub label : List ℕ
-  pub count : ℕ
-  pub signed : Bool
-
-abbrev pub due : String → ℕ → Due
-due label n = record { label = ascii label; count = n; signed = false }
-
--- the increments of an origin year
-abbrev pub duePaid : ℕ → Due
-duePaid n = record { label = ascii "paid"; count = n; signed = true }
-
--- the lines of a sheet for the years 0 to k: each origin year's increments have a line of their own
-unfoldable pub dueLines : ℕ → List Due
-dueLines k =
-    due "k" 1
-    ∷ due "exposures" (k + 1)
-    ∷ (upTo (λ i. duePaid (k + 1 - i)) (k + 1) ++ (due "indices" k ∷ due "reporting" (k + 1) ∷ due "weight" 1 ∷ due "ulae" (k + 1) ∷ []))
+use Rattle.scanning.specs.Parts.{among, fails, before, pieces}
+use Rattle.scanning.specs.Numbers.{isNumber, wholeOf}
+use Rattle.cells.specs.Cells.{contentOf, isBare, labelOf, cellsOf}
+use Rattle.cells.specs.Walk.{isWithin}
+use Rattle.sheet.specs.declared.Due.{Due}
+use Rattle.sheet.specs.declared.Wrong.{Wrong}
+use Rattle.sheet.specs.Table.{labelDue, lineCount, dueAt, dueLines}
 
 -- Writing.
 
@@ -42,14 +26,14 @@ spaced (v ∷ vs) = 32 ∷ (integer v ++ spaced vs)
 
 -- a line with its label, its numbers and a line feed
 unfoldable pub lineOf : Due → List ℤ → List ℕ
-lineOf d vs = (d .label) ++ (spaced vs ++ (10 ∷ []))
+lineOf d vs = labelDue d ++ (spaced vs ++ (10 ∷ []))
 
 -- the lines, each with the next of the numbers
 unfoldable pub linesOf : List Due → List ℤ → List ℕ
 linesOf [] vs = []
 linesOf (d ∷ ds) vs = lineOf d (take (d .count) vs) ++ linesOf ds (drop (d .count) vs)
 
--- k, the first of the fields of a record
+-- k, the first of the fields of a record; 0 where there is none
 abbrev pub lastYearIn : List ℤ → ℕ
 lastYearIn vs = natAbs (getD vs 0 (pos 0))
 
@@ -59,20 +43,12 @@ sheetOf vs = linesOf (dueLines (lastYearIn vs)) vs
 
 -- Reading.
 
--- a line that has words, with its number in the text, counted from 1
-pub record Line : Type 0 where
-  pub number : ℕ
-  pub label : List ℕ
-  pub rest : List (List ℕ)
+-- the lines of a text, which a mark at its very start is no part of
+unfoldable pub unmarked : List ℕ → List ℕ
+unmarked text = cond (eqb (getD text 0 0) 239 && (eqb (getD text 1 0) 187 && eqb (getD text 2 0) 191)) (drop 3 text) text
 
--- the lines that have words, the first of them line n of the text
-unfoldable pub lineWith : ℕ → List (List ℕ) → List Line → List Line
-lineWith n [] ls = ls
-lineWith n (w ∷ ws) ls = record { number = n; label = w; rest = ws } ∷ ls
-
-unfoldable pub linesFrom : ℕ → List (List ℕ) → List Line
-linesFrom n [] = []
-linesFrom n (l ∷ ls) = lineWith n (words l) (linesFrom (suc n) ls)
+abbrev pub lines : List ℕ → List (List ℕ)
+lines text = pieces (among (ascii "\n")) text
 
 -- whether two texts are the same
 unfoldable pub sameText : List ℕ → List ℕ → Bool
@@ -81,51 +57,63 @@ sameText [] (y ∷ ys) = false
 sameText (x ∷ xs) [] = false
 sameText (x ∷ xs) (y ∷ ys) = eqb x y && sameText xs ys
 
--- whether a word is a number that may stand in the line
-unfoldable pub fits : Due → List ℕ → Bool
-fits d w = cond (d .signed) (isNumber w) (isNatural w)
+-- a problem, and the number of the cell that it is about, counted from 1
+abbrev pub wrong : ℕ → ℕ → Wrong
+wrong p c = record { problem = p; cell = c }
 
--- what is wrong with a line where d is due: 1 another label, 2 a word that may not stand in it, 3 another count of numbers; 0 where it is as due
-unfoldable pub lineProblem : Due → Line → ℕ
-lineProblem d l = firstNo ((1, sameText (l .label) (d .label)) ∷ (2, every (fits d) (l .rest)) ∷ (3, eqb (length (l .rest)) (d .count)) ∷ [])
+-- what is wrong with a line where d is due: 1 another label, 2 a cell that is no whole number, 3 another count (with how many cells there are),
+-- 4 a number out of its range; 0 where it is as due
+unfoldable pub wrongIn : Due → List ℕ → Wrong
+wrongIn d line =
+    let cs = cellsOf line in
+    cond (sameText (labelOf line) (labelDue d))
+    (cond (every isNumber cs)
+    (cond (eqb (length cs) (d .count))
+    (cond (every (isWithin (d .least) (d .most)) cs) (wrong 0 0) (wrong 4 (suc (before (fails (isWithin (d .least) (d .most))) cs))))
+    (wrong 3 (length cs)))
+    (wrong 2 (suc (before (fails isNumber) cs))))
+    (wrong 1 0)
 
--- what reading a text comes to: what is wrong (0 for nothing), in which line of the text, where which of the lines due was to be, and the numbers
--- of the lines that were as due, in order
+-- the word that a problem is about: the label, or the cell
+unfoldable pub wordIn : Wrong → List ℕ → List ℕ
+wordIn w line = cond (eqb (w .problem) 1) (labelOf line) (cond (eqb (w .problem) 3) [] (getD (cellsOf line) (w .cell - 1) []))
+
+-- what reading comes to: a problem (0 for none), the line of the text, the place of the line due, the cell and the word that the problem is
+-- about, and the numbers of the lines that were as due
 pub record Typed : Type 0 where
   pub problem : ℕ
   pub line : ℕ
   pub place : ℕ
+  pub cell : ℕ
+  pub word : List ℕ
   pub numbers : List ℤ
 
-abbrev pub typed : ℕ → ℕ → ℕ → List ℤ → Typed
-typed p n i vs = record { problem = p; line = n; place = i; numbers = vs }
+abbrev pub typed : ℕ → ℕ → ℕ → ℕ → List ℕ → List ℤ → Typed
+typed p n i c w vs = record { problem = p; line = n; place = i; cell = c; word = w; numbers = vs }
 
--- the lines of a text held against the lines due, from place i of them on, after the numbers vs: a problem of the line itself, 4 where the text
--- ends (its last line is line `last`, what follows a final line feed counted) before every line due was there, 5 where it goes on after them
-unfoldable pub readLines : ℕ → ℕ → List ℤ → List Due → List Line → Typed
-readLines last i vs [] [] = typed 0 last i vs
-readLines last i vs [] (l ∷ ls) = typed 5 (l .number) i vs
-readLines last i vs (d ∷ ds) [] = typed 4 last i vs
-readLines last i vs (d ∷ ds) (l ∷ ls) =
-    cond
-    (eqb (lineProblem d l) 0)
-    (readLines last (suc i) (vs ++ map wholeOf (l .rest)) ds ls)
-    (typed (lineProblem d l) (l .number) i vs)
+-- so far, without a problem: up to line n of the text, where place i is due next
+abbrev pub fine : ℕ → ℕ → List ℤ → Typed
+fine n i vs = typed 0 n i 0 [] vs
 
--- the lines of a text whose first line should give k: 6 where that is not from 1 to 15
-unfoldable pub readFrom : ℕ → List Line → Typed
-readFrom last [] = typed 4 last 0 []
-readFrom last (l ∷ ls) =
-    let p = lineProblem (due "k" 1) l in
-    let vs = map wholeOf (l .rest) in
-    cond
-    (eqb p 0)
-    (cond (between 1 15 (lastYearIn vs)) (readLines last 0 [] (dueLines (lastYearIn vs)) (l ∷ ls)) (typed 6 (l .number) 0 []))
-    (typed p (l .number) 0 [])
+-- line n held against the line due at place i, after the numbers vs: 6 where none is due any more
+unfoldable pub readLine : ℕ → ℕ → List ℤ → List ℕ → Typed
+readLine n i vs line =
+    let k = lastYearIn vs in
+    let w = wrongIn (dueAt k i) line in
+    cond (isBare line) (fine n i vs)
+    (cond (eqb i (lineCount k)) (typed 6 n i 0 (labelOf line) vs)
+    (cond (eqb (w .problem) 0) (fine n (suc i) (vs ++ map wholeOf (cellsOf line))) (typed (w .problem) n i (w .cell) (wordIn w line) vs)))
+
+-- the lines of a text, after t; 5 where they end before every line due was there
+unfoldable pub readLines : Typed → List (List ℕ) → Typed
+readLines t [] = cond (eqb (t .place) (lineCount (lastYearIn (t .numbers)))) t (typed 5 (t .line) (t .place) 0 [] (t .numbers))
+readLines t (l ∷ ls) =
+    let u = readLine (suc (t .line)) (t .place) (t .numbers) (contentOf l) in
+    cond (eqb (u .problem) 0) (readLines u ls) u
 
 -- what reading a text comes to
 unfoldable pub readSheet : List ℕ → Typed
-readSheet text = readFrom (length (lines text)) (linesFrom 1 (lines text))
+readSheet text = readLines (fine 0 0 []) (lines (unmarked text))
 
 -- Packing: the record of the figures that a text has.
 
@@ -133,10 +121,11 @@ readSheet text = readFrom (length (lines text)) (linesFrom 1 (lines text))
 abbrev pub recordSize : List ℤ → ℕ
 recordSize vs = byteCount (lastYearIn vs)
 
--- the number that packing a text answers: question 1 where k is out of its range, the writer's answer where the text is as due, and 0 where it is not
+-- the refusal that packing a text answers: 1 or 4 where a number is out of its range, the writer's where the text is as due, and else 0
 unfoldable pub packAnswer : Typed → ℕ
 packAnswer t =
-    cond (eqb (t .problem) 0) (writeAnswer (givenIn (t .numbers)) (recordSize (t .numbers))) (cond (eqb (t .problem) 6) 1 0)
+    cond (eqb (t .problem) 0) (writeAnswer (givenIn (t .numbers)) (recordSize (t .numbers)))
+    (cond (eqb (t .problem) 4) (cond (eqb (t .place) 0) 1 4) 0)
 
 -- the lent buffer after packing a text: the record and then what it held, and unchanged where the text is not as due or the writer refuses
 unfoldable pub packInto : Typed → List ℕ → List ℕ

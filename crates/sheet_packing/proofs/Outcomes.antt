@@ -1,50 +1,118 @@
--- The outcomes of packing a text: a refusal, a text that is not as due, and a record. Assumes nothing.
-use Prim.Native.Nat.{ℕ, suc, _<_}
+-- The outcomes of packing a text: it is not as due, the writer refuses it, or there is a record. Assumes nothing.
+use mathlib.Core.Path.{_≡_, refl, sym, ap, ap₂, _∙_}
+use mathlib.Core.List.{List, [], _++_, append-nil}
+use Prim.Native.Nat.{ℕ, _+_, _≤_, _<_}
+use native.Mathlib.Decide.{decLe}
 use native.Mathlib.Omega.{arith}
 use borrow.Author.Tests.{eq-eqb, ne-eqb}
-use mathlib.Core.Path.{_≡_, refl, sym, _∙_}
-use mathlib.Core.Bool.{cond}
-use mathlib.Core.List.{List, [], _∷_}
-use lib.Dec.{eqb}
-use lib.IntN.{ℤ, pos, natAbs}
-use lib.ListN.{getD, set, replicate}
-use lib.Seq.{sets, getD-set-other}
-use Rattle.sheet.specs.Sheet.{Typed, lastYearIn, recordSize, packAnswer}
-use Rattle.sheet.specs.Problem.{problemText}
+use lib.IntN.{ℤ, pos}
+use lib.ListN.{length, take, drop, replicate, length-take, length-replicate, take-append-drop, drop-of-length-le}
+use lib.Seq.{sets, sets-eq, length-sets, take-all, take-length, length-take-le}
+use Rattle.rules.specs.Record.{byteCount, mostFields}
+use Rattle.rules.specs.Writing.{givenIn, writeAnswer, writeInto}
+use Rattle.laws.proofs.Joined.{sets-append, take-sets}
+use Rattle.composing.specs.Text.{Put}
+use Rattle.composing.proofs.Puts.{put-back, put-length, put-past}
 use Rattle.wording.specs.Wording.{refusalText}
-use Rattle.sheet_reading.specs.Lines.{foundOf}
-use Rattle.sheet_reading.specs.declared.Found.{Found}
-use Rattle.sheet_packing.specs.Said.{wrongText, saidOf, sizeOf}
+use Rattle.sheet.specs.declared.Found.{Found}
+use Rattle.sheet.specs.Table.{dueAt}
+use Rattle.sheet.specs.Sheet.{Typed, lastYearIn, readSheet, packAnswer, packInto}
+use Rattle.sheet_reading.specs.Reads.{Reads}
+use Rattle.sheet_reading.proofs.Known.{Known, sheet-known}
+use Rattle.sheet_fields.specs.Rows.{givenAt}
+use Rattle.sheet_fields.proofs.Sections.{given-front}
+use Rattle.sheet_wording.specs.Problem.{problemLine, problemText}
+use Rattle.sheet_packing.specs.Said.{refusedText, saidOf, sizeOf}
 
--- an entry before a run of stores is kept
-kept : (xs l : List ℤ) (i j : ℕ) → j < i → getD (sets l i xs) j (pos 0) ≡ getD l j (pos 0)
-kept [] l i j h = refl
-kept (x ∷ xs) l i j h = kept xs (set l i x) (suc i) j (omega arith) ∙ getD-set-other l i j x (pos 0) (λ e. omega arith)
+-- of a text put into a buffer, what fits is there
+put-front : {a b : List ℕ} {j : ℕ} {xs : List ℕ} → Put a b 0 j xs → take j b ≡ take (length a) xs
+put-front {a} {b} {j} {xs} p = go (decLe (length xs) (length a))
+  where
+    go : Dec (length xs ≤ length a) → take j b ≡ take (length a) xs
+    go (yes h) = put-back p h ∙ sym (take-all (length a) xs h)
+    go (no h) =
+        let m = length a in
+        let front = take m xs in
+        let size : length front ≡ m = length-take-le m xs (omega arith) in
+        let long : m ≡ 0 + length front = omega arith in
+        let past : sets a 0 front ≡ sets a 0 xs =
+        put-past (sets a 0 front) m (drop m xs) (omega (arith, length-sets a 0 front)) .stored
+        ∙ sets-append front (drop m xs) a 0 m long
+        ∙ ap (sets a 0) (take-append-drop m xs) in
+        let e : j ≡ m = omega (arith, p .ended) in
+        rw (e, p .stored, ← past) (take-sets a front m size (omega arith))
 
--- k stands at the start of the list, which is 0 where no line was as due
-pub last-year : (xs : List ℤ) (n : ℕ) → natAbs (getD (sets (replicate (suc n) (pos 0)) 0 xs) 0 (pos 0)) ≡ lastYearIn xs
-last-year [] n = refl
-last-year (x ∷ xs) n = rw (kept xs (set (replicate (suc n) (pos 0)) 0 x) 1 0 (omega arith))
+module _ (text : List ℕ) (f : Found) (list : List ℤ) (word : List ℕ) (h : Reads (readSheet text) f (replicate mostFields (pos 0)) list (replicate 20 0) word) where
+  abbrev t : Typed
+  t = readSheet text
 
--- the words of what was found wrong
-pub wrong-is : (t : Typed) (f : Found) (k : ℕ) → f ≡ foundOf t → k ≡ lastYearIn (t .numbers) → problemText (f .problem) (f .line) (f .place) k ≡ wrongText t
-unfolding wrongText
-wrong-is t f k e h = rw (e, h)
+  count : f .count ≡ length (t .numbers)
+  count = ap (λ (x : Found). x .count) (h .said)
 
--- a refusal
-pub refused : (t : Typed) (n : ℕ) → n ≡ packAnswer t → (n ≡ 0 → ⊥) → (0 ≡ sizeOf t) × (refusalText n ≡ saidOf t)
-unfolding sizeOf saidOf
-refused t n e h = rw (ne-eqb (packAnswer t) 0 (λ z. h (e ∙ z)), sym e) (refl, refl)
+  problem : f .problem ≡ t .problem
+  problem = ap (λ (x : Found). x .problem) (h .said)
 
--- a text that is not as due
-pub wrong : (t : Typed) → packAnswer t ≡ 0 → (t .problem ≡ 0 → ⊥) → (0 ≡ sizeOf t) × (wrongText t ≡ saidOf t)
-unfolding sizeOf saidOf
-wrong t e h = rw (eq-eqb (packAnswer t) 0 e, ne-eqb (t .problem) 0 h) (refl, refl)
+  -- the numbers stand in the front of the list, and the word in the front of its bytes
+  numbers : take (f .count) list ≡ t .numbers
+  numbers = rw (h .stored) (take-sets (replicate mostFields (pos 0)) (t .numbers) (f .count) (sym count) (omega (arith, count, sheet-known text .most, length-replicate mostFields (pos 0))))
 
--- a record
-pub made : (t : Typed) → packAnswer t ≡ 0 → t .problem ≡ 0 → (recordSize (t .numbers) ≡ sizeOf t) × ([] ≡ saidOf t)
-unfolding sizeOf saidOf
-made t e h = rw (eq-eqb (packAnswer t) 0 e, eq-eqb (t .problem) 0 h) (refl, refl)
+  pub list-long : length list ≡ mostFields
+  list-long = ap length (h .stored) ∙ length-sets (replicate mostFields (pos 0)) 0 (t .numbers) ∙ length-replicate mostFields (pos 0)
 
-pub size-made : (t : Typed) → t .problem ≡ 0 → cond (eqb (t .problem) 0) (recordSize (t .numbers)) 0 ≡ recordSize (t .numbers)
-size-made t h = rw (eq-eqb (t .problem) 0 h)
+  pub word-long : length word ≡ 20
+  word-long = put-length (h .put)
+
+  -- what the words for a problem ask
+  pub asked : (f .count ≤ length list) × ((lastYearIn (take (f .count) list) < 16) × (f .word ≤ length word))
+  asked = (omega (arith, count, sheet-known text .most, list-long), (rw numbers (sheet-known text .few), omega (arith, word-long, h .put .ended)))
+
+  -- something is wrong with the text
+  pub wrong : (f .problem ≡ 0 → ⊥) → (buffer : List ℕ) → (buffer ≡ packInto t buffer) × ((0 ≡ sizeOf t)
+      × (refusedText (f .problem) (f .place) ++ problemLine (f .problem) (f .line) (dueAt (lastYearIn (take (f .count) list)) (f .place)) (f .cell) (take (f .word) word) ≡ saidOf t))
+  unfolding packInto sizeOf saidOf problemText
+  wrong some buffer =
+      let no = ne-eqb (t .problem) 0 (λ e. some (problem ∙ e)) in
+      let place = ap (λ (x : Found). x .place) (h .said) in
+      let line = ap (λ (x : Found). x .line) (h .said) in
+      let cell = ap (λ (x : Found). x .cell) (h .said) in
+      rw (no, numbers, problem, place, line, cell, put-front (h .put)) (refl, (refl, refl))
+
+  -- nothing is
+  module _ (right : f .problem ≡ 0) (k : ℕ) (e : k ≡ lastYearIn (take (f .count) list)) where
+    none : t .problem ≡ 0
+    none = sym problem ∙ right
+
+    years : k ≡ lastYearIn (t .numbers)
+    years = rw numbers at e
+
+    pub few : k < 16
+    few = omega (arith, years, sheet-known text .few)
+
+    -- what the writer is given
+    given-are : givenAt k list ≡ givenIn (t .numbers)
+    unfolding givenIn givenAt
+    given-are =
+        let rest = drop (0 + length (t .numbers)) (replicate mostFields (pos 0)) in
+        let list-is : list ≡ t .numbers ++ rest =
+        h .stored ∙ sets-eq (t .numbers) (replicate mostFields (pos 0)) 0 (omega (arith, sheet-known text .most, length-replicate mostFields (pos 0))) in
+        ap₂ givenAt years list-is ∙ given-front (lastYearIn (t .numbers)) (t .numbers) rest (omega (arith, sheet-known text .count none))
+
+    answered : (answer : ℕ) → answer ≡ writeAnswer (givenAt k list) (byteCount k) → packAnswer t ≡ answer
+    unfolding packAnswer
+    answered answer a = rw (none) (sym (a ∙ rw (given-are, years)))
+
+    pub written : (buffer after : List ℕ) → after ≡ writeInto (givenAt k list) (take (byteCount k) buffer) ++ drop (byteCount k) buffer → after ≡ packInto t buffer
+    unfolding packInto
+    written buffer after a = rw (a, given-are, years, none)
+
+    -- the writer refuses it
+    pub refused : (answer : ℕ) → answer ≡ writeAnswer (givenAt k list) (byteCount k) → (answer ≡ 0 → ⊥) → (0 ≡ sizeOf t) × (refusalText answer ≡ saidOf t)
+    unfolding sizeOf saidOf
+    refused answer a some =
+        let e = answered answer a in
+        rw (ne-eqb (packAnswer t) 0 (λ z. some (sym e ∙ z)), e, none) (refl, refl)
+
+    -- there is a record
+    pub made : (answer : ℕ) → answer ≡ writeAnswer (givenAt k list) (byteCount k) → answer ≡ 0 → (byteCount k ≡ sizeOf t) × ([] ≡ saidOf t)
+    unfolding sizeOf saidOf
+    made answer a e = rw (eq-eqb (packAnswer t) 0 (answered answer a ∙ e), none) (ap byteCount years, refl)

@@ -1,20 +1,22 @@
--- What packing a text says. Assumes nothing.
+-- What packing a text says, and how long its record is. Assumes nothing.
 use Prim.Native.Nat.{ℕ}
-use mathlib.Core.Bool.{cond}
-use mathlib.Core.List.{List, []}
+use mathlib.Core.Bool.{cond, _&&_}
+use mathlib.Core.List.{List, [], _++_}
 use lib.Dec.{eqb}
-use Rattle.sheet.specs.Sheet.{Typed, lastYearIn, recordSize, packAnswer}
-use Rattle.sheet.specs.Problem.{problemText}
+use Rattle.composing.specs.Text.{ascii, decimal}
 use Rattle.wording.specs.Wording.{refusalText}
+use Rattle.sheet.specs.Sheet.{Typed, recordSize, packAnswer}
+use Rattle.sheet_wording.specs.Problem.{problemText}
 
--- what is wrong with a text, in words
-unfoldable pub wrongText : Typed → List ℕ
-wrongText t = problemText (t .problem) (t .line) (t .place) (lastYearIn (t .numbers))
+-- the refusal in front, where a number is out of its range
+unfoldable pub refusedText : ℕ → ℕ → List ℕ
+refusedText problem place = cond (eqb problem 4) (ascii "refused " ++ (decimal (cond (eqb place 0) 1 4) ++ ascii ": ")) []
 
--- the refusal where a question says no, what is wrong where the text is not as due, and nothing where there is a record
+-- what is wrong with the text, or the writer's refusal, or nothing where there is a record
 unfoldable pub saidOf : Typed → List ℕ
-saidOf t = cond (eqb (packAnswer t) 0) (cond (eqb (t .problem) 0) [] (wrongText t)) (refusalText (packAnswer t))
+saidOf t =
+    cond (eqb (t .problem) 0) (cond (eqb (packAnswer t) 0) [] (refusalText (packAnswer t))) (refusedText (t .problem) (t .place) ++ problemText t)
 
 -- how many bytes the record has; 0 where there is none
 unfoldable pub sizeOf : Typed → ℕ
-sizeOf t = cond (eqb (packAnswer t) 0) (cond (eqb (t .problem) 0) (recordSize (t .numbers)) 0) 0
+sizeOf t = cond (eqb (t .problem) 0 && eqb (packAnswer t) 0) (recordSize (t .numbers)) 0

@@ -1,63 +1,139 @@
--- What is wrong with a line, and what the first line says, from the parts that the functions find. Assumes nothing.
-use mathlib.Core.Path.{_≡_, sym, _∙_}
-use mathlib.Core.List.{List, [], _∷_, map}
-use Prim.Native.Nat.{ℕ, _<_, _≤_}
-use native.Mathlib.Decide.{ℕ-discrete}
+-- What is wrong with a line, from what the walks over its cells say; and what the line comes to. Assumes nothing.
+use mathlib.Core.Path.{_≡_, refl, sym, ap, _∙_}
+use mathlib.Core.Bool.{Bool, true, false, cond, _&&_, and-false}
+use mathlib.Core.List.{List, [], _∷_, _++_, map, append-nil}
+use Prim.Native.Nat.{ℕ, suc, _+_, _≤_, _<_}
+use native.Mathlib.Numerals.{add-one}
 use native.Mathlib.Omega.{arith}
-use borrow.Author.Tests.{le-leb, lt-leb, eq-eqb, ne-eqb}
+use borrow.Author.Tests.{eq-eqb, ne-eqb}
 use lib.Dec.{eqb}
-use lib.IntN.{natAbs}
-use lib.ListN.{length, getD}
-use Rattle.rules.specs.Lists.{every}
-use Rattle.rules.specs.Questions.{firstNo}
-use Rattle.scanning.specs.Scan.{wholeOf}
-use Rattle.scanning.specs.Parts.{firstWord, afterWord, wordsIn, isNumberBy}
-use Rattle.scanning.proofs.Parts.{words-first, words-none}
-use Rattle.scanning.proofs.Numbers.{whole-none}
-use Rattle.sheet.specs.Sheet.{due, fits, lineProblem, sameText, lastYearIn}
-use Rattle.sheet_reading.specs.Lines.{labels, lineAs, problemOf}
-use Rattle.sheet_reading.specs.First.{first, firstOf}
+use lib.IntN.{ℤ, pos, natAbs}
+use lib.ListN.{length, getD, take, drop, length-append, length-map, length-take, length-drop, take-append-drop}
+use lib.Seq.{sets, sets-eq, getD-take}
+use Rattle.rules.specs.Lists.{upTo, every}
+use Rattle.laws.proofs.Joined.{sets-append}
+use Rattle.laws.proofs.Lists.{map-upTo, upTo-self}
+use Rattle.composing.specs.Text.{Put}
+use Rattle.composing.proofs.Puts.{put-none}
+use Rattle.scanning.specs.Parts.{fails, before}
+use Rattle.scanning.specs.Numbers.{isNumber, wholeOf}
+use Rattle.cells.specs.Cells.{isBare, labelOf, cellsOf}
+use Rattle.cells.specs.Walk.{isWithin}
+use Rattle.cells.proofs.Lines.{before-all, every-yes, every-no}
+use Rattle.sheet.specs.declared.Due.{Due}
+use Rattle.sheet.specs.declared.Wrong.{Wrong}
+use Rattle.sheet.specs.declared.Found.{Found}
+use Rattle.sheet.specs.Table.{labelDue, lineCount, dueAt}
+use Rattle.sheet.specs.Sheet.{sameText, lastYearIn, wrong, wrongIn, wordIn, Typed, typed, fine, unmarked, readLine, readLines}
+use Rattle.sheet_reading.specs.Reads.{found, Reads}
 
--- the three questions of a line, of its first word w and what comes after it
-pub problem-is : (row n : ℕ) (line w rest : List ℕ) → w ≡ firstWord line → rest ≡ afterWord line
-    → problemOf row n line
-    ≡ firstNo ((1, sameText w (getD labels row [])) ∷ (2, every (isNumberBy (eqb row 2)) (wordsIn rest)) ∷ (3, eqb (length (wordsIn rest)) n) ∷ [])
-unfolding problemOf lineProblem fits isNumberBy
-problem-is row n line w rest p q = rw (p, q)
+module _ (d : Due) (line : List ℕ) where
+  -- another label
+  pub wrong-label : sameText (labelOf line) (labelDue d) ≡ false → wrong 1 0 ≡ wrongIn d line
+  unfolding wrongIn
+  wrong-label h = rw h
 
--- the number in the first line
-pub year-is : (ys : List ℕ) → lastYearIn (map wholeOf (wordsIn ys)) ≡ natAbs (wholeOf (firstWord ys))
-year-is ys = go (ℕ-discrete (length (firstWord ys)) 0)
+  module _ (same : sameText (labelOf line) (labelDue d) ≡ true) (n a : ℕ) (e : n ≡ before (fails (λ (w : List ℕ). true)) (cellsOf line))
+      (f : a ≡ before (fails isNumber) (cellsOf line)) where
+    count : length (cellsOf line) ≡ n
+    count = sym (e ∙ before-all (cellsOf line))
+
+    -- a cell that is no number
+    pub wrong-number : a < n → wrong 2 (a + 1) ≡ wrongIn d line
+    unfolding wrongIn
+    wrong-number h = rw (same, every-no isNumber (cellsOf line) (omega (arith, count)), add-one a, f)
+
+    module _ (numbers : n ≤ a) where
+      all : every isNumber (cellsOf line) ≡ true
+      all = every-yes isNumber (cellsOf line) (omega (arith, count))
+
+      -- another count
+      pub wrong-count : (n ≡ d .count → ⊥) → wrong 3 n ≡ wrongIn d line
+      unfolding wrongIn
+      wrong-count h = rw (same, all, count, ne-eqb n (d .count) h)
+
+      module _ (right : n ≡ d .count) (b : ℕ) (g : b ≡ before (fails (isWithin (d .least) (d .most))) (cellsOf line)) where
+        -- a number out of its range
+        pub wrong-range : b < n → wrong 4 (b + 1) ≡ wrongIn d line
+        unfolding wrongIn
+        wrong-range h = rw (same, all, count, eq-eqb n (d .count) right, every-no (isWithin (d .least) (d .most)) (cellsOf line) (omega (arith, count)), add-one b, g)
+
+        -- nothing
+        pub wrong-none : n ≤ b → wrong 0 0 ≡ wrongIn d line
+        unfolding wrongIn
+        wrong-none h = rw (same, all, count, eq-eqb n (d .count) right, every-yes (isWithin (d .least) (d .most)) (cellsOf line) (omega (arith, count)))
+
+-- a list whose front is stored again
+pub sets-same : (l : List ℤ) (n : ℕ) → length (take n l) ≡ n → sets l 0 (take n l) ≡ l
+sets-same l n e =
+    let f : 0 + length (take n l) ≡ n = omega arith in
+    sets-eq (take n l) l 0 (omega (arith, length-take n l)) ∙ ap (λ (m : ℕ). take n l ++ drop m l) f ∙ take-append-drop n l
+
+-- k of the numbers so far
+pub year-first : (l : List ℤ) (n : ℕ) → (n ≡ 0 → ⊥) → natAbs (getD l 0 (pos 0)) ≡ lastYearIn (take n l)
+year-first l n h = ap natAbs (sym (getD-take n l 0 (pos 0) (omega arith)))
+
+-- all the numbers of a line
+pub all-numbers : (cs : List (List ℕ)) (n : ℕ) → length cs ≡ n → upTo (λ i. wholeOf (getD cs i [])) n ≡ map wholeOf cs
+all-numbers cs n e = sym (map-upTo wholeOf (λ i. getD cs i []) n) ∙ ap (map wholeOf) (upTo-self cs n [] e)
+
+-- a line: nothing in it, no line due any more, not as due, as due
+module _ (n i : ℕ) (vs : List ℤ) (line : List ℕ) where
+  pub line-bare : isBare line ≡ true → readLine n i vs line ≡ fine n i vs
+  unfolding readLine
+  line-bare h = rw h
+
+  pub line-over : isBare line ≡ false → i ≡ lineCount (lastYearIn vs) → readLine n i vs line ≡ typed 6 n i 0 (labelOf line) vs
+  unfolding readLine
+  line-over h e = rw (h, eq-eqb i (lineCount (lastYearIn vs)) e)
+
+  module _ (filled : isBare line ≡ false) (due : i ≡ lineCount (lastYearIn vs) → ⊥) where
+    pub line-wrong : (w : Wrong) → w ≡ wrongIn (dueAt (lastYearIn vs) i) line → (w .problem ≡ 0 → ⊥)
+        → readLine n i vs line ≡ typed (w .problem) n i (w .cell) (wordIn w line) vs
+    unfolding readLine
+    line-wrong w e h = rw (filled, ne-eqb i (lineCount (lastYearIn vs)) due, ← e, ne-eqb (w .problem) 0 h)
+
+    pub line-fine : (w : Wrong) → w ≡ wrongIn (dueAt (lastYearIn vs) i) line → w .problem ≡ 0
+        → readLine n i vs line ≡ fine n (suc i) (vs ++ map wholeOf (cellsOf line))
+    unfolding readLine
+    line-fine w e h = rw (filled, ne-eqb i (lineCount (lastYearIn vs)) due, ← e, eq-eqb (w .problem) 0 h)
+
+-- nothing is stored, and a word or none is put
+pub reads-kept : {t : Typed} {w : ℕ} {word₀ word : List ℕ} (list : List ℤ) (p n i c m : ℕ) (xs : List ℕ) → t ≡ typed p n i c xs (take m list) → length (take m list) ≡ m
+    → Put word₀ word 0 w xs → Reads t (found p n i c w m) list list word₀ word
+reads-kept {t} {w} list p n i c m xs e size q =
+    rw e (record { said = ap (found p n i c w) (sym size); stored = sym (sets-same list m size); put = q })
+
+-- the numbers of a line are stored
+pub reads-fine : {t : Typed} {word : List ℕ} (list list′ : List ℤ) (n i m c : ℕ) (cs : List (List ℕ)) → t ≡ fine n (suc i) (take m list ++ map wholeOf cs)
+    → length (take m list) ≡ m → length cs ≡ c → list′ ≡ sets list m (upTo (λ j. wholeOf (getD cs j [])) c) → Reads t (found 0 n (i + 1) 0 0 (m + c)) list list′ word word
+reads-fine {t} {word} list list′ n i m c cs e size count stored =
+    let new = map wholeOf cs in
+    let all : length (take m list ++ new) ≡ m + c = omega (arith, length-append (take m list) new, length-map cs wholeOf) in
+    rw e
+    (record {
+      said = rw (add-one i, all);
+      stored =
+          stored
+          ∙ ap (sets list m) (all-numbers cs c count)
+          ∙ ap (λ (l : List ℤ). sets l m new) (sym (sets-same list m size))
+          ∙ sets-append (take m list) new list 0 m (omega arith);
+      put = put-none word 0;
+    })
+
+-- a text too short for a mark
+pub short-unmarked : (xs : List ℕ) → length xs < 3 → xs ≡ unmarked xs
+unfolding unmarked
+short-unmarked [] h = refl
+short-unmarked (a ∷ []) h = rw (and-false (eqb a 239))
+short-unmarked (a ∷ b ∷ []) h = rw (and-false (eqb b 187), and-false (eqb a 239))
+short-unmarked (a ∷ b ∷ c ∷ xs) h = absurd (omega arith)
+
+-- the mark counts for its own length only
+pub unmarked-most : (xs : List ℕ) → length (unmarked xs) ≤ length xs
+unfolding unmarked
+unmarked-most xs = go (eqb (getD xs 0 0) 239 && (eqb (getD xs 1 0) 187 && eqb (getD xs 2 0) 191))
   where
-    go : Dec (length (firstWord ys) ≡ 0) → lastYearIn (map wholeOf (wordsIn ys)) ≡ natAbs (wholeOf (firstWord ys))
-    go (yes e) = rw (words-none ys e, whole-none (firstWord ys) e)
-    go (no e) = rw (words-first ys (omega arith))
-
-module _ (n : ℕ) (line : List ℕ) (p : ℕ) (e : p ≡ problemOf 0 1 line) where
-  first-problem : lineProblem (due "k" 1) (lineAs n line) ≡ p
-  unfolding problemOf lineProblem labels fits
-  first-problem = sym e
-
-  -- something is wrong with the line
-  pub first-wrong : (p ≡ 0 → ⊥) → first p n 0 ≡ firstOf (lineAs n line)
-  unfolding firstOf
-  first-wrong h = rw (first-problem, ne-eqb p 0 h)
-
-  module _ (h : p ≡ 0) (y : ℕ) (f : y ≡ natAbs (wholeOf (firstWord (afterWord line)))) where
-    year : lastYearIn (map wholeOf (wordsIn (afterWord line))) ≡ y
-    year = year-is (afterWord line) ∙ sym f
-
-    -- k is too low
-    pub first-low : y < 1 → first 6 n 0 ≡ firstOf (lineAs n line)
-    unfolding firstOf
-    first-low l = rw (first-problem, eq-eqb p 0 h, year, lt-leb 1 y l)
-
-    -- k is too high
-    pub first-high : 1 ≤ y → 15 < y → first 6 n 0 ≡ firstOf (lineAs n line)
-    unfolding firstOf
-    first-high a b = rw (first-problem, eq-eqb p 0 h, year, le-leb 1 y a, lt-leb y 15 b)
-
-    -- nothing is wrong
-    pub first-good : 1 ≤ y → y ≤ 15 → first 0 n y ≡ firstOf (lineAs n line)
-    unfolding firstOf
-    first-good a b = rw (first-problem, eq-eqb p 0 h, year, le-leb 1 y a, le-leb y 15 b)
+    go : (b : Bool) → length (cond b (drop 3 xs) xs) ≤ length xs
+    go true = omega (arith, length-drop 3 xs)
+    go false = omega arith

@@ -1,395 +1,227 @@
-// Figures typed as text: read into a list of fields, and packed into a record.
+// Figures typed as text, read line by line into a list of fields.
+use cells::cell_at;
+use cells::content_of;
+use cells::is_bare;
+use cells::label_of;
+use cells::leading;
+use composing::put_bytes;
 use entries::size_of;
-use layout::bytes_of;
-use layout::cells_of;
-use rules::MOST_BYTES;
 use rules::MOST_FIELDS;
-use scanning::after_line;
-use scanning::after_word;
-use scanning::all_numbers;
-use scanning::count_lines;
-use scanning::count_words;
-use scanning::first_line;
-use scanning::first_word;
 use scanning::number_of;
-use scanning::put_numbers;
-use writing::doonamurk_write;
+use scanning::past;
+use scanning::until;
+use sheet::Due;
+use sheet::Found;
+use sheet::Wrong;
+use sheet::due_at;
+use sheet::has_label;
 ghost use mathlib.Core.Path.{_≡_};
-ghost use mathlib.Core.List.{[], _++_, map};
-ghost use Prim.Native.Nat.{_+_, _≤_, _<_};
-ghost use lib.IntN.{natAbs};
-ghost use lib.ListN.{length, getD, take, drop};
+ghost use mathlib.Core.List.{List, []};
+ghost use Prim.Native.Nat.{ℕ, _+_, _-_, _<_, _≤_, _^_};
+ghost use lib.ListN.{length, getD, take};
 ghost use lib.Seq.{sets};
-ghost use Rattle.rules.specs.Lists.{padded};
-ghost use Rattle.rules.specs.Record.{byteCount, mostBytes, mostFields};
-ghost use Rattle.rules.specs.Writing.{writeAnswer, writeInto};
-ghost use Rattle.sheet.specs.Sheet.{sameText, dueLines, readLines, readSheet, packInto};
-ghost use Rattle.sheet_reading.specs.Lines.{labels, rowAt, countAt, lineAs, problemOf, counted, answerAt, linesIn, foundOf};
-ghost use Rattle.sheet_reading.specs.First.{firstOf, firstFrom};
-ghost use Rattle.sheet_reading.specs.Rows.{givenAt, rowsOf, packedOf};
+ghost use Rattle.rules.specs.Lists.{upTo};
+ghost use Rattle.rules.specs.Record.{mostFields};
+ghost use Rattle.composing.specs.Text.{Put};
+ghost use Rattle.scanning.specs.Numbers.{wholeOf};
+ghost use Rattle.cells.specs.Cells.{cellsOf};
+ghost use Rattle.sheet.specs.Sheet.{unmarked, lastYearIn, wrongIn, wordIn, fine, readLine, readLines, readSheet};
+ghost use Rattle.sheet_reading.specs.Reads.{Reads};
+ghost use Rattle.sheet_reading.specs.Good.{Good};
 
-// What is wrong with a text, in which line, and where which of the lines due was to be; problem 0 where nothing is wrong.
-pub struct Found {
-    pub problem: u64,
-    pub line: usize,
-    pub place: usize,
-}
-
-// What the first line says: what is wrong with it, its number in the text, and k.
-pub struct First {
-    pub problem: u64,
-    pub line: usize,
-    pub k: usize,
-}
-
-// The rows of natural numbers of a record.
-pub struct Rows {
-    pub exposures: [u64; 16],
-    pub indices: [u64; 16],
-    pub reporting: [u64; 16],
-    pub weight: u64,
-    pub ulae: [u64; 16],
-}
-
-// What packing a text comes to: what is wrong with the text, in which line, and where which of the lines due was to be; the number of the
-// question that said no; and how many bytes a record of these figures takes. There is a record only where both problem and answer are 0.
-pub struct Packed {
-    pub problem: u64,
-    pub line: usize,
-    pub place: usize,
-    pub answer: u64,
-    pub size: usize,
-}
-
-// Whether two texts are the same.
-fn same_text(a: &[u8], b: &[u8]) -> bool
-    ensures { λ r. ⌜ r ≡ sameText (now (a .entry)) (now (b .entry)) ⌝ }
+// What is wrong with a line where d is due.
+fn wrong_in(line: &[u8], d: Due) -> Wrong
+    ensures { λ r. ⌜ r ≡ wrongIn d (now (line .entry)) ⌝ }
 {
-    let n = a.len();
-    if n != b.len() {
-        return false;
-    }
-    for i in 0..n {
-        if a[i] != b[i] {
-            return false;
-        }
-    }
-    true
-}
-
-// Whether a word is the label of a row.
-fn has_label(word: &[u8], row: usize) -> bool
-    requires { ⌜ row < 7 ⌝ }
-    ensures { λ r. ⌜ r ≡ sameText (now (word .entry)) (getD labels row []) ⌝ }
-{
-    if row == 0 {
-        return same_text(word, b"k");
-    }
-    if row == 1 {
-        return same_text(word, b"exposures");
-    }
-    if row == 2 {
-        return same_text(word, b"paid");
-    }
-    if row == 3 {
-        return same_text(word, b"indices");
-    }
-    if row == 4 {
-        return same_text(word, b"reporting");
-    }
-    if row == 5 {
-        return same_text(word, b"weight");
-    }
-    same_text(word, b"ulae")
-}
-
-// The row of the line at a place.
-fn row_of(place: usize, k: usize) -> usize
-    requires { ⌜ (k < 16) × (place < k + 7) ⌝ }
-    ensures { λ r. ⌜ (r ≡ rowAt k place) × (r < 7) ⌝ }
-{
-    if place < 2 {
-        return place;
-    }
-    if place <= k + 2 {
-        return 2;
-    }
-    place - k
-}
-
-// How many numbers are due at a place.
-fn count_of(place: usize, k: usize) -> usize
-    requires { ⌜ (k < 16) × (place < k + 7) ⌝ }
-    ensures { λ r. ⌜ r ≡ countAt k place ⌝ }
-{
-    if place == 0 {
-        return 1;
-    }
-    if place == 1 {
-        return k + 1;
-    }
-    if place <= k + 2 {
-        return k + 3 - place;
-    }
-    if place == k + 3 {
-        return k;
-    }
-    if place == k + 5 {
-        return 1;
-    }
-    k + 1
-}
-
-// What is wrong with a line where so many numbers of a row are due.
-fn problem_of(line: &[u8], row: usize, count: usize) -> u64
-    requires { ⌜ row < 7 ⌝ }
-    ensures { λ r. ⌜ r ≡ problemOf row count (now (line .entry)) ⌝ }
-{
-    if !has_label(first_word(line), row) {
-        return 1;
-    }
-    let rest = after_word(line);
-    if !all_numbers(rest, row == 2) {
-        return 2;
-    }
-    if count_words(rest) != count {
-        return 3;
-    }
-    0
-}
-
-// 1 where a line has words, and 0 where it has none.
-fn counted(line: &[u8]) -> usize
-    ensures { λ r. ⌜ r ≡ «counted» (now (line .entry)) ⌝ }
-{
-    if first_word(line).len() == 0 {
-        return 0;
-    }
-    1
-}
-
-// What is wrong with a line at a place.
-fn answer_at(line: &[u8], place: usize, k: usize) -> u64
-    requires { ⌜ (k < 16) × (place ≤ k + 7) ⌝ }
-    ensures { λ r. ⌜ r ≡ answerAt k place (now (line .entry)) ⌝ }
-{
-    if first_word(line).len() == 0 {
-        return 0;
-    }
-    if place == k + 7 {
-        return 5;
-    }
-    problem_of(line, row_of(place, k), count_of(place, k))
-}
-
-// What the first line says.
-fn first_of(line: &[u8], number: usize) -> First
-    ensures { λ r. ⌜ r ≡ firstOf (lineAs number (now (line .entry))) ⌝ }
-{
-    let problem = problem_of(line, 0, 1);
-    if problem != 0 {
-        return First {
-            problem,
-            line: number,
-            k: 0,
+    if !has_label(label_of(line), d.row) {
+        return Wrong {
+            problem: 1,
+            cell: 0,
         };
     }
-    let k = size_of(number_of(first_word(after_word(line))));
-    if k < 1 {
-        return First {
-            problem: 6,
-            line: number,
-            k: 0,
+    let n = leading(line, 0, 0, 0);
+    let a = leading(line, 1, 0, 0);
+    if a < n {
+        return Wrong {
+            problem: 2,
+            cell: a + 1,
         };
     }
-    if k > 15 {
-        return First {
-            problem: 6,
-            line: number,
-            k: 0,
+    if n != d.count {
+        return Wrong {
+            problem: 3,
+            cell: n,
         };
     }
-    First {
-        problem: 0,
-        line: number,
-        k: k as usize,
-    }
-}
-
-// What the first line that has words says, of a text whose last line is line `last`.
-fn read_first(text: &[u8], last: usize) -> First
-    ensures { λ r. ⌜ r ≡ firstFrom last (linesIn 1 (now (text .entry))) ⌝ }
-{
-    let mut rest = text;
-    let mut number: usize = 1;
-    while rest.len() > 0 {
-        let line = first_line(rest);
-        if counted(line) == 1 {
-            return first_of(line, number);
-        }
-        let next = after_line(rest);
-        rest = next;
-        number += 1;
-    }
-    First {
-        problem: 4,
-        line: last,
-        k: 0,
-    }
-}
-
-// Reads the lines of a text that gives the years 0 to k.
-fn read_lines(text: &[u8], k: usize, last: usize, list: &mut [i64]) -> Found
-    requires { ⌜ (k < 16) × (length (now list) ≡ mostFields) ⌝ }
-    ensures { λ r. ⌜ (r ≡ foundOf (readLines last 0 [] (dueLines k) (linesIn 1 (now (text .entry)))))
-        × (now (list .exit) ≡ sets (now (list .entry)) 0 (readLines last 0 [] (dueLines k) (linesIn 1 (now (text .entry))) .numbers)) ⌝ }
-{
-    let mut rest = text;
-    let mut line_number: usize = 1;
-    let mut place: usize = 0;
-    let mut at: usize = 0;
-    while rest.len() > 0 {
-        let line = first_line(rest);
-        let problem = answer_at(line, place, k);
-        if problem != 0 {
-            return Found {
-                problem,
-                line: line_number,
-                place,
-            };
-        }
-        at = put_numbers(after_word(line), list, at);
-        place += counted(line);
-        let next = after_line(rest);
-        rest = next;
-        line_number += 1;
-    }
-    if place < k + 7 {
-        return Found {
+    let b = leading(line, 2, d.least, d.most);
+    if b < n {
+        return Wrong {
             problem: 4,
-            line: last,
-            place,
+            cell: b + 1,
         };
     }
+    Wrong {
+        problem: 0,
+        cell: 0,
+    }
+}
+
+fn one_less(n: usize) -> usize
+    ensures { λ r. ⌜ r ≡ n - 1 ⌝ }
+{
+    if n > 0 { n - 1 } else { 0 }
+}
+
+// The word that a problem is about.
+fn put_word(word: &mut [u8], line: &[u8], w: Wrong) -> usize
+    ensures { λ r. ⌜ Put (now (word .entry)) (now (word .exit)) 0 r (wordIn w (now (line .entry))) ⌝ }
+{
+    if w.problem == 1 {
+        return put_bytes(word, 0, label_of(line));
+    }
+    if w.problem == 3 {
+        return 0;
+    }
+    put_bytes(word, 0, cell_at(line, one_less(w.cell)))
+}
+
+// k, the first of the numbers so far, or 0.
+pub fn last_year(list: &[i64], count: usize) -> u64
+    requires { ⌜ count ≤ length (now list) ⌝ }
+    ensures { λ r. ⌜ r ≡ lastYearIn (take count (now (list .entry))) ⌝ }
+{
+    if count == 0 {
+        return 0;
+    }
+    size_of(list[0])
+}
+
+// The numbers of n cells of a line go into the list from place `at` on.
+fn put_numbers(list: &mut [i64], at: usize, line: &[u8], n: usize)
+    requires { ⌜ at + n ≤ length (now list) ⌝ }
+    ensures { λ _. ⌜ now (list .exit) ≡ sets (now (list .entry)) at (upTo (λ i. wholeOf (getD (cellsOf (now (line .entry))) i [])) n) ⌝ }
+{
+    for i in 0..n {
+        list[at + i] = number_of(cell_at(line, i));
+    }
+}
+
+// The next line of a text, after what was found so far.
+fn read_line(line: &[u8], f: Found, list: &mut [i64], word: &mut [u8]) -> Found
+    requires { ⌜ (f .line < 2 ^ 63) × ((length (now list) ≡ mostFields) × Good (take (f .count) (now list)) (f .place) (f .count)) ⌝ }
+    ensures { λ r. ⌜ Reads (readLine (f .line + 1) (f .place) (take (f .count) (now (list .entry))) (now (line .entry)))
+        r (now (list .entry)) (now (list .exit)) (now (word .entry)) (now (word .exit)) ⌝ }
+{
+    let number = f.line + 1;
+    if is_bare(line) {
+        return Found {
+            problem: 0,
+            line: number,
+            place: f.place,
+            cell: 0,
+            word: 0,
+            count: f.count,
+        };
+    }
+    let k = last_year(list, f.count) as usize;
+    if f.place == k + 7 {
+        let size = put_bytes(word, 0, label_of(line));
+        return Found {
+            problem: 6,
+            line: number,
+            place: f.place,
+            cell: 0,
+            word: size,
+            count: f.count,
+        };
+    }
+    let d = due_at(k, f.place);
+    let w = wrong_in(line, d);
+    if w.problem != 0 {
+        let size = put_word(word, line, w);
+        return Found {
+            problem: w.problem,
+            line: number,
+            place: f.place,
+            cell: w.cell,
+            word: size,
+            count: f.count,
+        };
+    }
+    put_numbers(list, f.count, line, d.count);
     Found {
         problem: 0,
-        line: last,
-        place,
+        line: number,
+        place: f.place + 1,
+        cell: 0,
+        word: 0,
+        count: f.count + d.count,
     }
 }
 
-// Reads the figures of a text into the list. Where something is wrong, the list has the numbers of the lines before.
-pub fn read_sheet(text: &[u8], list: &mut [i64; MOST_FIELDS]) -> Found
-    ensures { λ r. ⌜ (r ≡ foundOf (readSheet (now (text .entry))))
-        × (now (list .exit) ≡ sets (now (list .entry)) 0 (readSheet (now (text .entry)) .numbers)) ⌝ }
+// The end of a text, after what was found so far.
+fn read_end(f: Found, list: &[i64]) -> Found
+    requires { ⌜ (length (now list) ≡ mostFields) × Good (take (f .count) (now list)) (f .place) (f .count) ⌝ }
+    ensures { λ r. ⌜ ((w : List ℕ) → Reads (readLines (fine (f .line) (f .place) (take (f .count) (now (list .entry)))) [])
+        r (now (list .entry)) (now (list .entry)) w w) ⌝ }
 {
-    let last = count_lines(text);
-    let first = read_first(text, last);
-    if first.problem != 0 {
-        return Found {
-            problem: first.problem,
-            line: first.line,
-            place: 0,
-        };
+    let k = last_year(list, f.count) as usize;
+    let mut problem: u64 = 5;
+    if f.place == k + 7 {
+        problem = 0;
     }
-    read_lines(text, first.k, last, list)
-}
-
-// The sizes of n entries of a list from place `at` on.
-fn sizes_of(list: &[i64], at: usize, n: usize) -> [u64; 16]
-    requires { ⌜ (n ≤ 16) × (at + n ≤ length (now list)) ⌝ }
-    ensures { λ r. ⌜ r ≡ padded 16 0 (map natAbs (take n (drop at (now (list .entry))))) ⌝ }
-{
-    let mut sizes = [0u64; 16];
-    for i in 0..n {
-        sizes[i] = size_of(list[at + i]);
-    }
-    sizes
-}
-
-// The rows of natural numbers of the years 0 to k, of a list that starts with the fields.
-fn rows_of(list: &[i64], k: usize) -> Rows
-    requires { ⌜ (k < 16) × (length (now list) ≡ mostFields) ⌝ }
-    ensures { λ r. ⌜ r ≡ rowsOf k (now (list .entry)) ⌝ }
-{
-    let n = k + 1;
-    let a = k + 2 + cells_of(k);
-    let b = a + k;
-    let w = b + n;
-    let exposures = sizes_of(list, 1, n);
-    let indices = sizes_of(list, a, k);
-    let reporting = sizes_of(list, b, n);
-    let weight = size_of(list[w]);
-    let ulae = sizes_of(list, w + 1, n);
-    Rows {
-        exposures,
-        indices,
-        reporting,
-        weight,
-        ulae,
+    Found {
+        problem,
+        line: f.line,
+        place: f.place,
+        cell: 0,
+        word: 0,
+        count: f.count,
     }
 }
 
-// Writes the record of the years 0 to k into the front of the buffer, from a list that starts with the fields.
-fn write_fields(list: &[i64], k: usize, buffer: &mut [u8]) -> u64
-    requires { ⌜ (k < 16) × ((length (now list) ≡ mostFields) × (length (now buffer) ≡ mostBytes)) ⌝ }
-    ensures { λ r. ⌜ (r ≡ writeAnswer (givenAt k (now (list .entry))) (byteCount k))
-        × (now (buffer .exit)
-        ≡ writeInto (givenAt k (now (list .entry))) (take (byteCount k) (now (buffer .entry))) ++ drop (byteCount k) (now (buffer .entry))) ⌝ }
+// A text without the mark at its very start.
+fn without_mark(text: &[u8]) -> &[u8]
+    ensures { λ r. ⌜ now r ≡ unmarked (now (text .entry)) ⌝ }
 {
-    let rows = rows_of(list, k);
-    let exposures = rows.exposures;
-    let indices = rows.indices;
-    let reporting = rows.reporting;
-    let ulae = rows.ulae;
-    let n = k + 1;
-    let a = k + 2;
-    let e = a + cells_of(k);
-    let m = bytes_of(k);
-    doonamurk_write(
-        k as u64,
-        &exposures[..n],
-        &list[a..e],
-        &indices[..k],
-        &reporting[..n],
-        rows.weight,
-        &ulae[..n],
-        &mut buffer[..m],
-    )
+    if text.len() < 3 {
+        return text;
+    }
+    if text[0] != 239 {
+        return text;
+    }
+    if text[1] != 187 {
+        return text;
+    }
+    if text[2] != 191 {
+        return text;
+    }
+    &text[3..]
 }
 
-// Packs the figures of a text into the buffer.
-pub fn pack(text: &[u8], buffer: &mut [u8; MOST_BYTES]) -> Packed
-    ensures { λ r. ⌜ (r ≡ packedOf (readSheet (now (text .entry))))
-        × (now (buffer .exit) ≡ packInto (readSheet (now (text .entry))) (now (buffer .entry))) ⌝ }
+// Reads the figures of a text into the list, and the word that a problem is about into the lent bytes.
+pub fn read_sheet(text: &[u8], list: &mut [i64; MOST_FIELDS], word: &mut [u8]) -> Found
+    ensures { λ r. ⌜ Reads (readSheet (now (text .entry))) r (now (list .entry)) (now (list .exit)) (now (word .entry)) (now (word .exit)) ⌝ }
 {
-    let mut list = [0i64; MOST_FIELDS];
-    let found = read_sheet(text, &mut list);
-    if found.problem == 6 {
-        return Packed {
-            problem: 6,
-            line: found.line,
-            place: found.place,
-            answer: 1,
-            size: 0,
-        };
-    }
-    if found.problem != 0 {
-        return Packed {
-            problem: found.problem,
-            line: found.line,
-            place: found.place,
-            answer: 0,
-            size: 0,
-        };
-    }
-    let k = size_of(list[0]) as usize;
-    let answer = write_fields(&list, k, buffer);
-    Packed {
+    let mut rest = without_mark(text);
+    let mut f = Found {
         problem: 0,
-        line: found.line,
-        place: found.place,
-        answer,
-        size: bytes_of(k),
+        line: 0,
+        place: 0,
+        cell: 0,
+        word: 0,
+        count: 0,
+    };
+    loop {
+        let line = until(rest, b"\n");
+        f = read_line(content_of(line), f, list, word);
+        if f.problem != 0 {
+            return f;
+        }
+        if line.len() == rest.len() {
+            return read_end(f, list);
+        }
+        let next = past(rest, b"\n");
+        rest = next;
     }
 }

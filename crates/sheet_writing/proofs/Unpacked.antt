@@ -6,6 +6,7 @@ use native.Mathlib.Omega.{arith}
 use lib.IntN.{ℤ, pos, natAbs}
 use lib.ListN.{length, getD, drop, length-drop, List·getD-append}
 use lib.Seq.{sets-eq, take-append-le, drop-append-le}
+use Rattle.rules.specs.Lists.{total}
 use Rattle.rules.specs.Packing.{Fit}
 use Rattle.rules.specs.Questions.{afterCall}
 use Rattle.rules.specs.Record.{fieldCount, lastYearOf, fieldsOf, mostFields}
@@ -14,16 +15,17 @@ use Rattle.layout.proofs.Sizes.{fields-count, years-lt}
 use Rattle.record.proofs.Answers.{reader-yes}
 use Rattle.record.proofs.Fields.{RecordFields}
 use Rattle.record.proofs.Number.{record-read}
-use Rattle.laws.proofs.Rows.{rows-all}
 use Rattle.composing.specs.Text.{Put}
 use Rattle.composing.proofs.Puts.{put-none}
-use Rattle.sheet.specs.Sheet.{Due, dueLines, linesOf, lastYearIn, sheetOf}
-use Rattle.sheet_writing.specs.Shown.{dueFirst, duePaids, dueRest, shownText}
-use Rattle.sheet_writing.proofs.Lines.{countsOf, counts-append, paid-counts}
+use Rattle.sheet.specs.declared.Due.{Due}
+use Rattle.sheet.specs.Table.{dueLines}
+use Rattle.sheet.specs.Sheet.{linesOf, lastYearIn, sheetOf}
+use Rattle.sheet_writing.specs.Shown.{shownText}
+use Rattle.sheet_writing.proofs.Lines.{countsOf, sheet-counts}
 
 -- lines look at no more entries than they have numbers
 lines-first : (ds : List Due) (vs ys : List ℤ) → countsOf ds ≤ length vs → linesOf ds (vs ++ ys) ≡ linesOf ds vs
-unfolding linesOf
+unfolding linesOf total
 lines-first [] vs ys h = refl
 lines-first (d ∷ ds) vs ys h =
     rw (
@@ -31,12 +33,6 @@ lines-first (d ∷ ds) vs ys h =
       drop-append-le (d .count) vs ys (omega arith),
       lines-first ds (drop (d .count) vs) ys (omega (arith, length-drop (d .count) vs)),
     )
-
--- the lines of a sheet have as many numbers as a record has fields
-pub sheet-counts : (k : ℕ) → countsOf (dueLines k) ≡ fieldCount k
-unfolding dueLines dueFirst duePaids dueRest
-sheet-counts k =
-    omega (arith, counts-append (dueFirst k) (duePaids k (k + 1) ++ dueRest k), counts-append (duePaids k (k + 1)) (dueRest k), paid-counts k (k + 1), rows-all k, fields-count k)
 
 -- the fields first in a list
 years-first : (k : ℕ) (vs ys : List ℤ) → length vs ≡ fieldCount k → getD vs 0 (pos 0) ≡ pos k → lastYearIn (vs ++ ys) ≡ k

@@ -1,55 +1,43 @@
--- The loop's invariant: the bytes before place i are not the one sought. Assumes nothing.
-use mathlib.Core.Path.{_≡_, refl}
-use Prim.Native.Nat.{_+_, _-_, _≤_}
+-- The loop's invariant: no byte before place i is as sought. Assumes nothing.
+use mathlib.Core.Path.{_≡_, refl, sym, _∙_}
+use mathlib.Core.Bool.{Bool}
+use Prim.Native.Nat.{ℕ, _+_, _-_, _≤_}
 use native.Mathlib.Nat.{le-refl}
 use native.Mathlib.Omega.{arith}
-use borrow.Author.Tests.{eq-eqb, ne-eqb}
-use lib.ListN.{length, getD, drop}
-use Rattle.scanning.specs.Parts.{before, is}
-use Rattle.scanning.proofs.Parts.{before-found, before-more, before-none}
 use borrow.Author.Needs.{needs}
+use borrow.Author.Tests.{not-false}
+use lib.ListN.{length, drop}
+use Rattle.scanning.specs.Parts.{before}
+use Rattle.scanning.specs.Sets.{meets}
+use Rattle.scanning.proofs.Parts.{before-found, before-more, before-none}
 use Rattle.scanning.proofs.find.Statement.{statement}
 use Rattle.scanning.proofs.find.Tie as tie
 
 abbrev Inv-loop : tie.InvT-loop
-Inv-loop text b n i₀ i = (i ≤ n) × ((n ≡ length text) × (before (is b) text ≡ i + before (is b) (drop i text)))
+Inv-loop text set wanted n i₀ i = (i ≤ n) × ((n ≡ length text) × (before (meets wanted set) text ≡ i + before (meets wanted set) (drop i text)))
 
 abbrev μ-loop : tie.MeasureT-loop
-μ-loop text b n i₀ i = n - i
+μ-loop text set wanted n i₀ i = n - i
 
-loop-holds : tie.Need-loop-holds Inv-loop μ-loop
-loop-holds c = (omega arith, (refl, omega arith))
-
-shared-slice-read-if1 : tie.Need-shared-slice-read-if1 Inv-loop μ-loop
-shared-slice-read-if1 c = search needs
+abbrev test : tie.At-loop Inv-loop μ-loop → ℕ → Bool
+test l = meets (l .before .before .before .args .wanted) (l .before .before .before .args .set .now)
 
 returns : tie.Need-returns Inv-loop μ-loop
 returns c =
-    let l = c .before .before .before in
-    let s = l .before in
-    let xs = s .args .text .now in
-    let i = l .loop .i in
-    (before-found (is (s .args .b)) xs i (omega arith) (l .loop .inv .1 .1) (eq-eqb (getD xs i 0) (s .args .b) (c .if1 .taken)), omega arith)
-
-add-i : tie.Need-add-i Inv-loop μ-loop
-add-i c = search needs
-
-loop-less : tie.Need-loop-less Inv-loop μ-loop
-loop-less c = search needs
+    let m = c .before in
+    let l = m .before .before .before in
+    (before-found (test l) 0 (l .before .before .before .args .text .now) (l .loop .i) (omega arith) (l .loop .inv .1 .1) (sym (m .is-met .ensures) ∙ c .if1 .taken), omega arith)
 
 loop-again : tie.Need-loop-again Inv-loop μ-loop
 loop-again c =
-    let l = c .before .before .before in
-    let s = l .before in
-    let xs = s .args .text .now in
-    let i = l .loop .i in
-    (omega arith, (refl, before-more (is (s .args .b)) xs i (omega arith) (l .loop .inv .1 .1) (ne-eqb (getD xs i 0) (s .args .b) (c .if1 .left))))
+    let m = c .before in
+    let l = m .before .before .before in
+    (omega arith, (refl, before-more (test l) 0 (l .before .before .before .args .text .now) (l .loop .i) (omega arith) (l .loop .inv .1 .1) (sym (m .is-met .ensures) ∙ c .if1 .left)))
 
 returns-2 : tie.Need-returns-2 Inv-loop μ-loop
 returns-2 c =
-    let s = c .before .before in
-    let l = c .before .loop in
-    (before-none (is (s .args .b)) (s .args .text .now) (l .i) (omega arith) (l .inv .1 .1), le-refl _)
+    let l = c .before in
+    (before-none (test l) 0 (l .before .before .before .args .text .now) (l .loop .i) (omega arith) (l .loop .inv .1 .1), le-refl _)
 
 pub find-spec : {M : Type 1} → statement M
 find-spec =
@@ -57,10 +45,11 @@ find-spec =
     (tie.spec
     Inv-loop
     μ-loop
-    loop-holds
-    shared-slice-read-if1
+    (λ c. (omega arith, (refl, omega arith)))
+    (λ c. search needs)
+    (λ c κs. search needs)
     returns
-    add-i
-    loop-less
+    (λ c. search needs)
+    (λ c. search needs)
     loop-again
     returns-2)

@@ -8,7 +8,7 @@ use lib.ListN.{length, take}
 use lib.Seq.{take-length}
 use Rattle.rules.specs.Lists.{every}
 use Rattle.laws.proofs.Lists.{every-more, every-fails}
-use Rattle.scanning.specs.Scan.{isDigit}
+use Rattle.scanning.specs.Numbers.{isDigit}
 use Rattle.scanning.proofs.Numbers.{natural-is, natural-none}
 use borrow.Author.Needs.{needs}
 use Rattle.scanning.proofs.is_natural.Statement.{statement}
@@ -27,23 +27,11 @@ loop-holds : tie.Need-loop-holds Inv-loop μ-loop
 unfolding every
 loop-holds c = (omega arith, (refl, (omega arith, refl)))
 
-shared-slice-read-is-digit : tie.Need-shared-slice-read-is-digit Inv-loop μ-loop
-shared-slice-read-is-digit c = search needs
-
-is-digit-requires : tie.Need-is-digit-requires Inv-loop μ-loop
-is-digit-requires c κs = search needs
-
 returns-2 : tie.Need-returns-2 Inv-loop μ-loop
 returns-2 c =
     let l = c .before .before .before .before in
     let xs = l .before .before .before .args .word .now in
     sym (natural-is xs (omega arith) ∙ every-fails isDigit xs (l .loop .i) 0 (omega arith) (sym (c .before .is-digit .ensures) ∙ not-true _ (c .if2 .taken)))
-
-add-i : tie.Need-add-i Inv-loop μ-loop
-add-i c = search needs
-
-loop-less : tie.Need-loop-less Inv-loop μ-loop
-loop-less c = search needs
 
 loop-again : tie.Need-loop-again Inv-loop μ-loop
 loop-again c =
@@ -67,10 +55,10 @@ is-natural-spec =
     μ-loop
     returns
     loop-holds
-    shared-slice-read-is-digit
-    is-digit-requires
+    (λ c. search needs)
+    (λ c κs. search needs)
     returns-2
-    add-i
-    loop-less
+    (λ c. search needs)
+    (λ c. search needs)
     loop-again
     returns-3)

@@ -13,24 +13,6 @@ use Rattle.scanning.proofs.number_of.Tie as tie
 returns : tie.Need-returns
 returns c = sym (whole-none (c .before .before .args .word .now) (c .if1 .taken))
 
-shared-slice-read-if2 : tie.Need-shared-slice-read-if2
-shared-slice-read-if2 c = search needs
-
-sub-size-of-digits : tie.Need-sub-size-of-digits
-sub-size-of-digits c = search needs
-
-part-size-of-digits-start : tie.Need-part-size-of-digits-start
-part-size-of-digits-start c = search needs
-
-part-size-of-digits-end : tie.Need-part-size-of-digits-end
-part-size-of-digits-end c = search needs
-
-size-of-digits-requires : tie.Need-size-of-digits-requires
-size-of-digits-requires c κs = search needs
-
-cast-result : tie.Need-cast-result
-cast-result c = search needs
-
 sub-result : tie.Need-sub-result
 sub-result c = minus-fits (c .size-of-digits .result) (omega (arith, c .size-of-digits .ensures .1))
 
@@ -40,12 +22,6 @@ returns-2 c =
     let xs = d .before .before .before .before .args .word .now in
     minus (c .size-of-digits .result) (omega (arith, c .size-of-digits .ensures .1))
     ∙ (ap (λ n. negℤ (pos n)) (c .size-of-digits .ensures .0) ∙ sym (whole-minus xs (omega arith) (d .if2 .taken)))
-
-size-of-digits-requires-2 : tie.Need-size-of-digits-requires-2
-size-of-digits-requires-2 c κs = search needs
-
-cast-result-2 : tie.Need-cast-result-2
-cast-result-2 c = search needs
 
 returns-3 : tie.Need-returns-3
 returns-3 c =
@@ -58,14 +34,14 @@ number-of-spec =
     tie.close
     (tie.spec
     returns
-    shared-slice-read-if2
-    sub-size-of-digits
-    part-size-of-digits-start
-    part-size-of-digits-end
-    size-of-digits-requires
-    cast-result
+    (λ c. search needs)
+    (λ c. search needs)
+    (λ c. search needs)
+    (λ c. search needs)
+    (λ c κs. search needs)
+    (λ c. search needs)
     sub-result
     returns-2
-    size-of-digits-requires-2
-    cast-result-2
+    (λ c κs. search needs)
+    (λ c. search needs)
     returns-3)

@@ -8,22 +8,10 @@ use Rattle.scanning.proofs.with_digit.Tie as tie
 returns : tie.Need-returns
 returns c = omega (arith, digit-stops (c .before .args .n) (c .before .args .b) (c .if1 .taken))
 
-mul-result : tie.Need-mul-result
-mul-result c = search needs
-
 returns-2 : tie.Need-returns-2
 returns-2 c =
     let a = c .before .before .args in
     omega (arith, digit-more (a .n) (a .b) (c .before .if1 .left))
-
-mul-result-2 : tie.Need-mul-result-2
-mul-result-2 c = search needs
-
-wide-requires : tie.Need-wide-requires
-wide-requires c κs = search needs
-
-add-result : tie.Need-add-result
-add-result c = search needs
 
 returns-3 : tie.Need-returns-3
 returns-3 c =
@@ -33,4 +21,4 @@ returns-3 c =
 pub with-digit-spec : {M : Type 1} → statement M
 with-digit-spec =
     tie.close
-    (tie.spec returns mul-result returns-2 mul-result-2 wide-requires add-result returns-3)
+    (tie.spec returns (λ c. search needs) returns-2 (λ c. search needs) (λ c κs. search needs) (λ c. search needs) returns-3)

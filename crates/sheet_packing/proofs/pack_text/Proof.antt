@@ -1,75 +1,100 @@
--- What packing answers decides what is said (refused, wrong, made). Assumes nothing.
-use mathlib.Core.Path.{_≡_, sym, ap, _∙_}
-use Rattle.sheet.specs.Sheet.{readSheet, packAnswer}
-use Rattle.sheet_reading.specs.Rows.{packedOf}
-use Rattle.sheet_reading.specs.declared.Packed.{Packed}
+-- What was found, and what the writer answers, decide what is said. Assumes nothing.
+use mathlib.Core.Path.{_≡_, sym, _∙_}
+use mathlib.Core.List.{List}
+use Prim.Native.Nat.{ℕ}
+use denote.Ref.{now}
+use lib.ListN.{length}
+use Rattle.rules.specs.Record.{mostBytes}
 use Rattle.composing.proofs.Puts.{put-same, put-none}
-use Rattle.sheet_packing.proofs.Outcomes.{refused, wrong, made, size-made}
+use Rattle.sheet_packing.proofs.Outcomes.{list-long, word-long, asked, wrong, few, written, refused, made}
 use borrow.Author.Needs.{needs}
 use Rattle.sheet_packing.proofs.pack_text.Statement.{statement}
 use Rattle.sheet_packing.proofs.pack_text.Tie as tie
 
-pack-requires : tie.Need-pack-requires
-pack-requires c κs = search needs
+-- what was read
+abbrev text : tie.After-read-sheet → List ℕ
+text r = r .before .before .before .before .before .args .text .now
 
-put-refusal-requires : tie.Need-put-refusal-requires
-put-refusal-requires c κs = search needs
+slice-aggregate-put-wrong : tie.Need-slice-aggregate-put-wrong
+slice-aggregate-put-wrong c =
+    let r = c .before .before .before .before .before in
+    sym (list-long (text r) _ _ _ (r .read-sheet .ensures))
 
-same-length : tie.Need-same-length
-same-length c = search needs
-
-returns : tie.Need-returns
-unfolding packedOf
-returns c =
-    let s = c .before .before .before .before .before .before .before .before .before .before in
-    let t = readSheet (s .args .text .now) in
-    let done = c .before .before .before .before .before .before .pack in
-    let e = done .ensures .0 in
-    let answer : done .result .answer ≡ packAnswer t = ap (λ (x : Packed). x .answer) e in
-    let said = refused t (done .result .answer) answer (c .before .before .before .before .if1 .taken) in
-    (done .ensures .1, (said .0, put-same (said .1) (c .before .before .put-refusal .ensures)))
+slice-aggregate-put-wrong-2 : tie.Need-slice-aggregate-put-wrong-2
+slice-aggregate-put-wrong-2 c =
+    let r = c .before .before .before .before .before .before in
+    sym (word-long (text r) _ _ _ (r .read-sheet .ensures))
 
 put-wrong-requires : tie.Need-put-wrong-requires
-put-wrong-requires c κs = search needs
+put-wrong-requires c κs =
+    let r = c .before .before .before .before .before .before in
+    asked (text r) _ _ _ (r .read-sheet .ensures)
 
-same-length-2 : tie.Need-same-length-2
-same-length-2 c = search needs
+returns : tie.Need-returns
+returns c =
+    let r = c .before .before .before .before .before .before .before .before .before in
+    let w = wrong (text r) _ _ _ (r .read-sheet .ensures) (c .before .before .before .before .before .before .if1 .taken) (now (c .before .before .before .before .before .before .before .before .before .before .before .before .before .before .args .packed)) in
+    (w .0, (w .1 .0, put-same (w .1 .1) (c .before .before .put-wrong .ensures)))
+
+slice-aggregate-last-year : tie.Need-slice-aggregate-last-year
+slice-aggregate-last-year c =
+    let r = c .before .before .before .before in
+    sym (list-long (text r) _ _ _ (r .read-sheet .ensures))
+
+last-year-requires : tie.Need-last-year-requires
+last-year-requires c κs =
+    let r = c .before .before .before .before in
+    asked (text r) _ _ _ (r .read-sheet .ensures) .0
+
+slice-aggregate-write-fields : tie.Need-slice-aggregate-write-fields
+slice-aggregate-write-fields c =
+    let r = c .before .before .before .before .before .before in
+    sym (list-long (text r) _ _ _ (r .read-sheet .ensures))
+
+write-fields-requires : tie.Need-write-fields-requires
+write-fields-requires c κs =
+    let r = c .before .before .before .before .before .before .before in
+    let long : length (now (c .before .before .before .before .before .before .before .before .before .before .before .before .args .packed)) ≡ mostBytes = search needs in
+    (few (text r) _ _ _ (r .read-sheet .ensures) (c .before .before .before .before .if1 .left) _ (c .before .before .last-year .ensures), (list-long (text r) _ _ _ (r .read-sheet .ensures), long))
 
 returns-2 : tie.Need-returns-2
-unfolding packedOf
 returns-2 c =
-    let s = c .before .before .before .before .before .before .before .before .before .before .before .before in
-    let t = readSheet (s .args .text .now) in
-    let done = c .before .before .before .before .before .before .before .before .pack in
-    let e = done .ensures .0 in
-    let answer : done .result .answer ≡ packAnswer t = ap (λ (x : Packed). x .answer) e in
-    let problem : done .result .problem ≡ t .problem = ap (λ (x : Packed). x .problem) e in
-    let said = wrong t (sym answer ∙ c .before .before .before .before .before .before .if1 .left) (λ z. c .before .before .before .before .if2 .taken (problem ∙ z)) in
-    (done .ensures .1, (said .0, put-same (said .1) (c .before .before .put-wrong .ensures)))
+    let r = c .before .before .before .before .before .before .before .before .before .before .before .before .before in
+    let k = c .before .before .before .before .before .before .before .before .last-year in
+    let w = c .before .before .before .before .before .write-fields in
+    let no = refused (text r) _ _ _ (r .read-sheet .ensures) (c .before .before .before .before .before .before .before .before .before .before .if1 .left) _ (k .ensures) (w .result) (w .ensures .0) (c .before .before .before .before .if2 .taken) in
+    (written (text r) _ _ _ (r .read-sheet .ensures) (c .before .before .before .before .before .before .before .before .before .before .if1 .left) _ (k .ensures) _ _ (w .ensures .1), (no .0, put-same (no .1) (c .before .before .put-refusal .ensures)))
+
+bytes-of-requires : tie.Need-bytes-of-requires
+bytes-of-requires c κs =
+    let r = c .before .before .before .before .before .before .before .before .before in
+    few (text r) _ _ _ (r .read-sheet .ensures) (c .before .before .before .before .before .before .if1 .left) _ (c .before .before .before .before .last-year .ensures)
 
 returns-3 : tie.Need-returns-3
-unfolding packedOf
 returns-3 c =
-    let s = c .before .before .before .before .before .before .before .before in
-    let t = readSheet (s .args .text .now) in
-    let done = c .before .before .before .before .pack in
-    let e = done .ensures .0 in
-    let answer : done .result .answer ≡ packAnswer t = ap (λ (x : Packed). x .answer) e in
-    let problem : done .result .problem ≡ t .problem = ap (λ (x : Packed). x .problem) e in
-    let fine = sym problem ∙ c .if2 .left in
-    let said = made t (sym answer ∙ c .before .before .if1 .left) fine in
-    let size = ap (λ (x : Packed). x .size) e ∙ size-made t fine in
-    (done .ensures .1, (size ∙ said .0, put-same (said .1) (put-none _ 0)))
+    let r = c .before .before .before .before .before .before .before .before .before .before in
+    let k = c .before .before .before .before .before .last-year in
+    let w = c .before .before .write-fields in
+    let done = made (text r) _ _ _ (r .read-sheet .ensures) (c .before .before .before .before .before .before .before .if1 .left) _ (k .ensures) (w .result) (w .ensures .0) (c .before .if2 .left) in
+    (written (text r) _ _ _ (r .read-sheet .ensures) (c .before .before .before .before .before .before .before .if1 .left) _ (k .ensures) _ _ (w .ensures .1), (c .bytes-of .ensures .0 ∙ done .0, put-same (done .1) (put-none _ 0)))
 
 pub pack-text-spec : {M : Type 1} → statement M
 pack-text-spec =
     tie.close
     (tie.spec
-    pack-requires
-    put-refusal-requires
-    same-length
-    returns
+    (λ c. search needs)
+    (λ c κs. search needs)
+    slice-aggregate-put-wrong
+    slice-aggregate-put-wrong-2
     put-wrong-requires
-    same-length-2
+    (λ c. search needs)
+    returns
+    slice-aggregate-last-year
+    last-year-requires
+    slice-aggregate-write-fields
+    write-fields-requires
+    (λ c κs. search needs)
+    (λ c. search needs)
     returns-2
+    bytes-of-requires
     returns-3)

@@ -1,48 +1,121 @@
--- By what the first line says. Assumes nothing.
-use mathlib.Core.Path.{_≡_, sym, ap, _∙_}
-use lib.ListN.{length}
-use lib.Seq.{sets}
-use Rattle.rules.specs.Record.{mostFields}
-use Rattle.sheet.specs.Sheet.{Typed}
-use Rattle.sheet_reading.specs.Lines.{foundOf, linesIn}
-use Rattle.sheet_reading.proofs.Sheets.{sheet-wrong, sheet-right, known-years}
+-- The loop's invariant: nothing is wrong so far, and the lines of the rest are left (State). Assumes nothing.
+use mathlib.Core.Path.{_≡_, refl, sym, ap, _∙_}
+use mathlib.Core.Bool.{Bool}
+use mathlib.Core.List.{List, [], _∷_}
+use Prim.Native.Nat.{ℕ, _+_, _≤_, _<_}
+use native.Mathlib.Omega.{arith}
 use borrow.Author.Needs.{needs}
+use lib.ListN.{length, take}
+use Rattle.composing.specs.Text.{ascii}
+use Rattle.composing.proofs.Puts.{put-length}
+use Rattle.scanning.specs.Parts.{among, until, past}
+use Rattle.scanning.proofs.Parts.{until-most}
+use Rattle.cells.specs.Cells.{contentOf}
+use Rattle.cells.proofs.Walk.{pieces-first, pieces-last, pieces-more, past-shorter, after}
+use Rattle.sheet.specs.Sheet.{lines, readLine}
+use Rattle.sheet_reading.specs.Reads.{Reads}
+use Rattle.sheet_reading.proofs.Lines.{unmarked-most}
+use Rattle.sheet_reading.proofs.Turns.{State, state-start, state-wrong, state-next, next-line, state-end}
 use Rattle.sheet_reading.proofs.read_sheet.Statement.{statement}
 use Rattle.sheet_reading.proofs.read_sheet.Tie as tie
 
-count-lines-requires : tie.Need-count-lines-requires
-count-lines-requires c κs = search needs
+abbrev Inv-loop : tie.InvT-loop
+Inv-loop text list₀ word₀ rest₀ f₀ t8 t9 list word rest f = State text list₀ word₀ (lines rest) list word f × (f .line + length rest ≤ length text)
 
-read-first-requires : tie.Need-read-first-requires
-read-first-requires c κs = search needs
+abbrev μ-loop : tie.MeasureT-loop
+μ-loop text list₀ word₀ rest₀ f₀ t8 t9 list word rest f = length rest
 
-returns : tie.Need-returns
+abbrev p : ℕ → Bool
+p = among (ascii "\n")
+
+-- a line was read, where the lines of the rest are these
+abbrev Here : (c : tie.After-read-line Inv-loop μ-loop) → List (List ℕ) → Type 0
+Here c ls = lines (c .before .before .before .before .before .before .loop .rest .now) ≡ until p (c .before .before .before .before .before .before .loop .rest .now) ∷ ls
+
+abbrev start : tie.After-read-line Inv-loop μ-loop → tie.Start Inv-loop μ-loop
+start c = c .before .before .before .before .before .before .before .before .before .before
+
+-- what it came to
+reads : (c : tie.After-read-line Inv-loop μ-loop)
+    → Reads (readLine (c .before .before .before .before .before .before .loop .f .line + 1) (c .before .before .before .before .before .before .loop .f .place) (take (c .before .before .before .before .before .before .loop .f .count) (c .before .before .before .before .before .before .loop .list)) (contentOf (until p (c .before .before .before .before .before .before .loop .rest .now))))
+    (c .read-line .result) (c .before .before .before .before .before .before .loop .list) (c .read-line .last .1 .1 .0) (c .before .before .before .before .before .before .loop .word) (c .read-line .last .1 .1 .1 .0)
+reads c = rw (c .before .before .before .content-of .ensures, c .before .before .before .before .until .ensures) at (c .read-line .ensures)
+
+next : (c : tie.After-read-line Inv-loop μ-loop) (ls : List (List ℕ)) → Here c ls → c .read-line .result .problem ≡ 0
+    → State (start c .args .text .now) (start c .args .list .now) (start c .args .word .now) ls (c .read-line .last .1 .1 .0) (c .read-line .last .1 .1 .1 .0) (c .read-line .result)
+next c ls e h =
+    let l = c .before .before .before .before .before .before .loop in
+    state-next _ _ _ (until p (l .rest .now)) ls (l .list) _ (l .word) _ (l .f) _ (rw e at (l .inv .0)) (reads c) h (c .before .before .read-line-arg .given .0 .1)
+
+loop-holds : tie.Need-loop-holds Inv-loop μ-loop
+loop-holds c =
+    (rw (c .without-mark .ensures) (state-start _ _ _), rw (c .without-mark .ensures) (omega (arith, unmarked-most (c .before .before .before .args .text .now))))
+
+read-line-requires : tie.Need-read-line-requires Inv-loop μ-loop
+read-line-requires c κs =
+    (omega arith, (c .before .read-line-arg .given .0 .1, c .before .before .before .before .before .loop .inv .0 .good))
+
+same-length : tie.Need-same-length Inv-loop μ-loop
+same-length c =
+    put-length (reads (c .before .before .before .before) .put) ∙ ap length (c .before .before .before .before .before .before .before .before .before .before .loop .inv .0 .kept)
+
+returns : tie.Need-returns Inv-loop μ-loop
 returns c =
-    let f = c .before .before in
-    let n = f .before in
-    let a = n .before .before .args in
-    let e = sheet-wrong (a .text .now) (n .count-lines .result) (f .read-first .result) (n .count-lines .ensures) (f .read-first .ensures) (c .if1 .taken) in
-    (sym (ap foundOf e), sym (ap (λ (t : Typed). sets (a .list .now) 0 (t .numbers)) e))
+    let d = c .before .before .before .before in
+    let l = d .before .before .before .before .before .before .loop in
+    let rest = l .rest .now in
+    state-wrong _ _ _ (until p rest) (after p rest) (l .list) _ (l .word) _ (l .f) _ (rw (pieces-first p rest) at (l .inv .0)) (reads d) (c .if1 .taken)
 
-read-lines-requires : tie.Need-read-lines-requires
-read-lines-requires c κs =
-    let d = c .before in
-    let f = d .before .before in
-    let n = f .before in
-    let a = n .before .before .args in
-    let long : length (a .list .now) ≡ mostFields = search needs in
-    (known-years (n .count-lines .result) (linesIn 1 (a .text .now)) (f .read-first .result) (f .read-first .ensures) (d .if1 .left), long)
+read-end-requires : tie.Need-read-end-requires Inv-loop μ-loop
+read-end-requires c κs =
+    let d = c .before .before .before .before .before .before .before in
+    (c .read-end-arg2 .given .0, next d (after p (d .before .before .before .before .before .before .loop .rest .now)) (pieces-first p (d .before .before .before .before .before .before .loop .rest .now)) (c .before .before .before .if1 .left) .good)
 
-returns-2 : tie.Need-returns-2
+same-length-2 : tie.Need-same-length-2 Inv-loop μ-loop
+same-length-2 c =
+    put-length (reads (c .before .before .before .before .before .before .before .before) .put) ∙ ap length (c .before .before .before .before .before .before .before .before .before .before .before .before .before .before .loop .inv .0 .kept)
+
+returns-2 : tie.Need-returns-2 Inv-loop μ-loop
 returns-2 c =
-    let d = c .before .before in
-    let f = d .before .before in
-    let n = f .before in
-    let a = n .before .before .args in
-    let e = sheet-right (a .text .now) (n .count-lines .result) (f .read-first .result) (n .count-lines .ensures) (f .read-first .ensures) (d .if1 .left) in
-    (c .read-lines .ensures .0 ∙ ap foundOf (sym e), c .read-lines .ensures .1 ∙ ap (λ (t : Typed). sets (a .list .now) 0 (t .numbers)) (sym e))
+    let d = c .before .before .before .before .before .before .before .before in
+    let rest = d .before .before .before .before .before .before .loop .rest .now in
+    let all : length rest ≤ length (until p rest) = omega (arith, ap length (d .before .before .before .before .until .ensures), c .before .before .before .if2 .taken) in
+    state-end _ _ _ _ _ _ _ (next d [] (pieces-last p rest all) (c .before .before .before .before .if1 .left)) (c .read-end .ensures _)
+
+loop-less : tie.Need-loop-less Inv-loop μ-loop
+loop-less c =
+    let d = c .before .before .before .before .before .before .before in
+    let rest = d .before .before .before .before .before .before .loop .rest .now in
+    rw (c .past .ensures) (past-shorter p rest (omega (arith, ap length (d .before .before .before .before .until .ensures), until-most p rest)))
+
+loop-again : tie.Need-loop-again Inv-loop μ-loop
+loop-again c =
+    let d = c .before .before .before .before .before .before .before in
+    let l = d .before .before .before .before .before .before .loop in
+    let rest = l .rest .now in
+    let more : length (until p rest) < length rest = omega (arith, ap length (d .before .before .before .before .until .ensures), until-most p rest) in
+    let number = next-line _ _ _ (until p rest) (lines (past p rest)) (l .list) _ (l .word) _ (l .f) _ (rw (pieces-more p rest more) at (l .inv .0)) (reads d) (c .before .before .before .if1 .left) (d .before .before .read-line-arg .given .0 .1) in
+    rw (c .past .ensures)
+    (next d (lines (past p rest)) (pieces-more p rest more) (c .before .before .before .if1 .left), omega (arith, number, past-shorter p rest more))
 
 pub read-sheet-spec : {M : Type 1} → statement M
 read-sheet-spec =
     tie.close
-    (tie.spec count-lines-requires read-first-requires returns read-lines-requires returns-2)
+    (tie.spec
+    Inv-loop
+    μ-loop
+    (λ c κs. search needs)
+    loop-holds
+    (λ c. search needs)
+    (λ c κs. search needs)
+    (λ c κs. search needs)
+    read-line-requires
+    same-length
+    returns
+    read-end-requires
+    same-length-2
+    returns-2
+    (λ c. search needs)
+    (λ c κs. search needs)
+    loop-less
+    loop-again)

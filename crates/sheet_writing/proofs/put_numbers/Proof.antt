@@ -24,27 +24,6 @@ loop-holds : tie.Need-loop-holds Inv-loop μ-loop
 unfolding spaced
 loop-holds c = (omega arith, put-none _ _)
 
-put-byte-requires : tie.Need-put-byte-requires Inv-loop μ-loop
-put-byte-requires c κs = search needs
-
-add-put-integer : tie.Need-add-put-integer Inv-loop μ-loop
-add-put-integer c = search needs
-
-mul-put-integer : tie.Need-mul-put-integer Inv-loop μ-loop
-mul-put-integer c = search needs
-
-shared-slice-copy-out-put-integer : tie.Need-shared-slice-copy-out-put-integer Inv-loop μ-loop
-shared-slice-copy-out-put-integer c = search needs
-
-put-integer-requires : tie.Need-put-integer-requires Inv-loop μ-loop
-put-integer-requires c κs = search needs
-
-add-i : tie.Need-add-i Inv-loop μ-loop
-add-i c = omega arith
-
-loop-less : tie.Need-loop-less Inv-loop μ-loop
-loop-less c = omega arith
-
 loop-again : tie.Need-loop-again Inv-loop μ-loop
 loop-again c =
     let l = c .before .before .before .before .before .before .before .before .before .before .loop in
@@ -68,13 +47,13 @@ put-numbers-spec =
     Inv-loop
     μ-loop
     loop-holds
-    put-byte-requires
-    add-put-integer
-    mul-put-integer
-    shared-slice-copy-out-put-integer
-    put-integer-requires
-    add-i
-    loop-less
+    (λ c κs. search needs)
+    (λ c. search needs)
+    (λ c. search needs)
+    (λ c. search needs)
+    (λ c κs. search needs)
+    (λ c. omega arith)
+    (λ c. omega arith)
     loop-again
     same-length
     returns)

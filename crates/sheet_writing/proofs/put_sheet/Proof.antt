@@ -1,85 +1,98 @@
--- The lines before the increments, those of the increments and those after them are the sheet (put-sheet-lines). Assumes nothing.
-use borrow.Author.Needs.{sfits-of, needs}
+-- The loop's invariant: the lines before place i are put, and their numbers passed (put-next-line). Assumes nothing.
+use mathlib.Core.Path.{_≡_, refl, sym, ap, _∙_}
+use mathlib.Core.List.{List}
+use Prim.Native.Nat.{ℕ, _+_, _-_, _<_, _≤_}
 use native.Mathlib.Omega.{arith}
-use mathlib.Core.Path.{_≡_}
-use Prim.Native.Nat.{_<_}
+use native.Mathlib.Numerals.{add-one}
+use borrow.Author.Needs.{needs, sfits-of}
+use denote.Ref.{now}
 use lib.IntN.{pos}
 use lib.ListN.{length, getD}
-use denote.Ref.{now}
-use mir.Syntax.{w64}
 use mir.Facts.{toZ-ofZ}
-use Rattle.rules.specs.Record.{cells, mostFields}
-use Rattle.laws.proofs.Rows.{cells-most}
-use Rattle.sheet.specs.Sheet.{lastYearIn, sheetOf}
-use Rattle.sheet_writing.proofs.Lines.{put-sheet-lines}
+use mir.Syntax.{w64}
+use Rattle.rules.specs.Lists.{upTo, total}
+use Rattle.rules.specs.Record.{mostFields}
+use Rattle.composing.specs.Text.{Put}
+use Rattle.composing.proofs.Puts.{put-none, put-length}
+use Rattle.sheet.specs.declared.Due.{Due}
+use Rattle.sheet.specs.Table.{dueAt, dueLines}
+use Rattle.sheet.specs.Sheet.{linesOf, lastYearIn, sheetOf}
+use Rattle.sheet.proofs.Table.{startAt, start-more, start-room}
+use Rattle.sheet_writing.proofs.Lines.{put-next-line}
 use Rattle.sheet_writing.proofs.put_sheet.Statement.{statement}
 use Rattle.sheet_writing.proofs.put_sheet.Tie as tie
 
+abbrev Inv-loop : tie.InvT-loop
+Inv-loop out₀ list k n end₀ from₀ i₀ out end from i =
+    (k < 16) × ((n ≡ k + 7) × ((i ≤ n) × ((from ≡ startAt k i) × Put out₀ out 0 end (linesOf (upTo (dueAt k) i) list))))
+
+abbrev μ-loop : tie.MeasureT-loop
+μ-loop out₀ list k n end₀ from₀ i₀ out end from i = n - i
+
 -- the number that is taken from the list is k
-years : (c : tie.After-size-of) → (c .size-of .result ≡ lastYearIn (now (c .before .before .before .args .list))) × (c .size-of .result < 16)
+years : (c : tie.After-size-of Inv-loop μ-loop) → (c .size-of .result ≡ lastYearIn (now (c .before .before .before .args .list))) × (c .size-of .result < 16)
 years c =
     let vs = now (c .before .before .before .args .list) in
     let kept = toZ-ofZ {w = w64} {z = getD vs 0 (pos 0)} (sfits-of (c .before .size-of-arg .given)) in
     let e : c .size-of .result ≡ lastYearIn vs = rw kept at (c .size-of .ensures) in
     (e, omega (arith, c .before .before .before .pre))
 
-element-copy-out-size-of : tie.Need-element-copy-out-size-of
-element-copy-out-size-of c = search needs
+-- room for the numbers of the line
+room : (c : tie.After-due-at Inv-loop μ-loop) → c .before .before .loop .from + c .due-at .result .count ≤ mostFields
+room c =
+    let l = c .before .before .loop in
+    let k = c .before .before .before .size-of .result in
+    rw (c .due-at .ensures, l .inv .1 .1 .1 .0) (start-room k (l .i) (l .inv .0) (omega (arith, c .before .loop-test .taken)))
 
-size-of-requires : tie.Need-size-of-requires
-size-of-requires c κs = search needs
+add-n : tie.Need-add-n Inv-loop μ-loop
+add-n c = omega (arith, years c .1)
 
-put-first-requires : tie.Need-put-first-requires
-put-first-requires c κs =
-    let long : length (c .before .before .before .before .before .args .list .now) ≡ mostFields = c .put-first-arg2 .given .0 in
-    let few : c .before .before .size-of .result < 16 = years (c .before .before) .1 in
-    (few, omega arith)
+loop-holds : tie.Need-loop-holds Inv-loop μ-loop
+unfolding startAt upTo total linesOf
+loop-holds c = (years c .1, (refl, (omega arith, (refl, put-none _ _))))
 
-put-paid-requires : tie.Need-put-paid-requires
-put-paid-requires c κs =
-    let k = c .before .before .before .before .before .before .before .size-of .result in
-    let long : length (c .before .before .before .before .before .before .before .before .before .before .args .list .now) ≡ mostFields = c .put-paid-arg2 .given .0 in
-    let few : k < 16 = years (c .before .before .before .before .before .before .before) .1 in
-    (few, omega (arith, cells-most k few))
+put-line-requires : tie.Need-put-line-requires Inv-loop μ-loop
+put-line-requires c κs =
+    let long : length (c .before .before .before .before .before .before .before .before .args .list .now) ≡ mostFields = c .put-line-arg2 .given .0 in
+    omega (arith, room (c .before .before))
 
-add-put-rest : tie.Need-add-put-rest
-add-put-rest c = record { fits = omega (arith, years (c .before .before .before .before .before .before .before .before .before .before .before .before) .1) }
+add-from : tie.Need-add-from Inv-loop μ-loop
+add-from c = omega (arith, room (c .before .before .before .before .before .before))
 
-cells-of-requires : tie.Need-cells-of-requires
-cells-of-requires c κs = years (c .before .before .before .before .before .before .before .before .before .before .before .before) .1
+loop-again : tie.Need-loop-again Inv-loop μ-loop
+loop-again c =
+    let l = c .before .before .before .before .before .before .before .before .loop in
+    let k = c .before .before .before .before .before .before .before .before .before .size-of .result in
+    let d = c .before .before .before .before .before .before .due-at in
+    let from : l .from + d .result .count ≡ startAt k (l .i + 1) = rw (add-one, d .ensures, start-more k (l .i)) (omega (arith, l .inv .1 .1 .1 .0)) in
+    (l .inv .0, (refl, (omega arith, (from, put-next-line k (l .i) (l .from) (now (c .before .before .before .before .before .before .before .before .before .before .before .before .args .list)) (l .inv .1 .1 .1 .0) (l .inv .1 .1 .1 .1) (rw (d .ensures) at (c .before .before .before .put-line .ensures))))))
 
-add-put-rest-2 : tie.Need-add-put-rest-2
-add-put-rest-2 c = record { fits = omega (arith, years (c .before .before .before .before .before .before .before .before .before .before .before .before .before) .1, c .cells-of .ensures .1) }
+same-length : tie.Need-same-length Inv-loop μ-loop
+same-length c = put-length (c .before .loop .inv .1 .1 .1 .1)
 
-put-rest-requires : tie.Need-put-rest-requires
-put-rest-requires c κs =
-    let long : length (c .before .before .before .before .before .before .before .before .before .before .before .before .before .before .before .before .args .list .now) ≡ mostFields = c .before .put-rest-arg2 .given .0 in
-    let few : c .before .before .before .before .before .before .before .before .before .before .before .before .before .size-of .result < 16 = years (c .before .before .before .before .before .before .before .before .before .before .before .before .before) .1 in
-    (few, omega (arith, c .cells-of .ensures .1))
-
-same-length : tie.Need-same-length
-same-length c = search needs
-
-returns : tie.Need-returns
-unfolding sheetOf
+returns : tie.Need-returns Inv-loop μ-loop
+unfolding sheetOf dueLines
 returns c =
-    let k = c .before .before .before .before .before .before .before .before .before .before .before .before .before .before .before .before .size-of .result in
-    let vs = now (c .before .before .before .before .before .before .before .before .before .before .before .before .before .before .before .before .before .before .before .args .list) in
-    let e : k ≡ lastYearIn vs = years (c .before .before .before .before .before .before .before .before .before .before .before .before .before .before .before .before) .0 in
-    let all : c .before .before .before .cells-of .result ≡ cells k = c .before .before .before .cells-of .ensures .0 in
-    rw (← e) (put-sheet-lines k vs (c .before .before .before .before .before .before .before .before .before .before .before .before .before .put-first .ensures) (c .before .before .before .before .before .before .before .before .put-paid .ensures) (rw all at (c .before .before .put-rest .ensures)))
+    let l = c .before .loop in
+    let k = c .before .before .size-of .result in
+    let e : l .i ≡ k + 7 = omega arith in
+    rw (← years (c .before .before) .0) (rw e at (l .inv .1 .1 .1 .1))
 
 pub put-sheet-spec : {M : Type 1} → statement M
 put-sheet-spec =
     tie.close
     (tie.spec
-    element-copy-out-size-of
-    size-of-requires
-    put-first-requires
-    put-paid-requires
-    add-put-rest
-    cells-of-requires
-    add-put-rest-2
-    put-rest-requires
+    Inv-loop
+    μ-loop
+    (λ c. search needs)
+    (λ c κs. search needs)
+    add-n
+    loop-holds
+    (λ c κs. search needs)
+    put-line-requires
+    add-from
+    (λ c. search needs)
+    (λ c. search needs)
+    loop-again
     same-length
     returns)

@@ -20,12 +20,6 @@ bytes c i = omega (arith, c .before .before .before .before .before .shared-slic
 answered : (c : tie.Else1) → readAnswer (now (c .before .before .before .before .before .before .args .packed)) mostFields ≡ 0
 answered c = sym (c .before .before .doonamurk-read .ensures .0) ∙ c .if1 .left
 
-slice-aggregate-doonamurk-read : tie.Need-slice-aggregate-doonamurk-read
-slice-aggregate-doonamurk-read c = search needs
-
-doonamurk-read-requires : tie.Need-doonamurk-read-requires
-doonamurk-read-requires c κs = search needs
-
 returns : tie.Need-returns
 returns c =
     let s = now (c .before .before .before .before .before .before .args .packed) in
@@ -35,9 +29,6 @@ put-sheet-requires : tie.Need-put-sheet-requires
 put-sheet-requires c κs =
     let s = now (c .before .before .before .before .before .before .before .before .args .packed) in
     rw (c .before .before .before .before .doonamurk-read .ensures .1) (read-years s (bytes (c .before .before)) (answered (c .before .before)) (replicate mostFields (pos 0)) refl)
-
-same-length : tie.Need-same-length
-same-length c = search needs
 
 returns-2 : tie.Need-returns-2
 returns-2 c =
@@ -50,9 +41,9 @@ pub unpack-spec : {M : Type 1} → statement M
 unpack-spec =
     tie.close
     (tie.spec
-    slice-aggregate-doonamurk-read
-    doonamurk-read-requires
+    (λ c. search needs)
+    (λ c κs. search needs)
     returns
     put-sheet-requires
-    same-length
+    (λ c. search needs)
     returns-2)

@@ -1,0 +1,84 @@
+-- A line of a text: its content, its label and its cells. Assumes nothing.
+use Prim.Native.Nat.{ℕ, zero, suc, _-_}
+use mathlib.Core.Bool.{Bool, cond, _&&_}
+use mathlib.Core.List.{List, [], _∷_, map}
+use lib.Dec.{eqb, leb}
+use lib.ListN.{length, getD, take, drop}
+use Rattle.rules.specs.Lists.{every}
+use Rattle.composing.specs.Text.{ascii}
+use Rattle.scanning.specs.Parts.{among, fails, before, until, from, past, pieces}
+
+-- the last byte of a text
+abbrev pub lastOf : List ℕ → ℕ
+lastOf xs = getD xs (length xs - 1) 0
+
+-- a line without a carriage return at its very end
+unfoldable pub unreturned : List ℕ → List ℕ
+unreturned line = cond (eqb (lastOf line) 13) (take (length line - 1) line) line
+
+-- its content: that up to the first #, which begins a comment
+unfoldable pub contentOf : List ℕ → List ℕ
+contentOf line = until (among (ascii "#")) (unreturned line)
+
+-- whether there is nothing in it but spaces, tabs, commas, semicolons and quotes
+unfoldable pub isBare : List ℕ → Bool
+isBare line = every (among (ascii " \t,;\"")) line
+
+-- a line from its label on
+unfoldable pub fromLabel : List ℕ → List ℕ
+fromLabel line = from (fails (among (ascii " "))) line
+
+-- whether a text begins with a quote
+abbrev pub isQuoted : List ℕ → Bool
+isQuoted xs = eqb (getD xs 0 0) 34
+
+-- the label, in quotes what stands between them, and what comes right after it
+unfoldable pub labelOf : List ℕ → List ℕ
+labelOf line = let xs = fromLabel line in cond (isQuoted xs) (until (among (ascii "\"")) (drop 1 xs)) (until (among (ascii " \t,;")) xs)
+
+unfoldable pub afterLabel : List ℕ → List ℕ
+afterLabel line = let xs = fromLabel line in cond (isQuoted xs) (past (among (ascii "\"")) (drop 1 xs)) (from (among (ascii " \t,;")) xs)
+
+-- a comma, a semicolon or a tab right after the label decides for the line: that byte alone separates cells
+abbrev pub decides : ℕ → Bool
+decides s = among (ascii ",;\t") s
+
+-- the bytes that separate cells where s comes after the label: s alone, or else spaces and tabs
+unfoldable pub separators : ℕ → List ℕ
+separators s = cond (decides s) (s ∷ s ∷ []) (ascii " \t")
+
+-- how many of the first n bytes are left without the spaces at their end
+unfoldable pub unspaced : ℕ → List ℕ → ℕ
+unspaced zero xs = 0
+unspaced (suc n) xs = cond (eqb (getD xs n 0) 32) (unspaced n xs) (suc n)
+
+-- a piece without the spaces around it
+unfoldable pub trimmed : List ℕ → List ℕ
+trimmed piece = let xs = from (fails (among (ascii " "))) piece in take (unspaced (length xs) xs) xs
+
+-- what stands in quotes is its content
+unfoldable pub unquoted : List ℕ → List ℕ
+unquoted w = cond (leb 2 (length w) && (isQuoted w && eqb (lastOf w) 34)) (take (length w - 2) (drop 1 w)) w
+
+-- the cell that a piece is
+unfoldable pub cellOf : List ℕ → List ℕ
+cellOf piece = unquoted (trimmed piece)
+
+-- the pieces that are not empty
+unfoldable pub filled : List (List ℕ) → List (List ℕ)
+filled [] = []
+filled ([] ∷ xs) = filled xs
+filled ((b ∷ bs) ∷ xs) = (b ∷ bs) ∷ filled xs
+
+-- the pieces up to the last that has more than spaces and quotes
+unfoldable pub used : List (List ℕ) → List (List ℕ)
+used [] = []
+used (x ∷ xs) = cond (every (every (among (ascii " \""))) (x ∷ xs)) [] (x ∷ used xs)
+
+-- the cells of a text where s decides: each piece between separators; where spaces and tabs separate, several are as one
+unfoldable pub cellsBy : ℕ → List ℕ → List (List ℕ)
+cellsBy s text = let ps = pieces (among (separators s)) text in map cellOf (used (cond (decides s) ps (filled ps)))
+
+-- the cells of a line: those after its label and, where that decides, after the byte right behind it
+unfoldable pub cellsOf : List ℕ → List (List ℕ)
+cellsOf line = let xs = afterLabel line in let s = getD xs 0 0 in cellsBy s (cond (decides s) (drop 1 xs) xs)

@@ -1,0 +1,20 @@
+-- The rows of a record in a list that starts with its fields. Assumes nothing.
+use Prim.Native.Nat.{ℕ}
+use mathlib.Core.List.{List}
+use lib.IntN.{ℤ}
+use Rattle.rules.specs.Lists.{padded}
+use Rattle.rules.specs.Record.{exposuresIn, incrementsIn, indicesIn, reportingIn, weightIn, ulaeIn}
+use Rattle.rules.specs.Writing.{Given, given}
+use Rattle.sheet_fields.specs.declared.Rows.{Rows}
+
+-- what the writer is given for the years 0 to k
+unfoldable pub givenAt : ℕ → List ℤ → Given
+givenAt k vs = given k (exposuresIn k vs) (incrementsIn k vs) (indicesIn k vs) (reportingIn k vs) (weightIn k vs) (ulaeIn k vs)
+
+-- the rows of natural numbers, each in its array
+abbrev pub rows : List ℕ → List ℕ → List ℕ → ℕ → List ℕ → Rows
+rows n e b w u = record { exposures = n; indices = e; reporting = b; weight = w; ulae = u }
+
+unfoldable pub rowsOf : ℕ → List ℤ → Rows
+rowsOf k vs =
+    rows (padded 16 0 (exposuresIn k vs)) (padded 16 0 (indicesIn k vs)) (padded 16 0 (reportingIn k vs)) (weightIn k vs) (padded 16 0 (ulaeIn k vs))

@@ -1,0 +1,62 @@
+-- Each question is asked as the definition has it. Assumes nothing.
+use mathlib.Core.Path.{_≡_, sym, ap, _∙_}
+use mathlib.Core.Bool.{true}
+use mathlib.Core.List.{List}
+use Prim.Native.Nat.{ℕ}
+use native.Mathlib.Omega.{arith}
+use borrow.Author.Needs.{needs, sfits-of}
+use borrow.Author.Tests.{not-true, not-false}
+use mir.Facts.{toZ-ofZ}
+use Rattle.cells.specs.Cells.{labelOf}
+use Rattle.sheet.specs.Table.{labelDue}
+use Rattle.sheet.specs.Sheet.{sameText}
+use Rattle.sheet_reading.proofs.Lines.{wrong-label, wrong-number, wrong-count, wrong-range, wrong-none}
+use Rattle.sheet_reading.proofs.wrong_in.Statement.{statement}
+use Rattle.sheet_reading.proofs.wrong_in.Tie as tie
+
+-- the label is the one due
+same : (c : tie.Else1) → sameText (labelOf (c .before .before .before .before .args .line .now)) (labelDue (c .before .before .before .before .args .d)) ≡ true
+same c = rw (← c .before .before .label-of .ensures) (sym (c .before .has-label .ensures) ∙ not-false _ (c .if1 .left))
+
+returns : tie.Need-returns
+returns c =
+    wrong-label (c .before .before .before .before .args .d) (c .before .before .before .before .args .line .now) (rw (← c .before .before .label-of .ensures) (sym (c .before .has-label .ensures) ∙ not-true _ (c .if1 .taken)))
+
+returns-2 : tie.Need-returns-2
+returns-2 c =
+    let s = c .before .before .before .before .before .before .before .args in
+    wrong-number (s .d) (s .line .now) (same (c .before .before .before)) (c .before .before .leading .result) (c .before .leading2 .result) (c .before .before .leading .ensures) (c .before .leading2 .ensures) (c .if2 .taken)
+
+returns-3 : tie.Need-returns-3
+returns-3 c =
+    let s = c .before .before .before .before .before .before .before .before .before .args in
+    wrong-count (s .d) (s .line .now) (same (c .before .before .before .before .before)) (c .before .before .before .before .leading .result) (c .before .before .before .leading2 .result) (c .before .before .before .before .leading .ensures) (c .before .before .before .leading2 .ensures) (c .before .before .if2 .left) (c .if3 .taken)
+
+returns-4 : tie.Need-returns-4
+returns-4 c =
+    let s = c .before .before .before .before .before .before .before .before .before .before .before .before .before .args in
+    wrong-range (s .d) (s .line .now) (same (c .before .before .before .before .before .before .before .before .before)) (c .before .before .before .before .before .before .before .before .leading .result) (c .before .before .before .before .before .before .before .leading2 .result) (c .before .before .before .before .before .before .before .before .leading .ensures) (c .before .before .before .before .before .before .before .leading2 .ensures) (c .before .before .before .before .before .before .if2 .left) (c .before .before .before .before .if3 .left)
+    (c .before .leading3 .result) (rw (toZ-ofZ (sfits-of (c .before .before .before .struct-told .given .1 .1 .0 .1)), toZ-ofZ (sfits-of (c .before .before .struct-told2 .given .1 .1 .1 .0 .1))) at (c .before .leading3 .ensures)) (c .if4 .taken)
+
+returns-5 : tie.Need-returns-5
+returns-5 c =
+    let s = c .before .before .before .before .before .before .before .before .before .before .before .before .before .args in
+    wrong-none (s .d) (s .line .now) (same (c .before .before .before .before .before .before .before .before .before)) (c .before .before .before .before .before .before .before .before .leading .result) (c .before .before .before .before .before .before .before .leading2 .result) (c .before .before .before .before .before .before .before .before .leading .ensures) (c .before .before .before .before .before .before .before .leading2 .ensures) (c .before .before .before .before .before .before .if2 .left) (c .before .before .before .before .if3 .left)
+    (c .before .leading3 .result) (rw (toZ-ofZ (sfits-of (c .before .before .before .struct-told .given .1 .1 .0 .1)), toZ-ofZ (sfits-of (c .before .before .struct-told2 .given .1 .1 .1 .0 .1))) at (c .before .leading3 .ensures)) (c .if4 .left)
+
+pub wrong-in-spec : {M : Type 1} → statement M
+wrong-in-spec =
+    tie.close
+    (tie.spec
+    (λ c κs. search needs)
+    (λ c κs. search needs)
+    returns
+    (λ c κs. search needs)
+    (λ c κs. search needs)
+    (λ c. search needs)
+    returns-2
+    returns-3
+    (λ c κs. search needs)
+    (λ c. search needs)
+    returns-4
+    returns-5)
