@@ -1,7 +1,7 @@
 #!/usr/bin/env python3
 """make_cases.py: writes the stored input and expected output of the test programs read_cases, write_cases and run_cases and of the programs reserve,
-reserve_many, report, csv, pack and unpack; the records of the examples from their texts, their pages and their lists as comma-separated values (tests/pages); and the texts that pack must accept or refuse, with
-the record of each or what pack says (tests/texts).
+reserve_many, gather, report, csv, pack and unpack; the records of the examples from their texts, their pages and their lists as comma-separated values
+(tests/pages); and the texts that pack must accept or refuse, with the record of each or what pack says (tests/texts).
 
 What is expected comes from model.py and page.py, which are written from document 01 and from the docs and share nothing with the Rattle code.
 """
@@ -305,8 +305,20 @@ def main():
     store("report", record, page.page(record))
     records = [record for _, record in run_inputs()]
     store("reserve_many", b"".join(len(record).to_bytes(2, "big") + record for record in records), "".join(map(row, records)))
+    gather(record)
     examples()
     texts()
+
+
+def gather(record):
+    """The files that gather is given: a record, a text, a file longer than any record, an empty one, and a name that no file has."""
+    with open(os.path.join(HERE, "..", "examples", "two_years.txt"), "rb") as text:
+        files = {"account.rec": record, "figures.txt": text.read(), "long": record + bytes(5000), "empty": b""}
+    for name, data in files.items():
+        put(os.path.join(CRATES, "gather", "data", name), data)
+    put(os.path.join(CRATES, "gather", "args"), "".join(f"{name}\n" for name in [*files, "missing"]))
+    taken = [record, b"", files["long"][:4096], b"", b""]
+    put(os.path.join(CRATES, "gather", "stdout"), b"".join(len(data).to_bytes(2, "big") + data for data in taken))
 
 
 def examples():
