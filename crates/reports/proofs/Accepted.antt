@@ -25,7 +25,9 @@ use Rattle.laws.proofs.Rows.{cells-most}
 use Rattle.laws.proofs.Joined.{future-length, future-cells}
 use Rattle.laws.proofs.Questions.{both-zero, yes-said}
 use Rattle.triangle.specs.Bounds.{Increments, Exposures}
+use Rattle.triangle.specs.Columns.{rowsPassing}
 use Rattle.triangle.proofs.Passed.{paid-most}
+use Rattle.engine.proofs.Before.{paid-are}
 use Rattle.reading.specs.Sound.{Sound}
 use Rattle.reading.proofs.Accepted.{sound-figures}
 use Rattle.wording.specs.Wording.{refusalText}
@@ -114,12 +116,8 @@ module _ (s : List ℕ) (ok : runAnswer s mostEntries ≡ 0) where
       → (k < 16) × (Exposures k n × Increments p)
   rows-ready h k n p ek en ep = let good = sound h in rw (ek, en, ep) (good .few, (good .exposures, good .increments))
 
-  pub rows-pass : (k : ℕ) (p : List ℤ) → k ≡ figuresOf s .k → p ≡ figuresOf s .increments → cumulativesPass k p ≡ true
-  rows-pass k p ek ep = rw (ek, ep) cumulatives
-
-  pub paid-is : (k : ℕ) (p : List ℤ) (c : List ℕ) → k ≡ figuresOf s .k → p ≡ figuresOf s .increments → c ≡ padded 16 0 (upTo (paidTo k p) (k + 1)) → c ≡ paidBy s
-  unfolding paidIn
-  paid-is k p c ek ep e = rw (ek, ep) at e
+  pub paid-is : (k : ℕ) (p : List ℤ) (c : List ℕ) → k ≡ figuresOf s .k → p ≡ figuresOf s .increments → c ≡ padded 16 0 (upTo (paidTo k p) (rowsPassing k p)) → c ≡ paidBy s
+  paid-is k p c ek ep e = paid-are (figuresOf s) cumulatives c (rw (ek, ep) at e)
 
   -- the list begins with the results
   pub filled : filledBy s ≡ resultsOf (figuresOf s) ++ drop (0 + length (resultsOf (figuresOf s))) (replicate mostEntries (pos 0))

@@ -10,7 +10,7 @@ use Rattle.rules.specs.Lists.{every}
 use Rattle.rules.specs.Record.{Figures}
 use Rattle.rules.specs.Triangle.{cumulativesPass}
 use Rattle.rules.specs.Separation.{separationQuestions, separateAnswer}
-use Rattle.rules.specs.Results.{squareOf, paidIn}
+use Rattle.rules.specs.Results.{squareOf}
 use Rattle.rules.specs.declared.Factors.{Factors}
 use Rattle.rules.specs.Engine.{figureQuestions, laterQuestions}
 use Rattle.engine.specs.Stages.{figures}
@@ -30,11 +30,8 @@ fill-rows-requires c κs = search needs
 abbrev start1 : tie.After-fill-rows → tie.Start
 start1 c = c .before .before .before .before
 
-passed : (c : tie.Else1) → c .before .fill-rows .result ≡ true
-passed c = not-false (c .before .fill-rows .result) (c .if1 .left)
-
 yes-six : (c : tie.Else1) → cumulativesPass (F (start1 (c .before)) .k) (F (start1 (c .before)) .increments) ≡ true
-yes-six c = sym (c .before .fill-rows .ensures .0) ∙ passed c
+yes-six c = sym (c .before .fill-rows .ensures .0) ∙ not-false (c .before .fill-rows .result) (c .if1 .left)
 
 returns : tie.Need-returns
 unfolding figureQuestions
@@ -45,8 +42,7 @@ returns c =
 
 -- the square, and the answer of questions 7 to 10
 square-is : (c : tie.Else1) → c .before .fill-rows .last .1 .1 .1 .0 ≡ squareOf (F (start1 (c .before)))
-unfolding squareOf
-square-is c = c .before .fill-rows .ensures .1 (passed c) .0
+square-is c = stage.square-is (F (start1 (c .before))) (yes-six c) _ (c .before .fill-rows .ensures .1 .0)
 
 separate-requires : tie.Need-separate-requires
 separate-requires c κs =
@@ -84,12 +80,11 @@ accepted-is : (c : tie.Else2) →
 accepted-is c = sym (answer-is (separate2 c)) ∙ c .if2 .left
 
 finish-requires : tie.Need-finish-requires
-unfolding paidIn
 finish-requires c κs =
     let two = c .before .before .before .before .before .before .before .before in
     let at = separate2 two in
     let six = at .before .before in
-    let rows = six .before .fill-rows .ensures .1 (passed six) .1 in
+    let rows = six .before .fill-rows in
     let s = start1 (six .before) in
     let f = F s in
     let factors = stage.factors-are f _ (square-is six) (at .separate .result .factors) (at .separate .ensures .1) (accepted-is two) in (
@@ -97,8 +92,8 @@ finish-requires c κs =
         sound = s .pre .0;
         cumulatives = yes-six six;
         square = square-is six;
-        columns = rows .0;
-        paid = rows .1;
+        columns = stage.columns-are f (yes-six six) _ (rows .ensures .1 .1 .0);
+        paid = stage.paid-are f (yes-six six) _ (rows .ensures .1 .1 .1);
         accepted = accepted-is two;
         shares = ap (λ (g : Factors). g .shares) factors;
         levels = ap (λ (g : Factors). g .levels) factors;

@@ -5,7 +5,7 @@ use Rattle.rules.specs.Packing.{Fit}
 use Rattle.rules.specs.Record.{figuresOf}
 use Rattle.reading.proofs.Rows.{years-known, opening-yes}
 use Rattle.reading.proofs.Accepted.{Filled, filled}
-use Rattle.reports.proofs.Accepted.{opening, fields, rows-ready, rows-pass, paid-is, paid-small}
+use Rattle.reports.proofs.Accepted.{opening, fields, rows-ready, paid-is, paid-small}
 use Rattle.reports.proofs.fill_paid.Statement.{statement}
 use Rattle.reports.proofs.fill_paid.Tie as tie
 
@@ -56,8 +56,7 @@ returns c =
     let s = start at in
     let packed = s .args .packed .now in
     let ok = s .pre .0 in
-    let passed = c .fill-rows .ensures .0 ∙ rows-pass packed ok _ _ (year-is year) (increments-are at) in
-    let e = paid-is packed ok _ _ _ (year-is year) (increments-are at) (c .fill-rows .ensures .1 passed .1 .1) in
+    let e = paid-is packed ok _ _ _ (year-is year) (increments-are at) (c .fill-rows .ensures .1 .1 .1) in
     (e, rw e (paid-small packed ok))
 
 pub fill-paid-spec : {M : Type 1} → statement M
