@@ -295,7 +295,10 @@ fn row(record: &[u8]) -> String {
     match paper::run(record, &mut results) {
         Ok(()) => {
             let list = &results[..paper::entries(usize::from(record[0] >> 4))];
-            list.iter().map(i64::to_string).collect::<Vec<_>>().join(" ")
+            list.iter()
+                .map(i64::to_string)
+                .collect::<Vec<_>>()
+                .join(" ")
         }
         Err(number) => format!("refused {number}"),
     }
