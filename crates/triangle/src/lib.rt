@@ -143,13 +143,12 @@ fn diagonal_total(square: &[[i64; 16]; 16], h: usize) -> i64
     sum
 }
 
-// The totals d_0 to d_k go into the list.
-pub fn fill_diagonals(square: &[[i64; 16]; 16], k: usize, totals: &mut [i64; 16])
-    requires { ⌜ Cells (now square) × (k < 16) ⌝ }
-    ensures { λ _. ⌜ now (totals .exit) ≡ sets (now (totals .entry)) 0 (upTo (diagonalTotal (now (square .entry))) (k + 1)) ⌝ }
+// The totals of all diagonals go into a list of zeros; those past diagonal k are zero.
+pub fn fill_diagonals(square: &[[i64; 16]; 16], totals: &mut [i64; 16])
+    requires { ⌜ Cells (now square) × (now totals ≡ replicate 16 (pos 0)) ⌝ }
+    ensures { λ _. ⌜ now (totals .exit) ≡ upTo (diagonalTotal (now (square .entry))) 16 ⌝ }
 {
-    let n = k + 1;
-    for h in 0..n {
+    for h in 0..16 {
         totals[h] = diagonal_total(square, h);
     }
 }
