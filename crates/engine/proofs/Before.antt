@@ -1,4 +1,4 @@
--- What the separation of the figures' square leaves: its factors. Assumes nothing.
+-- What the rows and the separation leave: the square, the column sums, the paid cumulatives and the factors of the figures. Assumes nothing.
 use Prim.Native.Nat.{ℕ, _+_, _<_}
 use mathlib.Core.Path.{_≡_, _∙_}
 use mathlib.Core.Bool.{true}
@@ -14,11 +14,29 @@ use Rattle.rules.specs.Separation.{separateAnswer, separated}
 use Rattle.rules.specs.Results.{squareOf, factorsIn, paidIn}
 use Rattle.rules.specs.declared.Factors.{Factors}
 use Rattle.triangle.specs.Bounds.{Cells}
+use Rattle.triangle.specs.Columns.{columnSum, rowsPassing}
 use Rattle.triangle.proofs.Square.{cells-bounded}
+use Rattle.triangle.proofs.Passed.{rows-all}
 use Rattle.totals.proofs.Square.{zero-outside}
 use Rattle.reading.specs.Sound.{Sound}
 use Rattle.reading.specs.Reading.{rowRead}
 use Rattle.reading.proofs.Accepted.{Filled}
+
+module _ (f : Figures) (six : cumulativesPass (f .k) (f .increments) ≡ true) where
+  -- every row has passed question 6
+  all-rows : rowsPassing (f .k) (f .increments) ≡ f .k + 1
+  all-rows = rows-all (f .k) (f .increments) six
+
+  pub square-is : (s : List (List ℤ)) → s ≡ padded 16 (replicate 16 (pos 0)) (upTo (averageRow (f .k) (f .exposures) (f .increments)) (rowsPassing (f .k) (f .increments))) → s ≡ squareOf f
+  unfolding squareOf averagesOf
+  square-is s e = e ∙ rw all-rows
+
+  pub columns-are : (v : List ℕ) → v ≡ upTo (columnSum (f .k) (f .increments) (rowsPassing (f .k) (f .increments))) 16 → v ≡ upTo (columnSum (f .k) (f .increments) (f .k + 1)) 16
+  columns-are v e = e ∙ rw all-rows
+
+  pub paid-are : (c : List ℕ) → c ≡ padded 16 0 (upTo (paidTo (f .k) (f .increments)) (rowsPassing (f .k) (f .increments))) → c ≡ paidIn f
+  unfolding paidIn
+  paid-are c e = e ∙ rw all-rows
 
 module _ (f : Figures) (q : List (List ℤ)) (e : q ≡ squareOf f) where
   -- the square can be separated

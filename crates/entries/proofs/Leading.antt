@@ -1,12 +1,12 @@
 -- Laws of how far a loop goes that stops at the first entry that fails a test. Assumes nothing.
-use Prim.Native.Nat.{ℕ, zero, suc, _+_, _≤_, _<_, _-_}
+use Prim.Native.Nat.{ℕ, zero, suc, _+_, _<_, _-_}
 use native.Mathlib.Decide.{ℕ-discrete}
 use native.Mathlib.Nat.{not-suc-le-zero}
 use native.Mathlib.Numerals.{add-one}
 use native.Mathlib.Omega.{arith}
 use borrow.Author.Tests.{eq-eqb, ne-eqb}
 use mathlib.Core.Path.{_≡_, refl, sym, _∙_}
-use mathlib.Core.Bool.{Bool, true, false, _&&_, cond}
+use mathlib.Core.Bool.{Bool, true, false, _&&_}
 use mathlib.Core.List.{List, [], _∷_, _++_, append-nil}
 use lib.Dec.{eqb}
 use Rattle.rules.specs.Lists.{upTo, below, every, joined}
@@ -42,15 +42,6 @@ module _ (p : ℕ → Bool) where
           let last : p n ≡ false = rw q at e in
           rw (here, eq-eqb n n refl, last, q)
       go before (no q) = rw (before (omega arith), ne-eqb i n q)
-
-  pub leading-most : (n : ℕ) → leading p n ≤ n
-  unfolding leading
-  leading-most zero = omega arith
-  leading-most (suc n) = go (eqb (leading p n) n && p n) (leading-most n)
-    where
-      go : (b : Bool) → leading p n ≤ n → cond b (suc n) (leading p n) ≤ suc n
-      go true h = omega arith
-      go false h = omega arith
 
   -- where all pass, all are asked
   pub asked-all : (n : ℕ) → every p (below n) ≡ true → asked p n ≡ n

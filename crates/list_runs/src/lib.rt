@@ -45,9 +45,9 @@ pub fn put_fields(out: &mut [u8], at: usize, packed: &[u8]) -> usize
     ensures { λ r. ⌜ Put (now (out .entry)) (now (out .exit)) at r (fieldsText (now (packed .entry))) ⌝ }
 {
     let mut list = [0i64; MOST_FIELDS];
-    let answer = doonamurk_read(packed, &mut list);
-    if answer != ACCEPTED {
-        return put_refused(out, at, answer);
+    let number = doonamurk_read(packed, &mut list);
+    if number != ACCEPTED {
+        return put_refused(out, at, number);
     }
     put_entries(out, at, &list, fields_of(last_year_of(packed)))
 }

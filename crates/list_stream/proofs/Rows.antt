@@ -22,7 +22,7 @@ use Rattle.composing.specs.Text.{decimal, sign, integer, ascii}
 use Rattle.composing.proofs.Decimals.{length-most, length-sign}
 use Rattle.results.proofs.Places.{results-length}
 use Rattle.list_text.specs.Lines.{after, entryText, separated, refusedText}
-use Rattle.list_runs.specs.Runs.{runText, listRow}
+use Rattle.list_runs.specs.Runs.{runText}
 use Rattle.list_stream.specs.Stream.{lengthAt, wholeAt, mostRow}
 
 -- texts of at most b bytes, joined
@@ -56,13 +56,13 @@ results-most s r =
     let three = both-zero ((3, holdsList s mostEntries) ∷ []) _ refl later .0 in
     omega (arith, results-length (figuresOf s), leb-true (resultCount (lastYearOf s)) mostEntries (yes-said 3 ((3, holdsList s mostEntries) ∷ []) refl three))
 
--- a row is not longer than the longest
-pub row-most : (s : List ℕ) → length (listRow s) ≤ mostRow
+-- the text of a run is not longer than the longest row
+pub text-most : (between : ℕ) (s : List ℕ) → length (runText between s) ≤ mostRow
 unfolding runText
-row-most s = go (ℕ-discrete (runAnswer s mostEntries) 0)
+text-most between s = go (ℕ-discrete (runAnswer s mostEntries) 0)
   where
-    go : Dec (runAnswer s mostEntries ≡ 0) → length (listRow s) ≤ mostRow
-    go (yes r) = rw r (omega (arith, separated-most 32 (resultsOf (figuresOf s)), results-most s r))
+    go : Dec (runAnswer s mostEntries ≡ 0) → length (runText between s) ≤ mostRow
+    go (yes r) = rw r (omega (arith, separated-most between (resultsOf (figuresOf s)), results-most s r))
     go (no r) = rw (ne-eqb (runAnswer s mostEntries) 0 r) (omega (arith, refused-most (runAnswer s mostEntries)))
 
 -- a whole record stands inside, and where the length or the record does not, it is none

@@ -28,7 +28,9 @@ fn length_at(s: &[u8], p: usize) -> usize
     requires { ⌜ p + 2 ≤ length (now s) ⌝ }
     ensures { λ r. ⌜ (r ≡ lengthAt (now (s .entry)) p) × (r < 65536) ⌝ }
 {
-    256 * wide(s[p]) + wide(s[p + 1])
+    let high = wide(s[p]);
+    let low = wide(s[p + 1]);
+    256 * high + low
 }
 
 // Whether a whole record stands at place p.

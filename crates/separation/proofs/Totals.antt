@@ -1,29 +1,18 @@
--- The totals of a square in their lists: total by total, how large they are, and that the walk can be made over them. Assumes nothing.
+-- The totals of a square: how large they are, and that the walk can be made over them. Assumes nothing.
 use mathlib.Core.Path.{_≡_}
 use mathlib.Core.Bool.{true}
 use mathlib.Core.List.{List}
 use Prim.Native.Nat.{ℕ, suc, _+_, _-_, _*_, _≤_, _<_}
 use native.Mathlib.Omega.{arith}
-use lib.IntN.{ℤ, pos, natAbs}
-use lib.ListN.{getD, replicate}
-use lib.Seq.{sets}
-use Rattle.rules.specs.Lists.{upTo}
+use lib.IntN.{ℤ, natAbs}
 use Rattle.rules.specs.Triangle.{cellOf, columnTotal}
 use Rattle.rules.specs.Separation.{restsPass}
 use Rattle.laws.proofs.Adding.{sumTo-size}
-use Rattle.laws.proofs.Joined.{sets-filled}
-use Rattle.laws.proofs.Lists.{length-upTo}
-use Rattle.laws.proofs.Padded.{filled-at}
 use Rattle.triangle.specs.Bounds.{mostAverage, Cells}
 use Rattle.totals.proofs.Most.{diagonal-most, corner-most}
 use Rattle.totals.proofs.Walk.{column-walk}
 use Rattle.totals.proofs.Whole.{totals}
 use Rattle.separation.specs.Walk.{TotalsOf, CornersOf, Ready}
-
--- total i among those that were stored into zeros
-pub listed : (f : ℕ → ℤ) (k : ℕ) (l : List ℤ) → k < 16 → l ≡ sets (replicate 16 (pos 0)) 0 (upTo f (k + 1)) → (i : ℕ) → i ≤ k → getD l i (pos 0) ≡ f i
-listed f k l few e i h =
-    rw (e, sets-filled 16 (pos 0) (upTo f (k + 1)) (omega (arith, length-upTo f (k + 1)))) (filled-at 16 (pos 0) f (k + 1) i (pos 0) (omega arith))
 
 -- sixteen cells at most are in a column
 pub column-small : (s : List (List ℤ)) → Cells s → (j : ℕ) → j < 16 → natAbs (columnTotal s j) ≤ 16 * mostAverage

@@ -203,7 +203,7 @@ pub fn separate(square: &[[i64; 16]; 16], k: usize) -> Separation
     let mut columns = [0i64; 16];
     let mut diagonals = [0i64; 16];
     fill_columns(square, k, &mut columns);
-    fill_diagonals(square, k, &mut diagonals);
+    fill_diagonals(square, &mut diagonals);
     let mut v = [0u64; 16];
     let mut d = [0u64; 16];
     if !totals_pass(&columns, &diagonals, k + 1, &mut v, &mut d) {

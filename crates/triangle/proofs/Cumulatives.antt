@@ -57,7 +57,7 @@ module _ (k : ℕ) (p : List ℤ) (i : ℕ) (amounts : Increments p) where
     more-read = rw (e, ← add-one j) (step-read (paidOf k p i) mostAmount increment-most j s (omega arith) held-sum)
 
 -- a signed number from 0 to m is a whole number up to m
-pub whole : (z : ℤ) (m : ℕ) → leZ (pos 0) z && leZ z (pos m) ≡ true → (z ≡ pos (natAbs z)) × (natAbs z ≤ m)
+whole : (z : ℤ) (m : ℕ) → leZ (pos 0) z && leZ z (pos m) ≡ true → (z ≡ pos (natAbs z)) × (natAbs z ≤ m)
 whole (pos n) m e = (refl, leb-true n m (both-right (leZ (pos 0) (pos n)) _ e))
 whole (negsuc n) m e = absurd (false≢true e)
 

@@ -2,5 +2,4 @@ pub mod Rounding
 pub mod Added
 pub mod Cumulatives
 pub mod Square
-pub mod Reached
 pub mod Passed

@@ -1,4 +1,4 @@
--- What callers use of a triangle that passes question 6: its cumulatives are at most 10^11, the sums of their columns are the sums
+-- What callers use of a triangle that passes question 6: every row is counted, its cumulatives are at most 10^11, the sums of their columns are the sums
 -- of each development year, and the paid cumulatives sum to the total of all increments. Assumes nothing.
 use mathlib.Core.Path.{_≡_, sym, ap, ap₂, _∙_}
 use mathlib.Core.Bool.{true}
@@ -16,7 +16,8 @@ use Rattle.laws.proofs.Lists.{length-upTo, getD-upTo, every-upTo}
 use Rattle.laws.proofs.Joined.{upTo-all, padded-all}
 use Rattle.laws.proofs.Rows as starts
 use Rattle.laws.proofs.Totals.{total-none, total-more, total-same, total-cut, sumTo-parts}
-use Rattle.triangle.specs.Columns.{cumulativeIn, columnSum}
+use Rattle.entries.proofs.Leading.{leading-all}
+use Rattle.triangle.specs.Columns.{cumulativeIn, columnSum, rowsPassing}
 use Rattle.triangle.proofs.Cumulatives.{cell-is, cell-most, given-in, past-in, column-most}
 
 module _ (k : ℕ) (p : List ℤ) where
@@ -47,6 +48,11 @@ module _ (k : ℕ) (p : List ℤ) where
     row-passes : (i : ℕ) → i ≤ k → rowPasses k p i ≡ true
     unfolding cumulativesPass
     row-passes i h = every-upTo (rowPasses k p) (λ r. r) (k + 1) i pass (omega arith)
+
+    -- every row is counted
+    pub rows-all : rowsPassing k p ≡ k + 1
+    unfolding rowsPassing cumulativesPass
+    rows-all = leading-all (rowPasses k p) (k + 1) pass
 
     -- no cumulative is above 10^11
     pub cumulative-most : (i j : ℕ) → i + j ≤ k → givenCumulative k p i j ≤ mostCumulative

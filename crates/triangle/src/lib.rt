@@ -1,16 +1,16 @@
 // The averages of a triangle in a square, the totals of its columns and diagonals, and question 6.
 use rules::MOST_CUMULATIVE;
 ghost use mathlib.Core.Path.{_≡_};
-ghost use mathlib.Core.Bool.{true, cond};
+ghost use mathlib.Core.Bool.{true};
 ghost use Prim.Native.Nat.{ℕ, _+_, _-_, _*_, _≤_, _<_};
 ghost use lib.IntN.{pos, natAbs};
-ghost use lib.ListN.{set, replicate};
+ghost use lib.ListN.{replicate};
 ghost use lib.Seq.{sets};
 ghost use Rattle.rules.specs.Lists.{upTo, below, every, padded};
 ghost use Rattle.rules.specs.Record.{million, mostAmount};
-ghost use Rattle.rules.specs.Triangle.{rowStart, paidOf, rowPasses, cumulativesPass, paidTo, averageOf, ZeroOutside, columnTotal, diagonalTotal};
+ghost use Rattle.rules.specs.Triangle.{rowStart, paidOf, rowPasses, cumulativesPass, paidTo, averageOf, averageRow, ZeroOutside, columnTotal, diagonalTotal};
 ghost use Rattle.triangle.specs.Bounds.{Increments, Exposures, mostAverage, Cells};
-ghost use Rattle.triangle.specs.Columns.{columnSum, rowsPassing, cellsPassing, averagesTo, columnsTo, paidsTo, columnTo};
+ghost use Rattle.triangle.specs.Columns.{columnSum, rowsPassing, columnTo};
 
 // 100 × paid / claims to the nearest whole hundredth, halves away from zero.
 pub fn average(paid: i64, claims: u64) -> i64
@@ -25,50 +25,60 @@ pub fn average(paid: i64, claims: u64) -> i64
     }
 }
 
-// Question 6 of row i, whose increments start at place `at`. As far as it says yes, the row's averages are stored and its cumulatives are added to the sums
-// of their columns over the rows before it; where all pass, its paid cumulative stands at place i.
-fn fill_row(
-    row: &mut [i64; 16],
-    columns: &mut [u64; 16],
-    paid: &mut [u64; 16],
-    increments: &[i64; 136],
-    claims: u64,
-    k: usize,
-    i: usize,
-    at: usize,
-) -> bool
-    requires { ⌜ Increments (now increments)
-        × ((k < 16)
-        × ((i ≤ k)
-        × ((at ≡ rowStart k i)
-        × ((1 ≤ claims)
-        × ((claims ≤ million)
-        × ((every (rowPasses k (now increments)) (below i) ≡ true) × (now columns ≡ upTo (columnSum k (now increments) i) 16))))))) ⌝ }
-    ensures { λ r. ⌜ (r ≡ rowPasses k (now (increments .entry)) i)
-        × ((now (row .exit) ≡ sets (now (row .entry)) 0 (upTo (λ j. averageOf (paidOf k (now (increments .entry)) i j) claims) (cellsPassing k (now (increments .entry)) i)))
-        × ((now (columns .exit) ≡ columnsTo k (now (increments .entry)) i (cellsPassing k (now (increments .entry)) i))
-        × (now (paid .exit) ≡ cond r (set (now (paid .entry)) i (paidTo k (now (increments .entry)) i)) (now (paid .entry))))) ⌝ }
+// Question 6 of row i, whose increments start at place `at`: whether every cumulative is from 0 to the most.
+fn row_passes(increments: &[i64; 136], k: usize, i: usize, at: usize) -> bool
+    requires { ⌜ Increments (now increments) × ((k < 16) × ((i ≤ k) × (at ≡ rowStart k i))) ⌝ }
+    ensures { λ r. ⌜ r ≡ rowPasses k (now (increments .entry)) i ⌝ }
 {
     let mut sum: i64 = 0;
     let count = k + 1 - i;
     for j in 0..count {
-        let x = increments[at + j];
-        sum += x;
+        sum += increments[at + j];
         if sum < 0 {
             return false;
         }
         if sum > MOST_CUMULATIVE as i64 {
             return false;
         }
-        row[j] = average(x, claims);
-        columns[j] += sum as u64;
     }
-    paid[i] = sum as u64;
     true
 }
 
-// Question 6 row by row. As far as it says yes, the averages are in the square, with the sums of the cumulatives' columns and the paid cumulatives of
-// whole rows beside it.
+// The averages of row i, which passes, go into a row of the square, and its cumulatives are added to the sums of their columns over the rows before it;
+// its paid cumulative.
+fn fill_row(
+    row: &mut [i64; 16],
+    columns: &mut [u64; 16],
+    increments: &[i64; 136],
+    claims: u64,
+    k: usize,
+    i: usize,
+    at: usize,
+) -> u64
+    requires { ⌜ Increments (now increments)
+        × ((k < 16)
+        × ((i ≤ k)
+        × ((at ≡ rowStart k i)
+        × ((1 ≤ claims)
+        × ((claims ≤ million)
+        × ((every (rowPasses k (now increments)) (below (i + 1)) ≡ true) × (now columns ≡ upTo (columnSum k (now increments) i) 16))))))) ⌝ }
+    ensures { λ r. ⌜ (r ≡ paidTo k (now (increments .entry)) i)
+        × ((now (row .exit) ≡ sets (now (row .entry)) 0 (upTo (λ j. averageOf (paidOf k (now (increments .entry)) i j) claims) (k + 1 - i)))
+        × (now (columns .exit) ≡ upTo (columnSum k (now (increments .entry)) (i + 1)) 16)) ⌝ }
+{
+    let mut sum: i64 = 0;
+    let count = k + 1 - i;
+    for j in 0..count {
+        let x = increments[at + j];
+        sum += x;
+        row[j] = average(x, claims);
+        columns[j] += sum as u64;
+    }
+    sum as u64
+}
+
+// Question 6 row by row, and of the rows before the first that fails: the averages in the square, the sums of the cumulatives' columns, and the paid
+// cumulatives.
 pub fn fill_rows(
     k: usize,
     exposures: &[u64; 16],
@@ -82,26 +92,18 @@ pub fn fill_rows(
         × (Increments (now increments)
         × ((now square ≡ replicate 16 (replicate 16 (pos 0))) × ((now columns ≡ replicate 16 0) × (now paid ≡ replicate 16 0))))) ⌝ }
     ensures { λ r. ⌜ (r ≡ cumulativesPass k (now (increments .entry)))
-        × ((now (square .exit) ≡ averagesTo k (now (exposures .entry)) (now (increments .entry)))
-        × ((now (columns .exit)
-        ≡ columnsTo k (now (increments .entry)) (rowsPassing k (now (increments .entry))) (cellsPassing k (now (increments .entry)) (rowsPassing k (now (increments .entry)))))
-        × (now (paid .exit) ≡ paidsTo k (now (increments .entry))))) ⌝ }
+        × ((now (square .exit)
+        ≡ padded 16 (replicate 16 (pos 0)) (upTo (averageRow k (now (exposures .entry)) (now (increments .entry))) (rowsPassing k (now (increments .entry)))))
+        × ((now (columns .exit) ≡ upTo (columnSum k (now (increments .entry)) (rowsPassing k (now (increments .entry)))) 16)
+        × (now (paid .exit) ≡ padded 16 0 (upTo (paidTo k (now (increments .entry))) (rowsPassing k (now (increments .entry))))))) ⌝ }
 {
     let mut at: usize = 0;
     let n = k + 1;
     for i in 0..n {
-        if !fill_row(
-            &mut square[i],
-            columns,
-            paid,
-            increments,
-            exposures[i],
-            k,
-            i,
-            at,
-        ) {
+        if !row_passes(increments, k, i, at) {
             return false;
         }
+        paid[i] = fill_row(&mut square[i], columns, increments, exposures[i], k, i, at);
         at += n - i;
     }
     true
@@ -141,13 +143,12 @@ fn diagonal_total(square: &[[i64; 16]; 16], h: usize) -> i64
     sum
 }
 
-// The totals d_0 to d_k go into the list.
-pub fn fill_diagonals(square: &[[i64; 16]; 16], k: usize, totals: &mut [i64; 16])
-    requires { ⌜ Cells (now square) × (k < 16) ⌝ }
-    ensures { λ _. ⌜ now (totals .exit) ≡ sets (now (totals .entry)) 0 (upTo (diagonalTotal (now (square .entry))) (k + 1)) ⌝ }
+// The totals of all diagonals go into a list of zeros; those past diagonal k are zero.
+pub fn fill_diagonals(square: &[[i64; 16]; 16], totals: &mut [i64; 16])
+    requires { ⌜ Cells (now square) × (now totals ≡ replicate 16 (pos 0)) ⌝ }
+    ensures { λ _. ⌜ now (totals .exit) ≡ upTo (diagonalTotal (now (square .entry))) 16 ⌝ }
 {
-    let n = k + 1;
-    for h in 0..n {
+    for h in 0..16 {
         totals[h] = diagonal_total(square, h);
     }
 }

@@ -2,6 +2,8 @@
 //!
 //!     differential [--seconds N] [--seed S] [--cases N]
 //!     differential --records N FOLDER     writes N accepted records into the folder, one a file
+//!     differential --stream N FOLDER      writes N records of all kinds, damaged ones too, into the folder as one stream, `records`, each behind its
+//!                                         length, and the line of each by plain Rust, `rows`
 //!
 //! Each case compares the answer and every entry of the lent buffer, those past the list too. What is lent is the middle of a larger array, and what
 //! stands on both sides of it must stay. A difference is printed and ends with status 1.
@@ -287,11 +289,46 @@ fn options(arguments: &[String]) -> Option<Options> {
     Some(options)
 }
 
+/// The line of a record among many.
+fn row(record: &[u8]) -> String {
+    let mut results = [0; 489];
+    match paper::run(record, &mut results) {
+        Ok(()) => {
+            let list = &results[..paper::entries(usize::from(record[0] >> 4))];
+            list.iter()
+                .map(i64::to_string)
+                .collect::<Vec<_>>()
+                .join(" ")
+        }
+        Err(number) => format!("refused {number}"),
+    }
+}
+
+fn write_stream(count: u64, folder: &Path) -> std::io::Result<()> {
+    let mut stream = Vec::new();
+    let mut rows = String::new();
+    for case in 0..count {
+        let record = generate::record(&mut Random::new(SEED, case));
+        let length = u16::try_from(record.len()).map_err(std::io::Error::other)?;
+        stream.extend_from_slice(&length.to_be_bytes());
+        stream.extend_from_slice(&record);
+        rows.push_str(&row(&record));
+        rows.push('\n');
+    }
+    std::fs::write(folder.join("records"), stream)?;
+    std::fs::write(folder.join("rows"), rows)
+}
+
 fn main() -> ExitCode {
     let arguments: Vec<String> = std::env::args().skip(1).collect();
     if let [mode, count, folder] = &arguments[..] {
-        if let ("--records", Ok(count)) = (mode.as_str(), count.parse()) {
-            return match write_records(count, Path::new(folder)) {
+        let write: Option<fn(u64, &Path) -> std::io::Result<()>> = match mode.as_str() {
+            "--records" => Some(write_records),
+            "--stream" => Some(write_stream),
+            _ => None,
+        };
+        if let (Some(write), Ok(count)) = (write, count.parse()) {
+            return match write(count, Path::new(folder)) {
                 Ok(()) => ExitCode::SUCCESS,
                 Err(error) => {
                     eprintln!("{folder}: {error}");
@@ -306,7 +343,7 @@ fn main() -> ExitCode {
         seconds,
     }) = options(&arguments)
     else {
-        eprintln!("usage: differential [--seconds N] [--seed S] [--cases N] | --records N FOLDER");
+        eprintln!("usage: differential [--seconds N] [--seed S] [--cases N] | --records N FOLDER | --stream N FOLDER");
         return ExitCode::from(2);
     };
 

@@ -66,8 +66,8 @@ pub fn account(k: usize) -> Given {
     }
 }
 
-/// The account of k + 1 years, changed so that this question, 2 or 4 to 14, is the first that says no, and says it late: the work of all questions
-/// before it is done. `None` where the change does not bring that answer about: 1 and 3 never, and others for some k.
+/// The account of k + 1 years, changed so that this question is the first that says no, and says it late: the work of all questions before it is done.
+/// `None` where the change does not bring that answer about: 3 never, for it is asked of the buffer, and others for some k.
 pub fn refused(k: usize, question: u64) -> Option<Vec<u8>> {
     let record = changed(k, question)?;
     let answer = paper::run(&record, &mut [0; 489]);
@@ -78,6 +78,12 @@ fn changed(k: usize, question: u64) -> Option<Vec<u8>> {
     let mut a = account(k);
     let [.., (shares, width, count), _, (totals, size, years)] = rows(k);
     match question {
+        // The first four bits say that k is 0.
+        1 => {
+            let mut record = pack(&a);
+            set_bits(&mut record, 0, 4, 0);
+            return Some(record);
+        }
         2 => {
             let mut record = pack(&a);
             if paper::bits(k) % 8 == 0 {

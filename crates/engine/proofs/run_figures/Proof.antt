@@ -10,11 +10,10 @@ use Rattle.rules.specs.Lists.{every}
 use Rattle.rules.specs.Record.{figures, Figures}
 use Rattle.rules.specs.Triangle.{cumulativesPass}
 use Rattle.rules.specs.Separation.{separationQuestions, separateAnswer}
-use Rattle.rules.specs.Results.{squareOf, paidIn}
+use Rattle.rules.specs.Results.{squareOf}
 use Rattle.rules.specs.declared.Factors.{Factors}
 use Rattle.rules.specs.Engine.{figureQuestions, laterQuestions}
 use Rattle.engine.proofs.Questions.{one-no, one-yes, first-refused, later}
-use Rattle.triangle.proofs.Reached.{all-averages, all-columns, all-paid}
 use Rattle.engine.proofs.Before as stage
 use Rattle.engine.proofs.run_figures.Statement.{statement}
 use Rattle.engine.proofs.run_figures.Tie as tie
@@ -42,8 +41,7 @@ returns c =
 
 -- the square, and the answer of questions 7 to 10
 square-is : (c : tie.Else1) → c .before .fill-rows .last .1 .1 .1 .0 ≡ squareOf (F (start1 (c .before)))
-unfolding squareOf
-square-is c = let s = start1 (c .before) in c .before .fill-rows .ensures .1 .0 ∙ all-averages (s .args .k) (s .args .increments .now) (yes-six c) (s .args .exposures .now)
+square-is c = stage.square-is (F (start1 (c .before))) (yes-six c) _ (c .before .fill-rows .ensures .1 .0)
 
 separate-requires : tie.Need-separate-requires
 separate-requires c κs =
@@ -81,12 +79,11 @@ accepted-is : (c : tie.Else2) →
 accepted-is c = sym (answer-is (separate2 c)) ∙ c .if2 .left
 
 finish-requires : tie.Need-finish-requires
-unfolding paidIn
 finish-requires c κs =
     let two = c .before .before .before .before .before .before .before .before in
     let at = separate2 two in
     let six = at .before .before in
-    let rows = six .before .fill-rows .ensures .1 .1 in
+    let rows = six .before .fill-rows in
     let s = start1 (six .before) in
     let f = F s in
     let factors = stage.factors-are f _ (square-is six) (at .separate .result .factors) (at .separate .ensures .1) (accepted-is two) in (
@@ -94,8 +91,8 @@ finish-requires c κs =
         sound = s .pre .0;
         cumulatives = yes-six six;
         square = square-is six;
-        columns = rows .0 ∙ all-columns (f .k) (f .increments) (yes-six six);
-        paid = rows .1 ∙ all-paid (f .k) (f .increments) (yes-six six);
+        columns = stage.columns-are f (yes-six six) _ (rows .ensures .1 .1 .0);
+        paid = stage.paid-are f (yes-six six) _ (rows .ensures .1 .1 .1);
         accepted = accepted-is two;
         shares = ap (λ (g : Factors). g .shares) factors;
         levels = ap (λ (g : Factors). g .levels) factors;

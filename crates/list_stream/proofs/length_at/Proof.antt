@@ -7,7 +7,7 @@ use Rattle.list_stream.proofs.length_at.Tie as tie
 
 returns : tie.Need-returns
 unfolding lengthAt
-returns c = let first = c .before .before .wide .ensures in (omega (arith, first .0, c .wide2 .ensures .0), omega (arith, first .1, c .wide2 .ensures .1))
+returns c = let high = c .before .before .wide .ensures in (omega (arith, high .0, c .wide2 .ensures .0), omega (arith, high .1, c .wide2 .ensures .1))
 
 pub length-at-spec : {M : Type 1} → statement M
 length-at-spec =
@@ -17,7 +17,7 @@ length-at-spec =
     (λ c κs. search needs)
     (λ c. search needs)
     (λ c. search needs)
-    (λ c. search needs)
     (λ c κs. search needs)
+    (λ c. search needs)
     (λ c. search needs)
     returns)

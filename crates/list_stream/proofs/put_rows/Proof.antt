@@ -14,7 +14,7 @@ use Rattle.composing.specs.Text.{Put}
 use Rattle.composing.proofs.Puts.{put-none, put-more, put-same, put-length, put-room}
 use Rattle.list_runs.specs.Runs.{listRow}
 use Rattle.list_stream.specs.Stream.{lengthAt, startOf, recordAt, rowsText}
-use Rattle.list_stream.proofs.Rows.{row-most, whole-inside}
+use Rattle.list_stream.proofs.Rows.{text-most, whole-inside}
 use Rattle.list_stream.proofs.put_rows.Statement.{statement}
 use Rattle.list_stream.proofs.put_rows.Tie as tie
 
@@ -110,7 +110,7 @@ loop-again c =
     let i = at .loop .inv in
     let count = at .loop .count in
     let put = put-same (record-is s count (at .loop .from) (n .length-at .result) (i .place) (n .length-at .ensures .0)) (c .before .before .put-record .ensures) in
-    let row = row-most (recordAt s count) in
+    let row = text-most 32 (recordAt s count) in
     let ended = put-room put (omega (arith, row, put-length (i .put), i .long)) in
     record {
       long = i .long;

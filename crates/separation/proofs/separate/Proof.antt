@@ -15,7 +15,7 @@ use Rattle.rules.specs.Separation.{billion, columnOf, diagonalOf, totalsPass, r
 use Rattle.laws.proofs.Lists.{getD-upTo}
 use Rattle.totals.proofs.Most.{diagonal-most}
 use Rattle.separation.specs.Walk.{TotalsOf, CornersOf, factorsTo}
-use Rattle.separation.proofs.Totals.{listed, column-small, ready}
+use Rattle.separation.proofs.Totals.{column-small, ready}
 use Rattle.separation.proofs.Steps.{latest-running}
 use Rattle.separation.proofs.Questions.{seven, answer-seven, answer-eight, answer-factors, none-back, factors-back}
 use Rattle.separation.proofs.separate.Statement.{statement}
@@ -39,11 +39,11 @@ column-at c i l =
     ap (λ (v : List ℤ). getD v i (pos 0)) (at .fill-columns .ensures) ∙ getD-upTo (columnTotal (s .args .square .now)) 16 i (pos 0) (omega arith)
 
 diagonal-at : (c : tie.After-d) (i : ℕ) → i ≤ c .before .before .before .before .before .before .before .before .args .k
-    → getD (c .before .before .before .before .fill-diagonals .last .1 .1 .0) i (pos 0) ≡ diagonalTotal (c .before .before .before .before .before .before .before .before .args .square .now) i
-diagonal-at c =
+    → getD (c .before .before .before .before .fill-diagonals .last .1 .0) i (pos 0) ≡ diagonalTotal (c .before .before .before .before .before .before .before .before .args .square .now) i
+diagonal-at c i l =
     let at = c .before .before .before .before in
     let s = at .before .before .before .before in
-    listed (diagonalTotal (s .args .square .now)) (s .args .k) _ (s .pre .0) (at .fill-diagonals .ensures)
+    ap (λ (v : List ℤ). getD v i (pos 0)) (at .fill-diagonals .ensures) ∙ getD-upTo (diagonalTotal (s .args .square .now)) 16 i (pos 0) (omega arith)
 
 totals-pass-requires : tie.Need-totals-pass-requires
 totals-pass-requires c κs =
@@ -61,7 +61,7 @@ asked c =
     let s = start c in
     let diagonals = c .before .before .before .before .before in
     c .totals-pass .ensures .0
-    ∙ seven (s .args .square .now) (s .args .k) (s .pre .0) (s .pre .1 .1) (diagonals .before .before .fill-columns .last .1 .1 .0) (diagonals .fill-diagonals .last .1 .1 .0)
+    ∙ seven (s .args .square .now) (s .args .k) (s .pre .0) (s .pre .1 .1) (diagonals .before .before .fill-columns .last .1 .1 .0) (diagonals .fill-diagonals .last .1 .0)
     (column-at (c .before)) (diagonal-at (c .before))
 
 refused-requires : tie.Need-refused-requires
