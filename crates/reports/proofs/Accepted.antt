@@ -9,7 +9,6 @@ use mathlib.Core.List.{List, _++_, map}
 use lib.Dec.{eqb}
 use lib.IntN.{ℤ, pos, natAbs}
 use lib.ListN.{length, getD, drop, replicate, length-map, List·getD-append, List·getD-map}
-use Rattle.rules.specs.Packing.{Fit}
 use Rattle.rules.specs.Lists.{upTo, padded}
 use Rattle.rules.specs.Record.{Figures, lastYearOf, figuresOf}
 use Rattle.rules.specs.Triangle.{futureStart, paidTo}
@@ -19,18 +18,18 @@ use Rattle.rules.specs.Results.{completedSection, sectionStart, mostEntries, se
 use Rattle.rules.specs.Engine.{runAnswer}
 use Rattle.laws.proofs.Rows.{cells-most}
 use Rattle.laws.proofs.Joined.{future-length, future-cells}
-use Rattle.triangle.specs.Bounds.{Increments, Exposures}
 use Rattle.triangle.specs.Columns.{rowsPassing}
 use Rattle.triangle.proofs.Passed.{paid-most}
 use Rattle.engine.proofs.Before.{paid-are}
-use Rattle.wording.specs.Wording.{refusalText}
 use Rattle.results.proofs.Places.{section-entry, section-inside, length-completed}
 use Rattle.results.proofs.Limits.{most-list, completed-most}
 use Rattle.listing.specs.Starts.{Addable}
 use Rattle.listing.proofs.Known.{known, start-least}
 use Rattle.page.specs.Page.{ladderUltimate, pageOf}
 use Rattle.web_page.specs.Web.{webPageOf}
-use Rattle.outcomes.proofs.Accepted.{cumulatives, completed, sound, filled}
+use Rattle.outcomes.proofs.Passed.{accepted, cumulatives}
+use Rattle.outcomes.proofs.Accepted.{completed, filled}
+use Rattle.refusals.specs.Refusal.{refusalOf}
 use Rattle.outcomes.specs.Outcome.{filledBy}
 use Rattle.reports.specs.Report.{paidBy, webRefusal, reportOf, htmlReportOf, reportIn}
 
@@ -71,15 +70,11 @@ module _ (s : List ℕ) (ok : runAnswer s mostEntries ≡ 0) where
   -- what is paid is small
   pub paid-small : Addable (paidBy s)
   unfolding paidIn
-  paid-small i = omega (arith, paid-most (figuresOf s .k) (figuresOf s .increments) (cumulatives s ok) i)
+  paid-small i = omega (arith, paid-most (figuresOf s .k) (figuresOf s .increments) (cumulatives s (accepted s ok)) i)
 
-  -- its figures can be put into rows again, and what is paid comes of that
-  pub rows-ready : Fit 8 s → (k : ℕ) (n : List ℕ) (p : List ℤ) → k ≡ figuresOf s .k → n ≡ figuresOf s .exposures → p ≡ figuresOf s .increments
-      → (k < 16) × (Exposures k n × Increments p)
-  rows-ready h k n p ek en ep = let good = sound s ok h in rw (ek, en, ep) (good .few, (good .exposures, good .increments))
-
+  -- what is paid comes of its rows
   pub paid-is : (k : ℕ) (p : List ℤ) (c : List ℕ) → k ≡ figuresOf s .k → p ≡ figuresOf s .increments → c ≡ padded 16 0 (upTo (paidTo k p) (rowsPassing k p)) → c ≡ paidBy s
-  paid-is k p c ek ep e = paid-are (figuresOf s) (cumulatives s ok) c (rw (ek, ep) at e)
+  paid-is k p c ek ep e = paid-are (figuresOf s) (cumulatives s (accepted s ok)) c (rw (ek, ep) at e)
 
   -- the chain ladder's ultimates are small
   ladder-at : (paid : List ℕ) → Addable paid → (i : ℕ) → i < figuresOf s .k + 1 → ladderUltimate (figuresOf s .k) (filledBy s) paid i ≤ mostUltimate
@@ -107,7 +102,7 @@ module _ (s : List ℕ) (ok : runAnswer s mostEntries ≡ 0) where
 
 -- the words of a refusal are the report, as HTML and as text
 pub refusal-is : (html : Bool) (s : List ℕ) (n : ℕ) → n ≡ runAnswer s mostEntries → (n ≡ 0 → ⊥)
-    → cond html (webRefusal n) (refusalText n) ≡ reportIn html s
+    → cond html (webRefusal s n) (refusalOf s n) ≡ reportIn html s
 unfolding reportIn htmlReportOf reportOf
 refusal-is html s n e h =
     let no : eqb (runAnswer s mostEntries) 0 ≡ false = ne-eqb (runAnswer s mostEntries) 0 (λ z. h (e ∙ z)) in

@@ -4,13 +4,16 @@ use mathlib.Core.Path.{_≡_, refl, _∙_}
 use Rattle.rules.specs.Packing.{Fit}
 use Rattle.rules.specs.Record.{figuresOf}
 use Rattle.reading.proofs.Accepted.{Filled, filled}
-use Rattle.outcomes.proofs.Accepted.{opening, fields, some}
-use Rattle.reports.proofs.Accepted.{rows-ready, paid-is, paid-small}
+use Rattle.outcomes.proofs.Passed.{Late, accepted, opening, fields, some, rows-ready}
+use Rattle.reports.proofs.Accepted.{paid-is, paid-small}
 use Rattle.reports.proofs.fill_paid.Statement.{statement}
 use Rattle.reports.proofs.fill_paid.Tie as tie
 
+run : (s : tie.Start) → Late (s .args .packed .now)
+run s = accepted (s .args .packed .now) (s .pre .0)
+
 read-requires : tie.Need-read-requires
-read-requires c κs = let s = c .before .before .before .before .before .before in opening (s .args .packed .now) (s .pre .0)
+read-requires c κs = let s = c .before .before .before .before .before .before in opening (s .args .packed .now) (run s)
 
 abbrev start : tie.After-read → tie.Start
 start c = c .before .before .before .before .before .before .before
@@ -22,7 +25,7 @@ arrays : (c : tie.After-read) → Filled (start c .args .packed .now)
 arrays c =
     let s = start c in
     let packed = s .args .packed .now in
-    filled packed (bytes c) (opening packed (s .pre .0)) (fields packed (s .pre .0))
+    filled packed (bytes c) (opening packed (run s)) (fields packed (run s))
 
 exposures-are : (c : tie.After-read) → c .read .last .1 .0 ≡ figuresOf (start c .args .packed .now) .exposures
 exposures-are c = c .read .ensures .1 .1 .0 ∙ arrays c .exposures
@@ -34,7 +37,7 @@ last-year-of-requires : tie.Need-last-year-of-requires
 last-year-of-requires c κs =
     let s = start c in
     let packed = s .args .packed .now in
-    some packed (s .pre .0)
+    some packed (run s)
 
 year-is : (c : tie.After-last-year-of) → c .last-year-of .result ≡ figuresOf (start (c .before) .args .packed .now) .k
 unfolding figuresOf
@@ -46,7 +49,7 @@ fill-rows-requires c κs =
     let at = year .before in
     let s = start at in
     let packed = s .args .packed .now in
-    let ready = rows-ready packed (s .pre .0) (bytes at) _ _ _ (year-is year) (exposures-are at) (increments-are at) in
+    let ready = rows-ready packed (run s) (bytes at) _ _ _ (year-is year) (exposures-are at) (increments-are at) in
     (ready .0, (ready .1 .0, (ready .1 .1, (refl, (refl, s .pre .1)))))
 
 returns : tie.Need-returns
