@@ -1,7 +1,8 @@
 #!/usr/bin/env python3
 """make_cases.py: writes the stored input and expected output of the test programs read_cases, write_cases and run_cases and of the programs reserve,
 reserve_many, gather, report, csv, pack and unpack; the records of the examples from their texts, their pages and their lists as comma-separated values
-(tests/pages); and the texts that pack must accept or refuse, with the record of each or what pack says (tests/texts).
+(tests/pages); records that question 7 refuses, with what is said of them (tests/refusals); and the texts that pack must accept or refuse, with the record of each or
+what pack says (tests/texts).
 
 What is expected comes from model.py and page.py, which are written from document 01 and from the docs and share nothing with the Rattle code.
 """
@@ -307,6 +308,7 @@ def main():
     store("reserve_many", b"".join(len(record).to_bytes(2, "big") + record for record in records), "".join(map(row, records)))
     gather(record)
     examples()
+    refusals()
     texts()
 
 
@@ -336,6 +338,20 @@ def examples():
             store("pack", given, record)
             store("unpack", record, page.sheet(fields))
             store("csv", record, page.csv(record))
+
+
+def refusals():
+    """Records that question 7 refuses, each for another reason, and what is said of them (tests/refusals)."""
+    made = {
+        "column": fields_of([1, 1], [[60, -1], [66]]),
+        "later_column": fields_of([1] * 4, [[60, 5, -9, 1], [70, 5, 8], [80, 5], [90]]),
+        "diagonal": fields_of([1] * 3, [[60, -5, 5], [0, 5], [70]]),
+        "too_large": fields_of([100, 1], [[500000000, 200000001], [3000000]]),
+    }
+    for name, fields in made.items():
+        record = model.pack(fields)
+        put(os.path.join(HERE, "refusals", name + ".rec"), record)
+        put(os.path.join(HERE, "refusals", name + ".said"), page.totals_refusal(record))
 
 
 def typed(text):

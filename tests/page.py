@@ -127,6 +127,22 @@ def csv(record):
     return "".join(",".join(str(cell) for cell in line) + "\n" for line in lines)
 
 
+def totals_refusal(record):
+    """The line that tells why question 7 refuses a record: the first column, else the first diagonal, that adds up to less than 0, else the whole."""
+    k = record[0] >> 4
+    assert model.run(record, model.result_count(k))[0] == 7
+    given = model.lists(model.read(record, model.field_count(k)))
+    averages = [[model.average(paid, given["n"][i]) for paid in row] for i, row in enumerate(model.by_row(k, given["P"]))]
+    years = range(k + 1)
+    columns = [sum(row[j] for row in averages if j < len(row)) for j in years]
+    diagonals = [sum(averages[i][h - i] for i in range(h + 1)) for h in years]
+    for kind, totals in (("development", columns), ("payment", diagonals)):
+        for year, total in enumerate(totals):
+            if total < 0:
+                return f"refused 7: the averages of {kind} year {year} add up to less than 0\n"
+    return "refused 7: the averages add up to more than 1,000,000,000 hundredths\n"
+
+
 def sheet(fields):
     """The text that unpack writes of a record's fields: a label and its numbers a line, the increments of each origin year on a line of their own."""
     k, given = fields[0], model.lists(fields)

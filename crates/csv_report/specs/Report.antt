@@ -6,9 +6,9 @@ use lib.Dec.{eqb}
 use Rattle.rules.specs.Record.{lastYearOf}
 use Rattle.rules.specs.Results.{mostEntries}
 use Rattle.rules.specs.Engine.{runAnswer}
-use Rattle.wording.specs.Wording.{refusalText}
+use Rattle.refusals.specs.Refusal.{refusalOf}
 use Rattle.outcomes.specs.Outcome.{filledBy}
 use Rattle.csv_text.specs.Csv.{csvOf}
 
 unfoldable pub csvReportOf : List ℕ → List ℕ
-csvReportOf s = cond (eqb (runAnswer s mostEntries) 0) (csvOf (lastYearOf s) (filledBy s)) (refusalText (runAnswer s mostEntries))
+csvReportOf s = cond (eqb (runAnswer s mostEntries) 0) (csvOf (lastYearOf s) (filledBy s)) (refusalOf s (runAnswer s mostEntries))

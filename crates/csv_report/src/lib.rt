@@ -2,8 +2,8 @@
 use csv_text::put_csv;
 use engine::doonamurk_run;
 use reading::last_year_of;
+use refusals::put_refused;
 use rules::MOST_ENTRIES;
-use wording::put_refusal;
 ghost use mathlib.Core.Path.{_≡_};
 ghost use Rattle.rules.specs.Results.{mostEntries};
 ghost use Rattle.rules.specs.Engine.{runAnswer};
@@ -24,7 +24,7 @@ pub fn csv(packed: &[u8], out: &mut [u8]) -> Written
     let mut list = [0i64; MOST_ENTRIES];
     let answer = doonamurk_run(packed, &mut list);
     if answer != 0 {
-        let end = put_refusal(out, 0, answer);
+        let end = put_refused(out, 0, packed, answer);
         return Written { answer, end };
     }
     let end = put_csv(out, &list, last_year_of(packed));

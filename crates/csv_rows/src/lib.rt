@@ -25,6 +25,7 @@ pub struct Shape {
     pub year: bool,
 }
 
+// The cells that are given, by row.
 pub fn given_cells(k: usize) -> Shape
     requires { ⌜ k < 16 ⌝ }
     ensures { λ r. ⌜ r ≡ givenCells k ⌝ }
@@ -37,6 +38,7 @@ pub fn given_cells(k: usize) -> Shape
     }
 }
 
+// The cells past the diagonal, by row.
 pub fn future_cells(k: usize) -> Shape
     requires { ⌜ k < 16 ⌝ }
     ensures { λ r. ⌜ r ≡ futureCells k ⌝ }
@@ -49,6 +51,7 @@ pub fn future_cells(k: usize) -> Shape
     }
 }
 
+// An entry for each origin year.
 pub fn by_origin(k: usize) -> Shape
     requires { ⌜ k < 16 ⌝ }
     ensures { λ r. ⌜ r ≡ byOrigin k ⌝ }
@@ -61,6 +64,7 @@ pub fn by_origin(k: usize) -> Shape
     }
 }
 
+// m entries, for the years from y on.
 pub fn by_year(y: usize, m: usize) -> Shape
     ensures { λ r. ⌜ r ≡ byYear y m ⌝ }
 {
@@ -72,6 +76,7 @@ pub fn by_year(y: usize, m: usize) -> Shape
     }
 }
 
+// One entry, of no year.
 pub fn by_itself() -> Shape
     ensures { λ r. ⌜ r ≡ alone ⌝ }
 {

@@ -1,1 +1,2 @@
-// Laws about a run of the engine on a record: what an accepted run has passed, and the list that it filled. They stand in proofs/.
+// Laws about a run of the engine on a record: what it has passed where no question before the seventh refuses it, and the list that an accepted run filled.
+// They stand in proofs/.

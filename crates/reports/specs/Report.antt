@@ -8,7 +8,7 @@ use Rattle.rules.specs.Record.{lastYearOf, figuresOf}
 use Rattle.rules.specs.Results.{mostEntries, paidIn}
 use Rattle.rules.specs.Engine.{runAnswer}
 use Rattle.outcomes.specs.Outcome.{filledBy}
-use Rattle.wording.specs.Wording.{refusalText}
+use Rattle.refusals.specs.Refusal.{refusalOf}
 use Rattle.page.specs.Page.{ladderUltimate, pageOf}
 use Rattle.web_page.specs.Web.{webStart, webText, webPageOf}
 
@@ -21,15 +21,15 @@ ladderBy s = padded 16 0 (upTo (ladderUltimate (lastYearOf s) (filledBy s) (paid
 
 -- the report of the record s
 unfoldable pub reportOf : List ℕ → List ℕ
-reportOf s = cond (eqb (runAnswer s mostEntries) 0) (pageOf (lastYearOf s) (filledBy s) (paidBy s) (ladderBy s)) (refusalText (runAnswer s mostEntries))
+reportOf s = cond (eqb (runAnswer s mostEntries) 0) (pageOf (lastYearOf s) (filledBy s) (paidBy s) (ladderBy s)) (refusalOf s (runAnswer s mostEntries))
 
--- the words of question n's refusal on a page of HTML
-unfoldable pub webRefusal : ℕ → List ℕ
-webRefusal n = webStart ++ webText (refusalText n)
+-- the words of question n's refusal of the record s on a page of HTML
+unfoldable pub webRefusal : List ℕ → ℕ → List ℕ
+webRefusal s n = webStart ++ webText (refusalOf s n)
 
 -- the report of the record s as a page of HTML
 unfoldable pub htmlReportOf : List ℕ → List ℕ
-htmlReportOf s = cond (eqb (runAnswer s mostEntries) 0) (webPageOf (lastYearOf s) (filledBy s) (paidBy s) (ladderBy s)) (webRefusal (runAnswer s mostEntries))
+htmlReportOf s = cond (eqb (runAnswer s mostEntries) 0) (webPageOf (lastYearOf s) (filledBy s) (paidBy s) (ladderBy s)) (webRefusal s (runAnswer s mostEntries))
 
 -- the report as HTML, or as text
 unfoldable pub reportIn : Bool → List ℕ → List ℕ

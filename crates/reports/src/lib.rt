@@ -5,13 +5,13 @@ use listing::starts_of;
 use page::put_page;
 use reading::last_year_of;
 use reading::read;
+use refusals::put_refused;
 use rules::MOST_ENTRIES;
 use triangle::fill_rows;
 use web_page::put_text_end;
 use web_page::put_text_start;
 use web_page::put_web_page;
 use web_page::put_web_start;
-use wording::put_refusal;
 ghost use mathlib.Core.Path.{_≡_};
 ghost use mathlib.Core.Bool.{cond};
 ghost use Prim.Native.Nat.{_+_, _<_};
@@ -20,7 +20,7 @@ ghost use Rattle.rules.specs.Lists.{upTo, padded};
 ghost use Rattle.rules.specs.Results.{completedSection, sectionStart, mostEntries};
 ghost use Rattle.rules.specs.Engine.{runAnswer};
 ghost use Rattle.composing.specs.Text.{Put};
-ghost use Rattle.wording.specs.Wording.{refusalText};
+ghost use Rattle.refusals.specs.Refusal.{refusalOf};
 ghost use Rattle.listing.specs.Starts.{Addable};
 ghost use Rattle.page.specs.Page.{ladderUltimate, pageOf};
 ghost use Rattle.web_page.specs.Web.{webPageOf};
@@ -104,24 +104,26 @@ fn put_accepted(out: &mut [u8], packed: &[u8], list: &[i64; MOST_ENTRIES], html:
     put_form(out, list, &paid, &ladder, k, html)
 }
 
-// The words of question n's refusal on a page of HTML.
-fn put_web_refusal(out: &mut [u8], n: u64) -> usize
-    ensures { λ r. ⌜ Put (now (out .entry)) (now (out .exit)) 0 r (webRefusal n) ⌝ }
+// The words of a refusal on a page of HTML.
+fn put_web_refusal(out: &mut [u8], packed: &[u8], answer: u64) -> usize
+    requires { ⌜ answer ≡ runAnswer (now packed) mostEntries ⌝ }
+    ensures { λ r. ⌜ Put (now (out .entry)) (now (out .exit)) 0 r (webRefusal (now (packed .entry)) answer) ⌝ }
 {
     let a = put_web_start(out, 0);
     let b = put_text_start(out, a);
-    let c = put_refusal(out, b, n);
+    let c = put_refused(out, b, packed, answer);
     put_text_end(out, c)
 }
 
-// The words of question n's refusal, as HTML or as text.
-fn put_refused(out: &mut [u8], n: u64, html: bool) -> usize
-    ensures { λ r. ⌜ Put (now (out .entry)) (now (out .exit)) 0 r (cond html (webRefusal n) (refusalText n)) ⌝ }
+// The words of a refusal, as HTML or as text.
+fn put_refusal_form(out: &mut [u8], packed: &[u8], answer: u64, html: bool) -> usize
+    requires { ⌜ answer ≡ runAnswer (now packed) mostEntries ⌝ }
+    ensures { λ r. ⌜ Put (now (out .entry)) (now (out .exit)) 0 r (cond html (webRefusal (now (packed .entry)) answer) (refusalOf (now (packed .entry)) answer)) ⌝ }
 {
     if html {
-        return put_web_refusal(out, n);
+        return put_web_refusal(out, packed, answer);
     }
-    put_refusal(out, 0, n)
+    put_refused(out, 0, packed, answer)
 }
 
 // The report of a record, as HTML or as text.
@@ -131,7 +133,7 @@ fn put_report(packed: &[u8], out: &mut [u8], html: bool) -> usize
     let mut list = [0i64; MOST_ENTRIES];
     let answer = doonamurk_run(packed, &mut list);
     if answer != 0 {
-        return put_refused(out, answer, html);
+        return put_refusal_form(out, packed, answer, html);
     }
     put_accepted(out, packed, &list, html)
 }

@@ -8,17 +8,17 @@ use lib.IntN.{ℤ}
 use Rattle.rules.specs.Record.{lastYearOf}
 use Rattle.rules.specs.Results.{mostEntries}
 use Rattle.rules.specs.Engine.{runAnswer}
-use Rattle.wording.specs.Wording.{refusalText}
+use Rattle.refusals.specs.Refusal.{refusalOf}
 use Rattle.composing.proofs.Puts.{put-same}
 use Rattle.csv_text.specs.Csv.{csvOf}
 use Rattle.outcomes.specs.Outcome.{filledBy}
-use Rattle.outcomes.proofs.Accepted.{some}
+use Rattle.outcomes.proofs.Passed.{accepted, some}
 use Rattle.csv_report.specs.Report.{csvReportOf}
 use borrow.Author.Needs.{needs}
 use Rattle.csv_report.proofs.csv.Statement.{statement}
 use Rattle.csv_report.proofs.csv.Tie as tie
 
-refused-is : (s : List ℕ) (n : ℕ) → n ≡ runAnswer s mostEntries → (n ≡ 0 → ⊥) → refusalText n ≡ csvReportOf s
+refused-is : (s : List ℕ) (n : ℕ) → n ≡ runAnswer s mostEntries → (n ≡ 0 → ⊥) → refusalOf s n ≡ csvReportOf s
 unfolding csvReportOf
 refused-is s n e h = rw (ne-eqb (runAnswer s mostEntries) 0 (λ z. h (e ∙ z)), e)
 
@@ -29,10 +29,10 @@ list-is s k list ok e g = rw (g, e, ok)
 returns : tie.Need-returns
 returns c =
     let run = c .before .before .before .before .before .before .doonamurk-run in
-    (run .ensures .0, put-same (refused-is (c .before .before .before .before .before .before .before .before .before .before .args .packed .now) (run .result) (run .ensures .0) (c .before .before .before .before .if1 .taken)) (c .before .before .put-refusal .ensures))
+    (run .ensures .0, put-same (refused-is (c .before .before .before .before .before .before .before .before .before .before .args .packed .now) (run .result) (run .ensures .0) (c .before .before .before .before .if1 .taken)) (c .before .before .put-refused .ensures))
 
 last-year-of-requires : tie.Need-last-year-of-requires
-last-year-of-requires c κs = some (c .before .before .before .before .before .before .before .before .args .packed .now) (sym (c .before .before .before .before .doonamurk-run .ensures .0) ∙ c .before .before .if1 .left)
+last-year-of-requires c κs = some (c .before .before .before .before .before .before .before .before .args .packed .now) (accepted _ (sym (c .before .before .before .before .doonamurk-run .ensures .0) ∙ c .before .before .if1 .left))
 
 returns-2 : tie.Need-returns-2
 returns-2 c =

@@ -4,7 +4,7 @@ use mathlib.Core.Path.{refl}
 use Rattle.rules.specs.Record.{figuresOf}
 use Rattle.composing.proofs.Puts.{put-same}
 use Rattle.listing.proofs.Known.{at-starts}
-use Rattle.outcomes.proofs.Accepted.{some}
+use Rattle.outcomes.proofs.Passed.{accepted, some}
 use Rattle.reports.proofs.Accepted.{ladder-fits, page-is}
 use Rattle.reports.proofs.put_accepted.Statement.{statement}
 use Rattle.reports.proofs.put_accepted.Tie as tie
@@ -13,7 +13,7 @@ last-year-of-requires : tie.Need-last-year-of-requires
 last-year-of-requires c κs =
     let s = c .before .before in
     let packed = s .args .packed .now in
-    some packed (s .pre .0)
+    some packed (accepted packed (s .pre .0))
 
 fill-paid-requires : tie.Need-fill-paid-requires
 fill-paid-requires c κs = (c .before .before .before .before .pre .0, refl)

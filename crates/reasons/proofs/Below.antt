@@ -1,0 +1,52 @@
+-- Totals below zero and not, and the reason by the first of them. Assumes nothing.
+use mathlib.Core.Path.{_≡_, refl, sym, ap, _∙_}
+use mathlib.Core.Bool.{Bool, true, false}
+use mathlib.Core.List.{List}
+use Prim.Native.Nat.{ℕ, zero, suc, _+_, _≤_, _<_, zero-le}
+use native.Mathlib.Omega.{arith}
+use borrow.Author.Tests.{le-leb, lt-ltb, le-ltb}
+use lib.Dec.{ltb}
+use lib.IntN.{ℤ, pos}
+use lib.Signed.{ltZ, leZ}
+use mir.Syntax.{w64}
+use mir.Val.{SFits}
+use Rattle.laws.proofs.Signed.{held}
+use Rattle.entries.specs.Leading.{leading}
+use Rattle.entries.proofs.Signs as signs
+use Rattle.composing.specs.Text.{ascii}
+use Rattle.reasons.specs.Reasons.{firstBelow, yearReason, totalsReason}
+
+module _ (x : ℤ) (fits : SFits w64 x) where
+  -- below zero
+  pub under-zero : ltZ (held x) (pos 0) ≡ true → leZ (pos 0) x ≡ false
+  under-zero t = let (n, e, h) = signs.below x fits t in rw e
+
+  -- not below zero
+  pub from-zero : ltZ (held x) (pos 0) ≡ false → leZ (pos 0) x ≡ true
+  from-zero t = let (n, e, h) = signs.above x fits t in rw e (le-leb 0 n zero-le)
+
+-- the reason where a column is below zero, where a diagonal is, and where none is
+module _ (v d : ℕ → ℤ) (k : ℕ) where
+  pub column-reason : (j : ℕ) → j ≡ firstBelow v k → j < k + 1 → yearReason (ascii "development year ") j ≡ totalsReason v d k
+  unfolding totalsReason
+  column-reason j e l = rw (sym e, lt-ltb j (k + 1) l)
+
+  pub diagonal-reason : (j h : ℕ) → j ≡ firstBelow v k → k + 1 ≤ j → h ≡ firstBelow d k → h < k + 1 → yearReason (ascii "payment year ") h ≡ totalsReason v d k
+  unfolding totalsReason
+  diagonal-reason j h e m f l = rw (sym e, sym f, le-ltb j (k + 1) m, lt-ltb h (k + 1) l)
+
+  pub sum-reason : (j h : ℕ) → j ≡ firstBelow v k → k + 1 ≤ j → h ≡ firstBelow d k → k + 1 ≤ h
+      → ascii "the averages add up to more than 1,000,000,000 hundredths" ≡ totalsReason v d k
+  unfolding totalsReason
+  sum-reason j h e m f l = rw (sym e, sym f, le-ltb j (k + 1) m, le-ltb h (k + 1) l)
+
+-- of the same totals the same reason
+below-same : (v w : ℕ → ℤ) (n : ℕ) → ((i : ℕ) → i < n → v i ≡ w i) → leading (λ i. leZ (pos 0) (v i)) n ≡ leading (λ i. leZ (pos 0) (w i)) n
+unfolding leading
+below-same v w zero h = refl
+below-same v w (suc n) h =
+    rw (below-same v w n (λ i l. h i (omega arith)), h n (omega arith))
+
+pub reason-same : (v w d e : ℕ → ℤ) (k : ℕ) → ((i : ℕ) → i < k + 1 → v i ≡ w i) → ((i : ℕ) → i < k + 1 → d i ≡ e i) → totalsReason v d k ≡ totalsReason w e k
+unfolding totalsReason firstBelow
+reason-same v w d e k f g = rw (below-same v w (k + 1) f, below-same d e (k + 1) g)

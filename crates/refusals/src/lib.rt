@@ -1,0 +1,83 @@
+// The words of a refusal of a record in a lent buffer: of question 7 with its reason.
+use composing::put_bytes;
+use reading::last_year_of;
+use reading::read;
+use reasons::put_totals_reason;
+use triangle::fill_columns;
+use triangle::fill_diagonals;
+use triangle::fill_rows;
+use wording::put_refusal;
+ghost use mathlib.Core.Path.{_≡_};
+ghost use Prim.Native.Nat.{_+_};
+ghost use lib.IntN.{pos};
+ghost use lib.ListN.{replicate};
+ghost use lib.Seq.{sets};
+ghost use Rattle.rules.specs.Lists.{upTo};
+ghost use Rattle.rules.specs.Record.{lastYearOf, figuresOf};
+ghost use Rattle.rules.specs.Triangle.{columnTotal, diagonalTotal};
+ghost use Rattle.rules.specs.Results.{squareOf, mostEntries};
+ghost use Rattle.rules.specs.Engine.{runAnswer};
+ghost use Rattle.composing.specs.Text.{Put};
+ghost use Rattle.refusals.specs.Refusal.{totalsRefusal, refusalOf};
+
+// The totals of the columns and of the diagonals of a record that question 7 refuses.
+fn fill_totals(packed: &[u8], columns: &mut [i64; 16], diagonals: &mut [i64; 16])
+    requires { ⌜ (runAnswer (now packed) mostEntries ≡ 7) × ((now columns ≡ replicate 16 (pos 0)) × (now diagonals ≡ replicate 16 (pos 0))) ⌝ }
+    ensures { λ _. ⌜ (now (columns .exit)
+        ≡ sets (replicate 16 (pos 0)) 0 (upTo (columnTotal (squareOf (figuresOf (now (packed .entry))))) (lastYearOf (now (packed .entry)) + 1)))
+        × (now (diagonals .exit)
+        ≡ sets (replicate 16 (pos 0)) 0 (upTo (diagonalTotal (squareOf (figuresOf (now (packed .entry))))) (lastYearOf (now (packed .entry)) + 1))) ⌝ }
+{
+    let mut exposures = [0u64; 16];
+    let mut increments = [0i64; 136];
+    let mut indices = [0u64; 16];
+    let mut reporting = [0u64; 16];
+    let mut ulae = [0u64; 16];
+    read(
+        packed,
+        &mut exposures,
+        &mut increments,
+        &mut indices,
+        &mut reporting,
+        &mut ulae,
+    );
+    let k = last_year_of(packed);
+    let mut square = [[0i64; 16]; 16];
+    let mut sums = [0u64; 16];
+    let mut paid = [0u64; 16];
+    fill_rows(
+        k,
+        &exposures,
+        &increments,
+        &mut square,
+        &mut sums,
+        &mut paid,
+    );
+    fill_columns(&square, k, columns);
+    fill_diagonals(&square, k, diagonals);
+}
+
+// The line of question 7's refusal.
+fn put_totals_refusal(out: &mut [u8], at: usize, packed: &[u8]) -> usize
+    requires { ⌜ runAnswer (now packed) mostEntries ≡ 7 ⌝ }
+    ensures { λ r. ⌜ Put (now (out .entry)) (now (out .exit)) at r (totalsRefusal (now (packed .entry))) ⌝ }
+{
+    let mut columns = [0i64; 16];
+    let mut diagonals = [0i64; 16];
+    fill_totals(packed, &mut columns, &mut diagonals);
+    let k = last_year_of(packed);
+    let a = put_bytes(out, at, b"refused 7: ");
+    let b = put_totals_reason(out, a, &columns, &diagonals, k);
+    put_bytes(out, b, b"\n")
+}
+
+// The line of a refusal, from the answer of the record's run.
+pub fn put_refused(out: &mut [u8], at: usize, packed: &[u8], answer: u64) -> usize
+    requires { ⌜ answer ≡ runAnswer (now packed) mostEntries ⌝ }
+    ensures { λ r. ⌜ Put (now (out .entry)) (now (out .exit)) at r (refusalOf (now (packed .entry)) answer) ⌝ }
+{
+    if answer == 7 {
+        return put_totals_refusal(out, at, packed);
+    }
+    put_refusal(out, at, answer)
+}
