@@ -4,7 +4,7 @@ reserve_many, gather, report, csv, pack and unpack; the records of the examples 
 (tests/pages); records that question 7 refuses, with what is said of them (tests/refusals); and the texts that pack must accept or refuse, with the record of each or
 what pack says (tests/texts).
 
-What is expected comes from model.py and page.py, which are written from document 01 and from the docs and share nothing with the Rattle code.
+What is expected comes from model.py, page.py and sheet.py, which are written from document 01 and from the docs and share nothing with the Rattle code.
 """
 import glob
 import os
@@ -12,6 +12,7 @@ import random
 
 import model
 import page
+import sheet
 
 HERE = os.path.dirname(os.path.abspath(__file__))
 CRATES = os.path.join(HERE, "..", "crates")
@@ -329,7 +330,8 @@ def examples():
         name = os.path.splitext(os.path.basename(path))[0]
         with open(path, "rb") as text:
             given = text.read()
-        fields = typed(given.decode())
+        fields, said = sheet.read(given)
+        assert said is None, said
         record = model.pack(fields)
         put(os.path.splitext(path)[0] + ".rec", record)
         put(os.path.join(HERE, "pages", name + ".txt"), page.page(record))
@@ -354,86 +356,17 @@ def refusals():
         put(os.path.join(HERE, "refusals", name + ".said"), page.totals_refusal(record))
 
 
-def typed(text):
-    """The fields of an example's text: every number of every line, comments left out."""
-    return [int(word) for line in text.split("\n") for word in line.split("#")[0].split()[1:]]
-
-
-# What pack says, by docs/SHEET.md.
-NO_NUMBER = "a word is not a whole number (only paid amounts may be below zero)"
-REFUSED_1 = "refused 1: there is no record, or k is not from 1 to 15"
-REFUSED_4 = "refused 4: a field is out of its range"
-REFUSED_5 = "refused 5: the reporting shares do not sum to 1,000,000"
-
-
-def due(label):
-    return f"a line that starts with `{label}` is due"
-
-
-def refused_texts():
-    """Name, text and what pack says of it, for texts that it refuses."""
-    two_years = page.sheet(model.TWO_YEARS).splitlines()
-
-    def with_line(number_, line):
-        """The two years with another line in this place, counted from 1."""
-        return "\n".join(two_years[:number_ - 1] + [line] + two_years[number_:]) + "\n"
-
-    plain_text = "\n".join(two_years) + "\n"
-    # words that are no numbers
-    yield "letter", with_line(3, "paid 60 4o"), f"line 3: {NO_NUMBER}"
-    yield "decimals", with_line(4, "paid 66.0"), f"line 4: {NO_NUMBER}"
-    yield "minus_alone", with_line(4, "paid -"), f"line 4: {NO_NUMBER}"
-    yield "two_minus", with_line(4, "paid --5"), f"line 4: {NO_NUMBER}"
-    yield "plus", with_line(4, "paid +5"), f"line 4: {NO_NUMBER}"
-    yield "negative_exposure", with_line(2, "exposures 1 -1"), f"line 2: {NO_NUMBER}"
-    yield "two_labels", with_line(3, "paid 60 40 paid 66"), f"line 3: {NO_NUMBER}"
-    # labels
-    yield "label", with_line(5, "index 1100000"), "line 5: " + due("indices")
-    yield "label_in_capitals", with_line(4, "PAID 66"), "line 4: " + due("paid")
-    yield "label_goes_on", with_line(4, "paidx 66"), "line 4: " + due("paid")
-    yield "label_cut", with_line(4, "pai 66"), "line 4: " + due("paid")
-    yield "label_in_quotes", with_line(4, '"paid" 66'), "line 4: " + due("paid")
-    yield "order", "\n".join(two_years[:6] + [two_years[7], two_years[6]]) + "\n", "line 7: " + due("weight")
-    # counts of numbers
-    yield "thousands", with_line(5, "indices 1,100,000"), "line 5: `indices` takes 1 number"
-    yield "too_many", with_line(7, "weight 500 000"), "line 7: `weight` takes 1 number"
-    yield "too_few", "# one payment is missing\n\n" + with_line(3, "paid 60"), "line 5: `paid` takes 2 numbers"
-    # too short and too long
-    yield "empty", "", "line 1: the text ends where `k` is due"
-    yield "only_comments", "# nothing\n# here\n", "line 3: the text ends where `k` is due"
-    yield "ends_early", "\n".join(two_years[:7]) + "\n", "line 8: the text ends where `ulae` is due"
-    yield "goes_on", plain_text + "\npaid 3\n", "line 10: there is more than the figures call for"
-    # figures
-    yield "k_zero", with_line(1, "k 0"), REFUSED_1
-    yield "k_sixteen", with_line(1, "k 16"), REFUSED_1
-    yield "k_huge", with_line(1, "k 100000000000000000000000000001"), REFUSED_1
-    yield "exposure_zero", with_line(2, "exposures 1 0"), REFUSED_4
-    yield "amount_low", with_line(4, "paid -10000000001"), REFUSED_4
-    # 2^64 + 1, which would be 1 if it were cut to 64 bits
-    yield "amount_huge", with_line(4, "paid 18446744073709551617"), REFUSED_4
-    yield "reporting_sum", with_line(6, "reporting 800000 200001"), REFUSED_5
-
-
-def accepted_texts():
-    """Name, text and fields, for texts that pack accepts."""
-    two_years = page.sheet(model.TWO_YEARS)
-    yield "plain", two_years, model.TWO_YEARS
-    yield "semicolons", two_years.replace(" ", ";"), model.TWO_YEARS
-    yield "negative", two_years.replace("60 40", "60 -4"), changed(model.TWO_YEARS, 4, -4)
-    yield "negative_zero", two_years.replace("60 40", "60 -0"), changed(model.TWO_YEARS, 4, 0)
-    # as a spreadsheet saves it: a mark at the start, commas up to the longest line, carriage returns
-    rows = [line.split(" ") for line in two_years.splitlines()]
-    yield "spreadsheet", "\ufeff" + "".join(",".join(row + [""] * (4 - len(row))) + "\r\n" for row in rows), model.TWO_YEARS
-    untidy = two_years.replace("k 1\n", "# two years\n\tk\t1   # the last year\n\n").replace("paid 66", "  paid   0066 # the first payment of year 1")
-    yield "tabs_and_comments", untidy[:-1], model.TWO_YEARS
-
-
 def texts():
-    """The texts that pack must accept or refuse."""
+    """The texts that pack must accept or refuse, with the record of each or what pack says."""
+    for text, said in SAID.items():
+        assert sheet.read(text.encode())[1] == said.encode(), (text, sheet.read(text.encode()))
     folder = os.path.join(HERE, "texts")
-    made = {name + ".txt": text for name, text, _ in [*refused_texts(), *accepted_texts()]}
-    made.update({name + ".said": said + "\n" for name, _, said in refused_texts()})
-    made.update({name + ".rec": model.pack(fields) for name, _, fields in accepted_texts()})
+    made = {}
+    for name, text in text_cases():
+        given = text if isinstance(text, bytes) else text.encode()
+        fields, said = sheet.read(given)
+        made[name + ".txt"] = given
+        made.update({name + ".rec": model.pack(fields)} if fields else {name + ".said": said + b"\n"})
     for name, data in made.items():
         put(os.path.join(folder, name), data)
     for name in sorted(set(os.listdir(folder)) - set(made)):
@@ -444,6 +377,138 @@ def row(record):
     """The line of a record among many: the entries of its list with blanks between, or its refusal."""
     number_, results = model.run(record, model.result_count(15))
     return (f"refused {number_}" if number_ else " ".join(map(str, results))) + "\n"
+
+
+# Messages word for word, as docs/SHEET.md has them.
+SAID = {
+    "k 1\nexposures 1 1\npaid 60 40\npaid 66\nindicse 1\n": "line 5: a line that starts with `indices` is due, not with `indicse`",
+    "\n\n\nk 3\nexposures 1 1 1 1\npaid 504 282 90 48\npaid 580 662.5 97\n":
+        "line 7: number 2 of `paid` is `662.5`, and a whole number from -10000000000 to 10000000000 is due",
+    "k 1\nexposures 1 1\npaid;1;;2\n": "line 3: number 2 of `paid` is an empty cell, and a whole number from -10000000000 to 10000000000 is due",
+    "k 1\n\n\nexposures 1 1\npaid 1 2 3\n": "line 5: `paid` takes 2 numbers, and 3 stand there",
+    "k 1\nexposures 1 1\npaid 1\n": "line 3: `paid` takes 2 numbers, and 1 stands there",
+    "k 1 2\n": "line 1: `k` takes 1 number, and 2 stand there",
+    "\nk 1\nexposures 1 0\n": "refused 4: line 3: number 2 of `exposures` is `0`, and a whole number from 1 to 1000000 is due",
+    "k 16\n": "refused 1: line 1: number 1 of `k` is `16`, and a whole number from 1 to 15 is due",
+    "k 1\nexposures 1 1\n": "line 3: the text ends where `paid` is due",
+}
+
+
+def text_cases():
+    """Name and text of each, both sides of each rule of docs/SHEET.md."""
+    plain = page.sheet(model.TWO_YEARS)
+    two_years = plain.splitlines()
+    three_years = page.sheet([2, 1, 1, 1, 60, 40, 20, 66, 50, 70, 1100000, 1210000, 800000, 150000, 50000, 500000, 6, 10, 9]).splitlines()
+
+    def with_line(number_, line, lines=two_years):
+        """The two years with another line in this place, counted from 1."""
+        return "\n".join(lines[:number_ - 1] + [line] + lines[number_:]) + "\n"
+
+    rows = [line.split(" ") for line in two_years]
+
+    def saved(comma, end="\n", width=0):
+        """The two years as a spreadsheet saves them, with empty cells up to a width."""
+        return "".join(comma.join(row + [""] * (width - len(row))) + end for row in rows)
+
+    # what separates
+    yield "plain", plain
+    yield "commas", saved(",")
+    yield "semicolons", saved(";")
+    yield "tabs", saved("\t")
+    yield "spreadsheet", b"\xef\xbb\xbf" + saved(",", "\r\n", 4).encode()
+    yield "semicolons_to_a_width", saved(";", "\r\n", 7)
+    yield "tabs_to_a_width", saved("\t", "\n", 7)
+    yield "blanks_around_cells", saved(" ; ").replace(" ; ", "; ").replace("60; 40", "60  ;  40 ")
+    yield "blank_before_the_separator", with_line(3, "paid ;60;40")
+    yield "each_line_its_own", "k 1\nexposures,1,1\npaid;60;40\npaid\t66\nindices 1100000\nreporting;800000;200000;\nweight,500000,\nulae 6\t10\n"
+    yield "tabs_and_comments", plain.replace("k 1\n", "# two years\n  k\t1   # the last year\n\n").replace("paid 66", "  paid   0066 # year 1")[:-1]
+    yield "comma_in_blanks", with_line(3, "paid 60, 40")
+    yield "thousands", with_line(5, "indices 1,100,000")
+    yield "thousands_of_two", with_line(3, "paid 1,332")
+    yield "comma_in_semicolons", with_line(3, "paid;595,32;;;")
+    yield "semicolon_in_commas", with_line(3, "paid,60;40")
+    yield "comma_in_tabs", with_line(3, "paid\t60,5\t40")
+    yield "tab_in_commas", with_line(3, "paid,60\t40")
+    yield "tab_around_a_cell", with_line(3, "paid,60,\t40")
+    yield "blank_in_a_cell", with_line(3, "paid;6 0;40")
+    # empty cells
+    yield "empty_cell_between", with_line(4, "paid;580;;97;;677", three_years)
+    yield "empty_cell_first", with_line(3, "paid,,60,40")
+    yield "empty_cells_at_the_end", with_line(3, "paid,60,40,,, ,")
+    yield "empty_quotes_at_the_end", with_line(3, '"paid","60","40","",""')
+    yield "empty_quotes_between", with_line(3, 'paid,"",40')
+    yield "all_cells_empty", with_line(3, "paid,,,")
+    yield "lines_of_separators", plain.replace("\n", "\n,,,\n;;\n\t\t\n\"\"\n")
+    # quotes
+    yield "label_in_quotes", with_line(4, '"paid" 66')
+    yield "quoted", "".join(",".join(f'"{cell}"' for cell in row) + "\n" for row in rows)
+    yield "quoted_comment", '"# two years",,\n' + plain
+    yield "quoted_blanks", with_line(3, 'paid "60" "40"')
+    yield "quote_not_closed", with_line(4, '"paid 66')
+    yield "quote_at_one_side", with_line(4, 'paid "66')
+    yield "quote_alone", with_line(3, 'paid,",40')
+    yield "blank_in_quotes", with_line(3, 'paid,"60 ",40')
+    yield "after_the_quotes", with_line(4, '"paid"66')
+    # rows that a sheet may have besides
+    yield "header", "label,0,1\n" + saved(",")
+    yield "row_totals", with_line(3, "paid,60,40,100")
+    yield "totals", plain + "total 126\n"
+    # carriage returns and marks
+    yield "carriage_returns", plain.replace("\n", "\r\n")
+    yield "carriage_return_inside", with_line(3, "paid 60\r 40")
+    yield "two_carriage_returns", with_line(3, "paid 60 40\r\r")
+    yield "mark_at_the_start", b"\xef\xbb\xbf" + plain.encode()
+    yield "mark_elsewhere", plain.encode().replace(b"exposures", b"\xef\xbb\xbfexposures")
+    yield "two_marks", b"\xef\xbb\xbf" * 2 + plain.encode()
+    yield "part_of_a_mark", b"\xef\xbb" + plain.encode()
+    # cells that are no numbers
+    yield "letter", with_line(3, "paid 60 4o")
+    yield "decimals", with_line(4, "paid 66.0")
+    yield "minus_alone", with_line(4, "paid -")
+    yield "two_minus", with_line(4, "paid --5")
+    yield "plus", with_line(4, "paid +5")
+    yield "two_labels", with_line(3, "paid 60 40 paid 66")
+    yield "long_word", with_line(4, "paid 1234567890123456789x")
+    yield "longer_word", with_line(4, "paid 12345678901234567890x")
+    yield "long_label", with_line(4, "paid_of_the_second_origin_year 66")
+    yield "negative", plain.replace("60 40", "60 -4")
+    yield "negative_zero", plain.replace("60 40", "60 -0")
+    # labels
+    yield "label", with_line(5, "index 1100000")
+    yield "label_in_capitals", with_line(4, "PAID 66")
+    yield "label_goes_on", with_line(4, "paidx 66")
+    yield "label_cut", with_line(4, "pai 66")
+    yield "label_after_a_tab", with_line(4, "\tpaid 66")
+    yield "no_label", with_line(4, ",paid,66")
+    yield "order", "\n".join(two_years[:6] + [two_years[7], two_years[6]]) + "\n"
+    # counts of numbers
+    yield "too_many", with_line(7, "weight 500 000")
+    yield "too_few", "# one payment is missing\n\n" + with_line(3, "paid 60")
+    yield "none", with_line(4, "paid")
+    # too short and too long
+    yield "empty", ""
+    yield "only_comments", "# nothing\n# here\n"
+    yield "ends_early", "\n".join(two_years[:7]) + "\n"
+    yield "ends_without_a_line_feed", "\n".join(two_years[:7])
+    yield "no_last_line_feed", plain[:-1]
+    yield "goes_on", plain + "\npaid 3\n"
+    # two things wrong at once: the first line counts, and on a line label, numbers, count, ranges in that order
+    yield "label_and_number", with_line(4, "payed x")
+    yield "number_and_count", with_line(3, "paid 1 2 x")
+    yield "number_and_range", with_line(2, "exposures 0 x")
+    yield "count_and_range", with_line(2, "exposures 0 1 1")
+    yield "two_lines", with_line(2, "exposures 0 1").replace("weight", "wait")
+    # both sides of each limit
+    limits = [(1, 0, 15), (2, 1, 10**6), (3, -10**10, 10**10), (5, 1, 5 * 10**6), (6, 0, 10**6), (7, 0, 10**6), (8, 0, 10**10)]
+    for number_, least, most in limits:
+        label, *numbers = two_years[number_ - 1].split(" ")
+        for side, value in [("least", least), ("below", least - 1), ("most", most), ("above", most + 1)]:
+            yield f"{label}_{side}", with_line(number_, " ".join([label, *numbers[:-1], str(value)]))
+    yield "k_huge", with_line(1, "k 100000000000000000000000000001")
+    # 2^64 + 1, which would be 1 if it were cut to 64 bits
+    yield "amount_huge", with_line(4, "paid 18446744073709551617")
+    yield "many_zeros", with_line(4, "paid " + "0" * 40 + "66")
+    yield "reporting_sum", with_line(6, "reporting 800000 200001")
 
 
 def shown(number_, values, room):

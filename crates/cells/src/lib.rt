@@ -126,7 +126,7 @@ fn cells_text(line: &[u8]) -> &[u8]
     after_label(line)
 }
 
-// How many of the first n bytes are left without the spaces at their end.
+// How many bytes of a text are left without the spaces at its end.
 fn unspaced_end(text: &[u8]) -> usize
     ensures { λ r. ⌜ (r ≡ unspaced (length (now (text .entry))) (now (text .entry))) × (r ≤ length (now (text .entry))) ⌝ }
 {
@@ -191,7 +191,8 @@ fn from_cell(text: &[u8], s: u8) -> &[u8]
         let n = text.len();
         return &text[n..];
     }
-    if does_decide(s) {
+    let alone = does_decide(s);
+    if alone {
         return text;
     }
     let set = separators_of(s);

@@ -66,6 +66,7 @@ fn wrong_in(line: &[u8], d: Due) -> Wrong
     }
 }
 
+// One less, and 0 of 0.
 fn one_less(n: usize) -> usize
     ensures { λ r. ⌜ r ≡ n - 1 ⌝ }
 {
@@ -167,7 +168,7 @@ fn read_end(f: Found, list: &[i64]) -> Found
 {
     let k = last_year(list, f.count) as usize;
     let mut problem: u64 = 5;
-    if f.place == k + 7 {
+    if k + 7 == f.place {
         problem = 0;
     }
     Found {

@@ -1,6 +1,6 @@
 pub mod Numbers
 pub mod Words
 pub mod Sheets
-pub mod Signs
+pub mod Ranges
 pub mod Length
 pub mod RoundTrip

@@ -14,11 +14,14 @@ use Rattle.rules.specs.Record.{signedOf}
 use Rattle.laws.proofs.Lists.{every-append, both-left, both-right}
 use Rattle.composing.specs.Text.{digit, decimalIn, decimal, sign, integer}
 use Rattle.composing.proofs.Decimals.{digits-one, digits-last}
-use Rattle.scanning.specs.Scan.{isBlank, isDigit, isNatural, isNumber, ceiling, withDigit, sizeFrom, wholeOf}
+use Rattle.scanning.specs.Numbers.{isDigit, isNatural, isNumber, ceiling, withDigit, sizeFrom, wholeOf}
 
--- a byte that stands within a word: it is no blank, begins no comment and ends no line
+-- a byte that stands within a word: no blank, comma, semicolon or quote; and one that ends no line or content
+abbrev pub tame : ℕ → Bool
+tame b = not (eqb b 35) && (not (eqb b 13) && not (eqb b 10))
+
 abbrev pub plain : ℕ → Bool
-plain b = not (isBlank b) && (not (eqb b 35) && not (eqb b 10))
+plain b = not (eqb b 32) && (not (eqb b 9) && (not (eqb b 44) && (not (eqb b 59) && (not (eqb b 34) && tame b))))
 
 -- the byte of a digit, and what is known of a byte that is a digit's
 digit-is : (d : ℕ) → d < 10 → isDigit (digit d) ≡ true
@@ -33,13 +36,11 @@ digit-plain b h =
     rw (
       ne-eqb b 32 (λ e. omega (arith, r .0)),
       ne-eqb b 9 (λ e. omega (arith, r .0)),
-      ne-eqb b 13 (λ e. omega (arith, r .0)),
       ne-eqb b 44 (λ e. omega (arith, r .0)),
       ne-eqb b 59 (λ e. omega (arith, r .1)),
-      ne-eqb b 239 (λ e. omega (arith, r .1)),
-      ne-eqb b 187 (λ e. omega (arith, r .1)),
-      ne-eqb b 191 (λ e. omega (arith, r .1)),
+      ne-eqb b 34 (λ e. omega (arith, r .0)),
       ne-eqb b 35 (λ e. omega (arith, r .0)),
+      ne-eqb b 13 (λ e. omega (arith, r .0)),
       ne-eqb b 10 (λ e. omega (arith, r .0)),
     )
 
@@ -121,11 +122,6 @@ natural-is n =
 first-digit : (b : ℕ) (bs : List ℕ) → every isDigit (b ∷ bs) ≡ true → eqb b 45 ≡ false
 unfolding every
 first-digit b bs h = ne-eqb b 45 (λ e. omega (arith, digit-range b (both-left (isDigit b) (every isDigit bs) h) .0))
-
--- a number that is not below zero, written and tested
-pub integer-natural : (n : ℕ) → isNatural (integer (pos n)) ≡ true
-unfolding integer sign
-integer-natural n = natural-is n
 
 -- every number, written and tested
 pub integer-number : (z : ℤ) → isNumber (integer z) ≡ true

@@ -2,63 +2,64 @@
 -- Assumes nothing.
 use mathlib.Core.Path.{_≡_, refl, sym, ap, _∙_}
 use mathlib.Core.List.{List, [], _∷_, _++_, map, append-nil}
-use Prim.Native.Nat.{ℕ, _+_, _≤_, _<_}
+use Prim.Native.Nat.{ℕ, suc, _+_, _≤_, _<_}
 use native.Mathlib.Omega.{arith}
-use borrow.Author.Tests.{le-leb}
 use lib.IntN.{ℤ, pos, natAbs}
-use lib.ListN.{length, getD, take, drop, drop-of-length-le}
-use lib.Seq.{take-all, sets-eq, length-take-le}
+use lib.ListN.{length, getD, take, drop, length-drop, drop-of-length-le}
+use lib.Seq.{take-add, take-all, sets-eq, length-take-le}
+use Rattle.rules.specs.Lists.{upTo, total}
 use Rattle.rules.specs.Packing.{Fit}
 use Rattle.rules.specs.Questions.{afterCall}
 use Rattle.rules.specs.Record.{fieldCount, lastYearOf, fieldsOf, mostFields}
 use Rattle.rules.specs.Reading.{readAnswer, readInto}
 use Rattle.rules.specs.Writing.{givenIn, writeAnswer, writeInto}
+use Rattle.laws.proofs.Lists.{length-upTo}
 use Rattle.layout.proofs.Sizes.{fields-count, years-lt}
 use Rattle.record.proofs.Answers.{reader-yes, yes-reader}
 use Rattle.record.proofs.Fields.{RecordFields}
 use Rattle.record.proofs.RoundTrip.{written-again}
 use Rattle.composing.specs.Text.{Put}
 use Rattle.composing.proofs.Puts.{put-back}
-use Rattle.scanning.specs.Scan.{lines, wholeOf}
-use Rattle.sheet.specs.Sheet.{due, dueLines, linesOf, Line, lineProblem, lastYearIn, sheetOf, typed, readLines, readFrom, readSheet, recordSize, packAnswer, packInto}
+use Rattle.sheet.specs.declared.Due.{Due}
+use Rattle.sheet.specs.Table.{labels, lineCount, dueAt, dueLines}
+use Rattle.sheet.specs.Sheet.{lineOf, linesOf, lastYearIn, sheetOf, unmarked, lines, fine, readLines, readSheet, recordSize, packAnswer, packInto}
 use Rattle.sheet_writing.specs.Shown.{shownText}
-use Rattle.sheet_writing.proofs.Lines.{countsOf}
-use Rattle.sheet_writing.proofs.Unpacked.{sheet-counts, accepted-fields}
+use Rattle.sheet_writing.proofs.Lines.{countsOf, sheet-counts}
+use Rattle.sheet_writing.proofs.Unpacked.{accepted-fields}
 use Rattle.sheet_record.proofs.Length.{sheet-length}
-use Rattle.sheet_record.proofs.Sheets.{sheet-labelled, lineRead, linesRead, lines-read, lines-sound, first-sound}
-use Rattle.sheet_record.proofs.Signs.{fields-sound}
+use Rattle.sheet_record.proofs.Ranges.{fields-sound}
+use Rattle.sheet_record.proofs.Sheets.{dues-first, dues-others, rangesOf, Sound, split, one-line, lines-sound}
 
 -- the first of some fields
 first-one : (vs : List ℤ) (k : ℕ) → 1 ≤ length vs → getD vs 0 (pos 0) ≡ pos k → take 1 vs ≡ pos k ∷ []
 first-one [] k h e = absurd (omega arith)
 first-one (v ∷ vs) k h e = ap (λ (z : ℤ). z ∷ []) e
 
--- a first line that gives k
-read-first : (last k : ℕ) (l : Line) (ls : List Line) → lineProblem (due "k" 1) l ≡ 0 → map wholeOf (l .rest) ≡ pos k ∷ [] → 1 ≤ k → k ≤ 15
-    → readFrom last (l ∷ ls) ≡ readLines last 0 [] (dueLines k) (l ∷ ls)
-unfolding readFrom
-read-first last k l ls p e some few = rw (p, e, le-leb 1 k some, le-leb k 15 few)
+module _ (k : ℕ) (vs : List ℤ) (f : RecordFields k vs) where
+  -- the text begins with k, and so with no mark
+  text-is : sheetOf vs ≡ lineOf (dueAt k 0) (take 1 vs) ++ linesOf (upTo (λ j. dueAt k (1 + j)) (k + 6)) (drop 1 vs)
+  unfolding sheetOf linesOf dueAt
+  text-is = rw (ap natAbs (f .first), dues-first k)
 
-module _ (k : ℕ) (vs : List ℤ) (f : RecordFields k vs) (some : 1 ≤ k) (few : k ≤ 15) where
-  -- the first line of the fields' text gives k
-  first-back : (last : ℕ) → readFrom last (linesRead 1 (dueLines k) vs) ≡ readLines last 0 [] (dueLines k) (linesRead 1 (dueLines k) vs)
-  unfolding dueLines
-  first-back last =
-      let sound = first-sound 1 (due "k" 1) (drop 1 (dueLines k)) vs (fields-sound k vs f) in
-      read-first last k (lineRead 1 (due "k" 1) (take 1 vs)) _ (sound .0) (sound .1 ∙ first-one vs k (omega (arith, f .size, fields-count k)) (f .first)) some few
-
-  -- what reading the lines of the fields' text comes to
-  lines-back : (last : ℕ) → readFrom last (linesRead 1 (dueLines k) vs) ≡ typed 0 last (length (dueLines k)) vs
-  lines-back last =
-      let all : take (countsOf (dueLines k)) vs ≡ vs = take-all (countsOf (dueLines k)) vs (omega (arith, f .size, sheet-counts k)) in
-      first-back last ∙ lines-sound last 0 1 [] (dueLines k) vs (fields-sound k vs f) ∙ rw all (ap (λ (i : ℕ). typed 0 last i vs) (omega arith))
+  no-mark : unmarked (sheetOf vs) ≡ sheetOf vs
+  unfolding unmarked lineOf dueAt labels
+  no-mark = rw (text-is)
 
   -- the text of the fields of a record, read: nothing is wrong, every line due was there, and the numbers are the fields
-  pub sheet-back : readSheet (sheetOf vs) ≡ typed 0 (length (lines (sheetOf vs))) (length (dueLines k)) vs
-  unfolding readSheet sheetOf
+  pub sheet-back : readSheet (sheetOf vs) ≡ fine (k + 8) (lineCount k) vs
+  unfolding readSheet dueAt total
   sheet-back =
-      let years : lastYearIn vs ≡ k = ap natAbs (f .first) in
-      rw (years, lines-read 1 (dueLines k) vs (sheet-labelled k)) (lines-back (length (lines (linesOf (dueLines k) vs))))
+      let ds = upTo (λ j. dueAt k (1 + j)) (k + 6) in
+      let one : take 1 vs ≡ pos k ∷ [] = first-one vs k (omega (arith, f .size, fields-count k)) (f .first) in
+      let sound : Sound (rangesOf (dueAt k 0 ∷ ds)) vs = rw (dues-first k) at (fields-sound k vs f) in
+      let parts = split 1 (pos 1, pos 15) (rangesOf ds) vs sound in
+      let counts : 1 + countsOf ds ≡ length vs = sym (ap countsOf (dues-first k)) ∙ sheet-counts k ∙ sym (f .size) in
+      let number : suc (1 + length ds) ≡ k + 8 = omega (arith, length-upTo (λ j. dueAt k (1 + j)) (k + 6)) in
+      let all : take 1 vs ++ take (countsOf ds) (drop 1 vs) ≡ vs = sym (take-add 1 (countsOf ds) vs) ∙ take-all (1 + countsOf ds) vs (omega arith) in
+      rw (no-mark, text-is)
+      (one-line 0 0 [] (take 1 vs) (linesOf ds (drop 1 vs)) (λ e. absurd (omega arith)) (parts .size) (parts .first)
+      ∙ lines-sound k 1 1 (take 1 vs) ds (drop 1 vs) (omega (arith, parts .size)) (ap lastYearIn one) (dues-others k) (parts .others)
+      ∙ rw (number, all))
 
 -- the reader accepts a record also where the list has just as many entries as there are fields
 just-room : (s : List ℕ) (m : ℕ) → readAnswer s m ≡ 0 → readAnswer s (fieldCount (lastYearOf s)) ≡ 0
@@ -77,8 +78,8 @@ just-fields s out r e =
 
 module _ (s : List ℕ) (m : ℕ) (h : Fit 8 s) (r : readAnswer s m ≡ 0) where
   -- the text of an accepted record, read: nothing is wrong, and the numbers are the record's fields
-  pub shown-back : readSheet (sheetOf (fieldsOf s)) ≡ typed 0 (length (lines (sheetOf (fieldsOf s)))) (length (dueLines (lastYearOf s))) (fieldsOf s)
-  shown-back = sheet-back (lastYearOf s) (fieldsOf s) (accepted-fields s m h r) (reader-yes s m r .years) (omega (arith, years-lt s h))
+  pub shown-back : readSheet (sheetOf (fieldsOf s)) ≡ fine (lastYearOf s + 8) (lineCount (lastYearOf s)) (fieldsOf s)
+  shown-back = sheet-back (lastYearOf s) (fieldsOf s) (accepted-fields s m h r)
 
   -- the writer makes the record again from its fields
   fields-written : (buffer : List ℕ) → length buffer ≡ length s → (writeAnswer (givenIn (fieldsOf s)) (length s) ≡ 0) × (writeInto (givenIn (fieldsOf s)) buffer ≡ s)

@@ -1,103 +1,77 @@
 -- The text of some fields read again: its lines are the lines due, each as it was written, and give the fields back. Assumes nothing.
-use mathlib.Core.Path.{_≡_, refl, ap, _∙_}
-use mathlib.Core.Bool.{Bool, true, false, cond}
+use mathlib.Core.Path.{_≡_, refl, sym, ap, _∙_}
+use mathlib.Core.Bool.{Bool, true, false, cond, _&&_}
 use mathlib.Core.List.{List, [], _∷_, _++_, map, append-nil, append-assoc}
-use Prim.Native.Nat.{ℕ, zero, suc, _+_, _-_, _<_}
+use Prim.Native.Nat.{ℕ, zero, suc, _+_, _≤_, _<_}
 use native.Mathlib.Omega.{arith}
 use borrow.Author.Tests.{eq-eqb}
+use lib.Dec.{eqb, ltb}
 use lib.IntN.{ℤ, pos, natAbs}
-use lib.ListN.{length, take, drop, replicate, length-map}
+use lib.ListN.{length, getD, take, drop, replicate, length-append, length-map, List·getD-append}
 use lib.Seq.{take-add}
-use Rattle.rules.specs.Lists.{upTo, every}
-use Rattle.rules.specs.Questions.{firstNo}
+use lib.Signed.{leZ}
+use Rattle.rules.specs.Lists.{upTo, every, total}
+use Rattle.laws.proofs.Lists.{upTo-cons, upTo-ext}
 use Rattle.composing.specs.Text.{integer}
-use Rattle.scanning.specs.Scan.{ceiling, pieces, filled, lines, uncommented, words, isNatural, isNumber, wholeOf}
-use Rattle.sheet.specs.Sheet.{Due, duePaid, dueLines, spaced, lineOf, linesOf, Line, lineWith, linesFrom, sameText, fits, lineProblem, typed, readLines}
-use Rattle.sheet_writing.specs.Shown.{duePaids, dueRest}
+use Rattle.scanning.specs.Numbers.{ceiling, isNumber, wholeOf}
+use Rattle.scanning.specs.Parts.{among, until, before, pieces}
+use Rattle.cells.specs.Cells.{unreturned, contentOf, isBare, labelOf, cellsOf}
+use Rattle.cells.specs.Walk.{isWithin}
+use Rattle.sheet.specs.declared.Due.{Due}
+use Rattle.sheet.specs.Table.{labels, due, labelDue, lineCount, dueAt, dueLines}
+use Rattle.sheet.specs.Sheet.{spaced, lineOf, linesOf, lastYearIn, sameText, wrong, wrongIn, lines, Typed, fine, readLine, readLines}
 use Rattle.sheet_writing.proofs.Lines.{countsOf}
-use Rattle.sheet_record.proofs.Numbers.{plain, integer-natural, integer-number, integer-value}
-use Rattle.sheet_record.proofs.Words.{line-words, line-ends}
+use Rattle.sheet_reading.proofs.Lines.{line-fine}
+use Rattle.sheet_record.proofs.Numbers.{integer-number, integer-value}
+use Rattle.sheet_record.proofs.Words.{Word, line-ends, line-content, line-filled, line-label, line-cells}
 
--- a label is a word: at least one byte, and every byte plain
-abbrev Labelled : Due → Type 0
-Labelled d = (b : ℕ) × ((bs : List ℕ) × ((d .label ≡ b ∷ bs) × (every plain (b ∷ bs) ≡ true)))
+-- a label is a word
+label-word : (row : ℕ) → row < 7 → Word (getD labels row [])
+unfolding labels every
+label-word zero h = record { first = 107; rest = []; is = refl; bytes = refl }
+label-word (suc zero) h = record { first = 101; rest = _; is = refl; bytes = refl }
+label-word (suc (suc zero)) h = record { first = 112; rest = _; is = refl; bytes = refl }
+label-word (suc (suc (suc zero))) h = record { first = 105; rest = _; is = refl; bytes = refl }
+label-word (suc (suc (suc (suc zero)))) h = record { first = 114; rest = _; is = refl; bytes = refl }
+label-word (suc (suc (suc (suc (suc zero))))) h = record { first = 119; rest = _; is = refl; bytes = refl }
+label-word (suc (suc (suc (suc (suc (suc zero)))))) h = record { first = 117; rest = _; is = refl; bytes = refl }
+label-word (suc (suc (suc (suc (suc (suc (suc row))))))) h = absurd (omega arith)
 
-abbrev pub AllLabelled : List Due → Type 0
-AllLabelled [] = Unit {0}
-AllLabelled (d ∷ ds) = Labelled d × AllLabelled ds
-
-all-append : (ds es : List Due) → AllLabelled ds → AllLabelled es → AllLabelled (ds ++ es)
-all-append [] es a b = b
-all-append (d ∷ ds) es a b = (a .0, all-append ds es (a .1) b)
-
-paid-labelled : (k n : ℕ) → AllLabelled (duePaids k n)
-unfolding duePaids upTo every
-paid-labelled k zero = tt
-paid-labelled k (suc n) = all-append (duePaids k n) (duePaid (k + 1 - n) ∷ []) (paid-labelled k n) ((112, (97 ∷ 105 ∷ 100 ∷ [], (refl, refl))), tt)
-
-pub sheet-labelled : (k : ℕ) → AllLabelled (dueLines k)
-unfolding dueLines duePaids dueRest every
-sheet-labelled k = (
-  (107, ([], (refl, refl))),
-  (
-    (101, (120 ∷ 112 ∷ 111 ∷ 115 ∷ 117 ∷ 114 ∷ 101 ∷ 115 ∷ [], (refl, refl))),
-    all-append (duePaids k (k + 1)) (dueRest k) (paid-labelled k (k + 1)) (
-      (105, (110 ∷ 100 ∷ 105 ∷ 99 ∷ 101 ∷ 115 ∷ [], (refl, refl))),
-      (
-        (114, (101 ∷ 112 ∷ 111 ∷ 114 ∷ 116 ∷ 105 ∷ 110 ∷ 103 ∷ [], (refl, refl))),
-        ((119, (101 ∷ 105 ∷ 103 ∷ 104 ∷ 116 ∷ [], (refl, refl))), ((117, (108 ∷ 97 ∷ 101 ∷ [], (refl, refl))), tt)),
-      ),
-    ),
-  ),
-)
-
--- the lines of the text of vs, the first of them line n
-abbrev pub lineRead : ℕ → Due → List ℤ → Line
-lineRead n d xs = record { number = n; label = d .label; rest = map integer xs }
-
-abbrev pub linesRead : ℕ → List Due → List ℤ → List Line
-linesRead n [] vs = []
-linesRead n (d ∷ ds) vs = lineRead n d (take (d .count) vs) ∷ linesRead (suc n) ds (drop (d .count) vs)
-
-line-read : (n : ℕ) (d : Due) (xs : List ℤ) (rest : List ℕ) → Labelled d → linesFrom n (lines (lineOf d xs ++ rest)) ≡ lineRead n d xs ∷ linesFrom (suc n) (lines rest)
-unfolding lineOf linesFrom lineWith
-line-read n d xs rest (b, (bs, (e, h))) =
-    let text : lineOf d xs ++ rest ≡ (b ∷ bs) ++ (spaced xs ++ (10 ∷ rest)) =
-    rw e (append-assoc (b ∷ bs) (spaced xs ++ (10 ∷ [])) rest ∙ ap (λ (l : List ℕ). (b ∷ bs) ++ l) (append-assoc (spaced xs) (10 ∷ []) rest)) in
-    ap (λ (l : List ℕ). linesFrom n (lines l)) text ∙ rw (line-ends b bs xs rest h, line-words b bs xs h, e)
-
-pub lines-read : (n : ℕ) (ds : List Due) (vs : List ℤ) → AllLabelled ds → linesFrom n (lines (linesOf ds vs)) ≡ linesRead n ds vs
-unfolding linesOf linesFrom lineWith words uncommented pieces filled
-lines-read n [] vs a = refl
-lines-read n (d ∷ ds) vs a =
-    line-read n d (take (d .count) vs) (linesOf ds (drop (d .count) vs)) (a .0)
-    ∙ ap (λ (l : List Line). lineRead n d (take (d .count) vs) ∷ l) (lines-read (suc n) ds (drop (d .count) vs) (a .1))
-
--- a number that may stand in a line: below the ceiling, and not below zero where the line has no signs
-pub record Okay (signed : Bool) (v : ℤ) : Type 0 where
-  pub small : natAbs v < ceiling
-  pub natural : signed ≡ false → v ≡ pos (natAbs v)
-
-abbrev AllOkay : Bool → List ℤ → Type 0
-AllOkay b [] = Unit {0}
-AllOkay b (v ∷ vs) = Okay b v × AllOkay b vs
-
-fits-one : (d : Due) (v : ℤ) → Okay (d .signed) v → fits d (integer v) ≡ true
-unfolding fits
-fits-one d v o = go (d .signed) o
+row-small : (k place : ℕ) → dueAt k place .row < 7
+unfolding dueAt
+row-small k place =
+    one (eqb place 0) _ _ (omega arith)
+    (one (eqb place 1) _ _ (omega arith)
+    (one (ltb place (k + 3)) _ _ (omega arith)
+    (one (eqb place (k + 3)) _ _ (omega arith)
+    (one (eqb place (k + 4)) _ _ (omega arith) (one (eqb place (k + 5)) _ _ (omega arith) (omega arith))))))
   where
-    go : (b : Bool) → Okay b v → cond b (isNumber (integer v)) (isNatural (integer v)) ≡ true
-    go true o = integer-number v
-    go false o = ap (λ (z : ℤ). isNatural (integer z)) (o .natural refl) ∙ integer-natural (natAbs v)
+    one : (b : Bool) (x y : Due) → x .row < 7 → y .row < 7 → cond b x y .row < 7
+    one true x y h l = h
+    one false x y h l = l
 
-fits-all : (d : Due) (vs : List ℤ) → AllOkay (d .signed) vs → every (fits d) (map integer vs) ≡ true
+-- a number that may stand in a line: below the ceiling, and in the line's range
+pub record Okay (r : ℤ × ℤ) (v : ℤ) : Type 0 where
+  pub small : natAbs v < ceiling
+  pub within : leZ (r .0) v && leZ v (r .1) ≡ true
+
+abbrev AllOkay : ℤ × ℤ → List ℤ → Type 0
+AllOkay r [] = Unit {0}
+AllOkay r (v ∷ vs) = Okay r v × AllOkay r vs
+
+numbers-all : (vs : List ℤ) → every isNumber (map integer vs) ≡ true
 unfolding every
-fits-all d [] o = refl
-fits-all d (v ∷ vs) o = rw (fits-one d v (o .0), fits-all d vs (o .1))
+numbers-all [] = refl
+numbers-all (v ∷ vs) = rw (integer-number v, numbers-all vs)
 
-values-all : (b : Bool) (vs : List ℤ) → AllOkay b vs → map wholeOf (map integer vs) ≡ vs
-values-all b [] o = refl
-values-all b (v ∷ vs) o = rw (integer-value v (o .0 .small), values-all b vs (o .1))
+within-all : (least most : ℤ) (vs : List ℤ) → AllOkay (least, most) vs → every (isWithin least most) (map integer vs) ≡ true
+unfolding every isWithin
+within-all least most [] o = refl
+within-all least most (v ∷ vs) o = rw (integer-value v (o .0 .small), o .0 .within, within-all least most vs (o .1))
+
+values-all : (r : ℤ × ℤ) (vs : List ℤ) → AllOkay r vs → map wholeOf (map integer vs) ≡ vs
+values-all r [] o = refl
+values-all r (v ∷ vs) o = rw (integer-value v (o .0 .small), values-all r vs (o .1))
 
 -- a text is the same as itself
 same-text : (xs : List ℕ) → sameText xs xs ≡ true
@@ -106,54 +80,108 @@ same-text [] = refl
 same-text (x ∷ xs) = rw (eq-eqb x x refl, same-text xs)
 
 -- nothing is wrong with a line as it was written
-line-sound : (n : ℕ) (d : Due) (xs : List ℤ) → length xs ≡ d .count → AllOkay (d .signed) xs → lineProblem d (lineRead n d xs) ≡ 0
-unfolding lineProblem firstNo
-line-sound n d xs e o = rw (same-text (d .label), fits-all d xs o, eq-eqb (length (map integer xs)) (d .count) (length-map xs integer ∙ e))
+line-sound : (d : Due) (xs : List ℤ) → Word (labelDue d) → length xs ≡ d .count → AllOkay (d .least, d .most) xs → wrongIn d (labelDue d ++ spaced xs) ≡ wrong 0 0
+unfolding wrongIn
+line-sound d xs w e o =
+    rw (
+      line-label (labelDue d) xs w,
+      same-text (labelDue d),
+      line-cells (labelDue d) xs w,
+      numbers-all xs,
+      eq-eqb (length (map integer xs)) (d .count) (length-map xs integer ∙ e),
+      within-all (d .least) (d .most) xs o,
+    )
 
--- whether each number may have a sign, line by line
-abbrev pub signsOf : List Due → List Bool
-signsOf [] = []
-signsOf (d ∷ ds) = replicate (d .count) (d .signed) ++ signsOf ds
+-- one line of a text
+pub one-line : (m i : ℕ) (us : List ℤ) (xs : List ℤ) (rest : List ℕ) → (i ≡ lineCount (lastYearIn us) → ⊥) → length xs ≡ dueAt (lastYearIn us) i .count
+    → AllOkay (dueAt (lastYearIn us) i .least, dueAt (lastYearIn us) i .most) xs
+    → readLines (fine m i us) (lines (lineOf (dueAt (lastYearIn us) i) xs ++ rest)) ≡ readLines (fine (suc m) (suc i) (us ++ xs)) (lines rest)
+unfolding lineOf readLines
+one-line m i us xs rest left e o =
+    let d = dueAt (lastYearIn us) i in
+    let w = label-word (d .row) (row-small (lastYearIn us) i) in
+    let l = labelDue d ++ spaced xs in
+    let text : lineOf d xs ++ rest ≡ labelDue d ++ (spaced xs ++ (10 ∷ rest)) =
+    append-assoc (labelDue d) (spaced xs ++ (10 ∷ [])) rest ∙ ap (λ (l : List ℕ). labelDue d ++ l) (append-assoc (spaced xs) (10 ∷ []) rest) in
+    let read : readLine (suc m) i us (contentOf l) ≡ fine (suc m) (suc i) (us ++ xs) =
+    rw (line-content (labelDue d) xs w)
+    (line-fine (suc m) i us l (line-filled (labelDue d) xs w) left (wrong 0 0) (sym (line-sound d xs w e o)) refl
+    ∙ rw (line-cells (labelDue d) xs w, values-all (d .least, d .most) xs o)) in
+    ap (λ (l : List ℕ). readLines (fine m i us) (lines l)) text ∙ rw (line-ends (labelDue d) xs rest w, read)
 
--- numbers that may stand where these signs are
-abbrev pub Sound : List Bool → List ℤ → Type 0
+-- the end of a text, after its last line feed
+end-line : (k m : ℕ) (us : List ℤ) → lastYearIn us ≡ k → readLines (fine m (lineCount k) us) (lines []) ≡ fine (suc m) (lineCount k) us
+unfolding readLines readLine pieces contentOf unreturned until before isBare every
+end-line k m us e = rw (eq-eqb (lineCount k) (lineCount (lastYearIn us)) (ap lineCount (sym e)))
+
+-- the lines due from place i on
+abbrev pub Dues : ℕ → ℕ → List Due → Type 0
+Dues k i [] = i ≡ lineCount k
+Dues k i (d ∷ ds) = (dueAt k i ≡ d) × Dues k (suc i) ds
+
+dues-count : (k i : ℕ) (ds : List Due) → Dues k i ds → i + length ds ≡ lineCount k
+dues-count k i [] h = omega arith
+dues-count k i (d ∷ ds) h = omega (arith, dues-count k (suc i) ds (h .1))
+
+dues-from : (k n i : ℕ) → i + n ≡ lineCount k → Dues k i (upTo (λ j. dueAt k (i + j)) n)
+unfolding upTo
+dues-from k zero i e = omega arith
+dues-from k (suc n) i e =
+    let first : dueAt k (i + 0) ≡ dueAt k i = ap (dueAt k) (omega arith) in
+    let others : upTo (λ j. dueAt k (i + suc j)) n ≡ upTo (λ j. dueAt k (suc i + j)) n = upTo-ext _ _ n (λ j h. ap (dueAt k) (omega arith)) in
+    rw (upTo-cons (λ j. dueAt k (i + j)) n, others) (sym first, dues-from k n (suc i) (omega arith))
+
+-- the first line, and those after it
+pub dues-first : (k : ℕ) → dueLines k ≡ dueAt k 0 ∷ upTo (λ j. dueAt k (1 + j)) (k + 6)
+unfolding dueLines
+dues-first k =
+    let e : lineCount k ≡ suc (k + 6) = omega arith in
+    let others : upTo (λ j. dueAt k (suc j)) (k + 6) ≡ upTo (λ j. dueAt k (1 + j)) (k + 6) =
+    upTo-ext _ _ (k + 6) (λ j h. let f : suc j ≡ 1 + j = omega arith in ap (dueAt k) f) in
+    rw (e, upTo-cons (dueAt k) (k + 6), others)
+
+pub dues-others : (k : ℕ) → Dues k 1 (upTo (λ j. dueAt k (1 + j)) (k + 6))
+dues-others k = dues-from k (k + 6) 1 (omega arith)
+
+-- the range of each number, line by line
+abbrev pub rangesOf : List Due → List (ℤ × ℤ)
+rangesOf [] = []
+rangesOf (d ∷ ds) = replicate (d .count) (d .least, d .most) ++ rangesOf ds
+
+-- numbers that may stand where these ranges are
+abbrev pub Sound : List (ℤ × ℤ) → List ℤ → Type 0
 Sound [] vs = Unit {0}
-Sound (b ∷ bs) [] = ⊥
-Sound (b ∷ bs) (v ∷ vs) = Okay b v × Sound bs vs
+Sound (r ∷ rs) [] = ⊥
+Sound (r ∷ rs) (v ∷ vs) = Okay r v × Sound rs vs
 
 -- those of the first line, and those of the others
-pub record Split (n : ℕ) (b : Bool) (bs : List Bool) (vs : List ℤ) : Type 0 where
+pub record Split (n : ℕ) (r : ℤ × ℤ) (rs : List (ℤ × ℤ)) (vs : List ℤ) : Type 0 where
   pub size : length (take n vs) ≡ n
-  pub first : AllOkay b (take n vs)
-  pub others : Sound bs (drop n vs)
+  pub first : AllOkay r (take n vs)
+  pub others : Sound rs (drop n vs)
 
-split : (n : ℕ) (b : Bool) (bs : List Bool) (vs : List ℤ) → Sound (replicate n b ++ bs) vs → Split n b bs vs
-split zero b bs vs s = record { size = refl; first = tt; others = s }
-split (suc n) b bs [] s = absurd s
-split (suc n) b bs (v ∷ vs) s =
-    let rest = split n b bs vs (s .1) in
+pub split : (n : ℕ) (r : ℤ × ℤ) (rs : List (ℤ × ℤ)) (vs : List ℤ) → Sound (replicate n r ++ rs) vs → Split n r rs vs
+split zero r rs vs s = record { size = refl; first = tt; others = s }
+split (suc n) r rs [] s = absurd s
+split (suc n) r rs (v ∷ vs) s =
+    let rest = split n r rs vs (s .1) in
     record { size = ap suc (rest .size); first = (s .0, rest .first); others = rest .others }
 
 -- the lines as they were written give the numbers back
-pub lines-sound : (last i n : ℕ) (us : List ℤ) (ds : List Due) (vs : List ℤ) → Sound (signsOf ds) vs
-    → readLines last i us ds (linesRead n ds vs) ≡ typed 0 last (i + length ds) (us ++ take (countsOf ds) vs)
-unfolding readLines
-lines-sound last i n us [] vs s =
-    let e : i + 0 ≡ i = omega arith in
-    rw (e, append-nil us)
-lines-sound last i n us (d ∷ ds) vs s =
-    let parts = split (d .count) (d .signed) (signsOf ds) vs s in
+pub lines-sound : (k m i : ℕ) (us : List ℤ) (ds : List Due) (vs : List ℤ) → 1 ≤ length us → lastYearIn us ≡ k → Dues k i ds → Sound (rangesOf ds) vs
+    → readLines (fine m i us) (lines (linesOf ds vs)) ≡ fine (suc (m + length ds)) (lineCount k) (us ++ take (countsOf ds) vs)
+unfolding linesOf total
+lines-sound k m i us [] vs some e h s =
+    let f : m + 0 ≡ m = omega arith in
+    rw (f, h, append-nil us) (end-line k m us e)
+lines-sound k m i us (d ∷ ds) vs some e h s =
+    let parts = split (d .count) (d .least, d .most) (rangesOf ds) vs s in
     let xs = take (d .count) vs in
-    let e : suc i + length ds ≡ i + suc (length ds) = omega arith in
-    rw (line-sound n d xs (parts .size) (parts .first), values-all (d .signed) xs (parts .first))
-    (
-    lines-sound last (suc i) (suc n) (us ++ xs) ds (drop (d .count) vs) (parts .others)
-    ∙ rw (e, take-add (d .count) (countsOf ds) vs, append-assoc us xs (take (countsOf ds) (drop (d .count) vs))))
-
--- and so does the first of them
-pub first-sound : (n : ℕ) (d : Due) (ds : List Due) (vs : List ℤ) → Sound (signsOf (d ∷ ds)) vs
-    → (lineProblem d (lineRead n d (take (d .count) vs)) ≡ 0) × (map wholeOf (map integer (take (d .count) vs)) ≡ take (d .count) vs)
-first-sound n d ds vs s =
-    let parts = split (d .count) (d .signed) (signsOf ds) vs s in
-    let xs = take (d .count) vs in
-    (line-sound n d xs (parts .size) (parts .first), values-all (d .signed) xs (parts .first))
+    let f : suc m + length ds ≡ m + suc (length ds) = omega arith in
+    let same : dueAt (lastYearIn us) i ≡ d = rw e (h .0) in
+    let left : i ≡ lineCount (lastYearIn us) → ⊥ = λ z. absurd (omega (arith, dues-count k (suc i) ds (h .1), ap lineCount e)) in
+    let year : lastYearIn (us ++ xs) ≡ k = ap natAbs (List·getD-append us xs (pos 0) 0 some) ∙ e in
+    let line = one-line m i us xs (linesOf ds (drop (d .count) vs)) left (rw same (parts .size)) (rw same (parts .first)) in
+    (rw same at line)
+    ∙ lines-sound k (suc m) (suc i) (us ++ xs) ds (drop (d .count) vs) (omega (arith, length-append us xs)) year (h .1) (parts .others)
+    ∙ rw (f, take-add (d .count) (countsOf ds) vs, append-assoc us xs (take (countsOf ds) (drop (d .count) vs)))

@@ -21,7 +21,7 @@ unfolding readLines
 returns c =
     let f = c .before .before .before .args .f in
     let vs = take (f .count) (now (c .before .before .before .args .list)) in
-    λ w. rw (eq-eqb (f .place) (lineCount (lastYearIn vs)) (c .if1 .taken ∙ ap lineCount (c .before .before .last-year .ensures)))
+    λ w. rw (eq-eqb (f .place) (lineCount (lastYearIn vs)) (sym (c .if1 .taken) ∙ ap lineCount (c .before .before .last-year .ensures)))
     (reads-kept (now (c .before .before .before .args .list)) 0 (f .line) (f .place) 0 (f .count) [] refl (c .before .before .before .pre .1 .size) (put-none w 0))
 
 returns-2 : tie.Need-returns-2
@@ -29,7 +29,7 @@ unfolding readLines
 returns-2 c =
     let f = c .before .before .before .args .f in
     let vs = take (f .count) (now (c .before .before .before .args .list)) in
-    λ w. rw (ne-eqb (f .place) (lineCount (lastYearIn vs)) (λ e. c .if1 .left (e ∙ ap lineCount (sym (c .before .before .last-year .ensures)))))
+    λ w. rw (ne-eqb (f .place) (lineCount (lastYearIn vs)) (λ e. c .if1 .left (sym (e ∙ ap lineCount (sym (c .before .before .last-year .ensures))))))
     (reads-kept (now (c .before .before .before .args .list)) 5 (f .line) (f .place) 0 (f .count) [] refl (c .before .before .before .pre .1 .size) (put-none w 0))
 
 pub read-end-spec : {M : Type 1} → statement M
