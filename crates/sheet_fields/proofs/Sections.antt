@@ -8,8 +8,8 @@ use lib.IntN.{ℤ, pos, natAbs}
 use lib.ListN.{length, getD, set, take, drop, replicate, length-append, length-drop, length-map}
 use lib.Seq.{take-suc, take-at, take-append-le, drop-append-le, length-take-le, getD-drop, drop-drop}
 use Rattle.rules.specs.Lists.{padded, total}
-use Rattle.rules.specs.Record.{Kind, cells, layout, section, exposuresIn, incrementsIn, indicesIn, reportingIn, weightIn, ulaeIn, mostFields}
-use Rattle.rules.specs.Writing.{Given, given, writeInto}
+use Rattle.rules.specs.Record.{Figures, figures, Kind, cells, layout, section, exposuresIn, incrementsIn, indicesIn, reportingIn, weightIn, ulaeIn, mostFields}
+use Rattle.rules.specs.Writing.{writeInto}
 use Rattle.laws.proofs.Lists.{padded-more}
 use Rattle.laws.proofs.Rows.{cells-most}
 use Rattle.sheet_fields.specs.declared.Rows.{Rows}
@@ -164,7 +164,7 @@ module _ (k : ℕ) (vs : List ℤ) (h : k < 16) (l : length vs ≡ mostFields) w
 
     -- what the writer is given
     pub given-is : (n : ℕ) → n ≡ cells k
-        → given k (take (k + 1) (r .exposures)) (take (k + 2 + n - (k + 2)) (drop (k + 2) vs)) (take k (r .indices)) (take (k + 1) (r .reporting)) (r .weight)
+        → figures k (take (k + 1) (r .exposures)) (take (k + 2 + n - (k + 2)) (drop (k + 2) vs)) (take k (r .indices)) (take (k + 1) (r .reporting)) (r .weight)
         (take (k + 1) (r .ulae))
         ≡ givenAt k vs
     unfolding givenAt
@@ -181,7 +181,7 @@ module _ (k : ℕ) (vs : List ℤ) (h : k < 16) (l : length vs ≡ mostFields) w
         )
 
 -- the buffer, its front being l
-pub written : (g h : Given) (m n : ℕ) (buffer l : List ℕ) → g ≡ h → m ≡ n → l ≡ writeInto g (take m buffer)
+pub written : (g h : Figures) (m n : ℕ) (buffer l : List ℕ) → g ≡ h → m ≡ n → l ≡ writeInto g (take m buffer)
     → l ++ drop m buffer ≡ writeInto h (take n buffer) ++ drop n buffer
 written g h m n buffer l p q e = rw (e, p, q)
 
