@@ -6,8 +6,7 @@ use composing::put_decimal;
 use composing::put_integer;
 ghost use mathlib.Core.Path.{_≡_};
 ghost use Prim.Native.Nat.{_≤_, _<_};
-ghost use lib.IntN.{pos};
-ghost use lib.ListN.{length, getD, take};
+ghost use lib.ListN.{length, take};
 ghost use Rattle.composing.specs.Text.{Put};
 ghost use Rattle.list_text.specs.Lines.{after, entryText, separated, entriesText, rowText, refusedText};
 

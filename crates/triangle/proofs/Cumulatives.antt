@@ -13,11 +13,11 @@ use lib.Signed.{leZ}
 use mir.Syntax.{w64}
 use mir.Val.{SFits, toZ, ofZ}
 use mir.Facts.{toZ-ofZ}
-use Rattle.rules.specs.Lists.{below, every, upTo}
+use Rattle.rules.specs.Lists.{below, every}
 use Rattle.rules.specs.Record.{mostAmount}
 use Rattle.rules.specs.Triangle.{rowStart, paidOf, sumTo, cumulativeOf, mostCumulative, rowPasses, givenCumulative}
 use Rattle.laws.proofs.Adding.{sumTo-read, sumTo-step, step-fits, step-read}
-use Rattle.laws.proofs.Lists.{upTo-ext, getD-upTo, both-right, every-upTo}
+use Rattle.laws.proofs.Lists.{both-right, every-upTo}
 use Rattle.laws.proofs.Totals.{total-more, total-each}
 use Rattle.laws.proofs.Signed.{held, size-fits}
 use Rattle.triangle.specs.Bounds.{Increments}

@@ -1,7 +1,6 @@
 -- The loop's invariant: the pending bytes stand in the input. Assumes nothing.
 use borrow.Author.Needs.{needs}
 use mathlib.Core.Logic.{⊎-elim}
-use native.Mathlib.Omega.{arith}
 use Prim.Native.Nat.{_≤_, _-_}
 use Rattle.reserve_many.proofs.main.Statement.{statement}
 use Rattle.reserve_many.proofs.main.Tie as tie

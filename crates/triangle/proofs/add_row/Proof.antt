@@ -1,8 +1,8 @@
 -- The loop's invariant: the first j columns have the cell of row i added. Assumes nothing.
 use mathlib.Core.Path.{_≡_, refl, _∙_}
-use Prim.Native.Nat.{ℕ, _+_, _-_, _≤_}
+use Prim.Native.Nat.{_+_, _-_, _≤_}
 use native.Mathlib.Omega.{arith}
-use lib.IntN.{ℤ, pos, natAbs}
+use lib.IntN.{pos}
 use lib.ListN.{getD}
 use Rattle.rules.specs.Lists.{upTo}
 use Rattle.rules.specs.Triangle.{cellOf}

@@ -1,6 +1,6 @@
 -- The loop's invariant: `sum` is the sum of the first j increments of the row, the first j averages are stored, and the first j cumulatives are added to
 -- the sums of their columns. Assumes nothing.
-use borrow.Author.Needs.{needs, sfits-of}
+use borrow.Author.Needs.{sfits-of}
 use mathlib.Core.Path.{_≡_, refl, ap, _∙_}
 use mathlib.Core.Bool.{true}
 use Prim.Native.Nat.{ℕ, _+_, _-_, _≤_, _<_}
