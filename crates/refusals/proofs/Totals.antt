@@ -5,15 +5,13 @@ use borrow.Author.Tests.{eq-eqb, ne-eqb}
 use mathlib.Core.Path.{_≡_, ap, _∙_}
 use mathlib.Core.List.{List, _++_}
 use lib.IntN.{ℤ, pos}
-use lib.ListN.{length, getD, replicate, List·getD-append}
-use lib.Seq.{sets}
+use lib.ListN.{getD, replicate}
 use Rattle.rules.specs.Packing.{Fit}
 use Rattle.rules.specs.Lists.{upTo, padded}
 use Rattle.rules.specs.Record.{lastYearOf, figuresOf}
 use Rattle.rules.specs.Triangle.{averageRow, columnTotal, diagonalTotal, ZeroOutside}
 use Rattle.rules.specs.Results.{squareOf}
-use Rattle.laws.proofs.Lists.{length-upTo, getD-upTo}
-use Rattle.laws.proofs.Joined.{sets-filled}
+use Rattle.laws.proofs.Lists.{getD-upTo}
 use Rattle.triangle.specs.Bounds.{Cells}
 use Rattle.triangle.specs.Columns.{rowsPassing}
 use Rattle.engine.proofs.Before.{square-is, separable}
@@ -33,28 +31,14 @@ module _ (s : List ℕ) (run : Late s) where
   pub square-ready : Fit 8 s → (k : ℕ) (q : List (List ℤ)) → k ≡ figuresOf s .k → q ≡ squareOf (figuresOf s) → Cells q × (ZeroOutside q k × (k < 16))
   square-ready h k q ek e = let good = separable (figuresOf s) q e (sound s run h) in rw ek (good .1 .0, (good .1 .1, good .0))
 
--- totals of the same square, from an array of zeros on
-pub totals-are : (t : List (List ℤ) → ℕ → ℤ) (l c : List ℤ) (q r : List (List ℤ)) (k m : ℕ) → c ≡ sets l 0 (upTo (t q) (k + 1)) → l ≡ replicate 16 (pos 0) → q ≡ r → k ≡ m
-    → c ≡ sets (replicate 16 (pos 0)) 0 (upTo (t r) (m + 1))
-totals-are t l c q r k m e f g h = e ∙ rw (f, g, h)
-
--- total i of such an array
-total-at : (f : ℕ → ℤ) (n i : ℕ) → n ≤ 16 → i < n → getD (sets (replicate 16 (pos 0)) 0 (upTo f n)) i (pos 0) ≡ f i
-unfolding padded
-total-at f n i h l =
-    let long : length (upTo f n) ≡ n = length-upTo f n in
-    rw (sets-filled 16 (pos 0) (upTo f n) (omega arith))
-    (List·getD-append (upTo f n) _ (pos 0) i (omega arith) ∙ getD-upTo f n i (pos 0) l)
-
 -- the reason by the totals in the arrays is that by the totals of the square
 pub reason-is : (q : List (List ℤ)) (k m : ℕ) (c d : List ℤ) → k ≡ m → k < 16
-    → c ≡ sets (replicate 16 (pos 0)) 0 (upTo (columnTotal q) (m + 1)) → d ≡ sets (replicate 16 (pos 0)) 0 (upTo (diagonalTotal q) (m + 1))
+    → c ≡ upTo (columnTotal q) 16 → d ≡ upTo (diagonalTotal q) 16
     → totalsReason (λ j. getD c j (pos 0)) (λ h. getD d h (pos 0)) k ≡ totalsReason (columnTotal q) (diagonalTotal q) m
 reason-is q k m c d e h ec ed =
     rw (ec, ed, e)
-    (reason-same (λ j. getD (sets (replicate 16 (pos 0)) 0 (upTo (columnTotal q) (m + 1))) j (pos 0)) (columnTotal q)
-    (λ h. getD (sets (replicate 16 (pos 0)) 0 (upTo (diagonalTotal q) (m + 1))) h (pos 0)) (diagonalTotal q) m
-    (λ i l. total-at (columnTotal q) (m + 1) i (omega arith) l) (λ i l. total-at (diagonalTotal q) (m + 1) i (omega arith) l))
+    (reason-same (λ j. getD (upTo (columnTotal q) 16) j (pos 0)) (columnTotal q) (λ h. getD (upTo (diagonalTotal q) 16) h (pos 0)) (diagonalTotal q) m
+    (λ i l. getD-upTo (columnTotal q) 16 i (pos 0) (omega arith)) (λ i l. getD-upTo (diagonalTotal q) 16 i (pos 0) (omega arith)))
 
 -- the line of question 7, and of any other
 pub seventh-is : (s : List ℕ) (n : ℕ) → n ≡ 7 → totalsRefusal s ≡ refusalOf s n

@@ -8,12 +8,10 @@ use triangle::fill_diagonals;
 use triangle::fill_rows;
 use wording::put_refusal;
 ghost use mathlib.Core.Path.{_≡_};
-ghost use Prim.Native.Nat.{_+_};
 ghost use lib.IntN.{pos};
 ghost use lib.ListN.{replicate};
-ghost use lib.Seq.{sets};
 ghost use Rattle.rules.specs.Lists.{upTo};
-ghost use Rattle.rules.specs.Record.{lastYearOf, figuresOf};
+ghost use Rattle.rules.specs.Record.{figuresOf};
 ghost use Rattle.rules.specs.Triangle.{columnTotal, diagonalTotal};
 ghost use Rattle.rules.specs.Results.{squareOf, mostEntries};
 ghost use Rattle.rules.specs.Engine.{runAnswer};
@@ -23,10 +21,8 @@ ghost use Rattle.refusals.specs.Refusal.{totalsRefusal, refusalOf};
 // The totals of the columns and of the diagonals of a record that question 7 refuses.
 fn fill_totals(packed: &[u8], columns: &mut [i64; 16], diagonals: &mut [i64; 16])
     requires { ⌜ (runAnswer (now packed) mostEntries ≡ 7) × ((now columns ≡ replicate 16 (pos 0)) × (now diagonals ≡ replicate 16 (pos 0))) ⌝ }
-    ensures { λ _. ⌜ (now (columns .exit)
-        ≡ sets (replicate 16 (pos 0)) 0 (upTo (columnTotal (squareOf (figuresOf (now (packed .entry))))) (lastYearOf (now (packed .entry)) + 1)))
-        × (now (diagonals .exit)
-        ≡ sets (replicate 16 (pos 0)) 0 (upTo (diagonalTotal (squareOf (figuresOf (now (packed .entry))))) (lastYearOf (now (packed .entry)) + 1))) ⌝ }
+    ensures { λ _. ⌜ (now (columns .exit) ≡ upTo (columnTotal (squareOf (figuresOf (now (packed .entry))))) 16)
+        × (now (diagonals .exit) ≡ upTo (diagonalTotal (squareOf (figuresOf (now (packed .entry))))) 16) ⌝ }
 {
     let mut exposures = [0u64; 16];
     let mut increments = [0i64; 136];
@@ -54,7 +50,7 @@ fn fill_totals(packed: &[u8], columns: &mut [i64; 16], diagonals: &mut [i64; 16]
         &mut paid,
     );
     fill_columns(&square, k, columns);
-    fill_diagonals(&square, k, diagonals);
+    fill_diagonals(&square, diagonals);
 }
 
 // The line of question 7's refusal.

@@ -1,13 +1,16 @@
 -- The arrays that are read again are those of the record's figures (filled), and so is the square (square-filled). Assumes nothing.
 use native.Mathlib.Omega.{arith}
-use mathlib.Core.Path.{_≡_, refl, _∙_}
+use mathlib.Core.Path.{_≡_, refl, ap, _∙_}
+use mathlib.Core.List.{List}
+use lib.IntN.{ℤ}
+use Rattle.rules.specs.Lists.{upTo}
 use Rattle.rules.specs.Packing.{Fit}
 use Rattle.rules.specs.Record.{figuresOf}
 use Rattle.rules.specs.Triangle.{columnTotal, diagonalTotal}
 use Rattle.rules.specs.Results.{squareOf}
 use Rattle.reading.proofs.Accepted.{Filled, filled}
 use Rattle.outcomes.proofs.Passed.{Late, seventh, opening, fields, some, rows-ready}
-use Rattle.refusals.proofs.Totals.{square-filled, square-ready, totals-are}
+use Rattle.refusals.proofs.Totals.{square-filled, square-ready}
 use Rattle.refusals.proofs.fill_totals.Statement.{statement}
 use Rattle.refusals.proofs.fill_totals.Tie as tie
 
@@ -62,7 +65,8 @@ fill-columns-requires c κs =
     let rows = c .before .before in
     let year = c .before .before .before .before .before .before .before .before in
     let s = start (year .before) in
-    square-ready (s .args .packed .now) (run s) (bytes (year .before)) _ _ (year-is year) (square-of rows)
+    let ready = square-ready (s .args .packed .now) (run s) (bytes (year .before)) _ _ (year-is year) (square-of rows) in
+    (ready .0, (ready .1 .0, (ready .1 .1, s .pre .1 .0)))
 
 fill-diagonals-requires : tie.Need-fill-diagonals-requires
 fill-diagonals-requires c κs =
@@ -70,14 +74,12 @@ fill-diagonals-requires c κs =
     let year = c .before .before .before .before .before .before .before .before .before .before .before in
     let s = start (year .before) in
     let ready = square-ready (s .args .packed .now) (run s) (bytes (year .before)) _ _ (year-is year) (square-of rows) in
-    (ready .0, ready .1 .1)
+    (ready .0, s .pre .1 .1)
 
 returns : tie.Need-returns
 returns c =
     let rows = c .before .before .before .before .before .before in
-    let year = c .before .before .before .before .before .before .before .before .before .before .before .before .last-year-of in
-    let s = c .before .before .before .before .before .before .before .before .before .before .before .before .before .before .before .before .before .before .before .before in
-    (totals-are columnTotal _ _ _ _ _ _ (c .before .before .before .fill-columns .ensures) (s .pre .1 .0) (square-of rows) (year .ensures .0), totals-are diagonalTotal _ _ _ _ _ _ (c .fill-diagonals .ensures) (s .pre .1 .1) (square-of rows) (year .ensures .0))
+    (c .before .before .before .fill-columns .ensures ∙ ap (λ (q : List (List ℤ)). upTo (columnTotal q) 16) (square-of rows), c .fill-diagonals .ensures ∙ ap (λ (q : List (List ℤ)). upTo (diagonalTotal q) 16) (square-of rows))
 
 pub fill-totals-spec : {M : Type 1} → statement M
 fill-totals-spec =
