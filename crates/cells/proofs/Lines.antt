@@ -2,18 +2,17 @@
 use mathlib.Core.Path.{_≡_, refl, sym, ap, _∙_}
 use mathlib.Core.Bool.{Bool, true, false, not, cond, _&&_}
 use mathlib.Core.List.{List, [], _∷_, _++_}
-use Prim.Native.Nat.{ℕ, zero, suc, _+_, _-_, _≤_, _<_, compare·suc-suc}
+use Prim.Native.Nat.{ℕ, zero, suc, _-_, _≤_, _<_, compare·suc-suc}
 use native.Mathlib.Numerals.{unary-clauses}
 use native.Mathlib.Omega.{arith}
 use borrow.Author.Tests.{eq-eqb, ne-eqb}
 use lib.Dec.{eqb}
-use lib.ListN.{length, getD, take, drop}
+use lib.ListN.{length, getD, drop}
 use Rattle.rules.specs.Lists.{every}
 use Rattle.composing.specs.Text.{ascii}
 use Rattle.scanning.specs.Parts.{among, fails, before}
 use Rattle.scanning.proofs.Parts.{before-most}
-use Rattle.cells.specs.Cells.{unreturned, decides, separators, unspaced}
-use Rattle.cells.specs.Walk.{isOver}
+use Rattle.cells.specs.Cells.{unreturned, decides, separators, unspaced, isOver}
 
 -- nothing
 pub none-first : (xs : List ℕ) → length xs ≡ 0 → 0 ≡ getD xs 0 0

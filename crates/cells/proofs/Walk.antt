@@ -2,7 +2,7 @@
 use mathlib.Core.Path.{_≡_, refl, sym, ap, _∙_}
 use mathlib.Core.Bool.{Bool, true, false, not, cond, _&&_, _||_}
 use mathlib.Core.List.{List, [], _∷_, _++_, map}
-use Prim.Native.Nat.{ℕ, zero, suc, _+_, _≤_, _<_, zero-le}
+use Prim.Native.Nat.{ℕ, suc, _≤_, _<_, zero-le}
 use native.Mathlib.Decide.{decLt}
 use native.Mathlib.Omega.{arith}
 use lib.Dec.{eqb}
@@ -11,8 +11,7 @@ use Rattle.rules.specs.Lists.{every}
 use Rattle.composing.specs.Text.{ascii}
 use Rattle.scanning.specs.Parts.{among, fails, before, until, from, past, onto, pieces}
 use Rattle.scanning.proofs.Parts.{until-length}
-use Rattle.cells.specs.Cells.{decides, separators, unspaced, trimmed, unquoted, cellOf, filled, used, cellsBy, cellsOf}
-use Rattle.cells.specs.Walk.{decider, cellsText, isOver, fromCell, firstCell, afterCell}
+use Rattle.cells.specs.Cells.{decides, separators, unspaced, trimmed, unquoted, cellOf, filled, used, cellsBy, cellsOf, decider, cellsText, isOver, fromCell, firstCell, afterCell}
 
 module _ (p : ℕ → Bool) where
   -- the pieces after the first

@@ -1,12 +1,15 @@
 -- A line of a text: its content, its label and its cells. Assumes nothing.
 use Prim.Native.Nat.{ℕ, zero, suc, _-_}
-use mathlib.Core.Bool.{Bool, cond, _&&_}
-use mathlib.Core.List.{List, [], _∷_, map}
+use mathlib.Core.Bool.{Bool, true, cond, _&&_}
+use mathlib.Core.List.{List, [], _∷_, _++_, map}
 use lib.Dec.{eqb, leb}
+use lib.IntN.{ℤ}
 use lib.ListN.{length, getD, take, drop}
+use lib.Signed.{leZ}
 use Rattle.rules.specs.Lists.{every}
 use Rattle.composing.specs.Text.{ascii}
-use Rattle.scanning.specs.Parts.{among, fails, before, until, from, past, pieces}
+use Rattle.scanning.specs.Parts.{among, fails, until, from, past, pieces}
+use Rattle.scanning.specs.Numbers.{isNumber, wholeOf}
 
 -- the last byte of a text
 abbrev pub lastOf : List ℕ → ℕ
@@ -79,6 +82,37 @@ used (x ∷ xs) = cond (every (every (among (ascii " \""))) (x ∷ xs)) [] (x �
 unfoldable pub cellsBy : ℕ → List ℕ → List (List ℕ)
 cellsBy s text = let ps = pieces (among (separators s)) text in map cellOf (used (cond (decides s) ps (filled ps)))
 
--- the cells of a line: those after its label and, where that decides, after the byte right behind it
+-- the byte that decides for a line, and the text of its cells
+unfoldable pub decider : List ℕ → ℕ
+decider line = getD (afterLabel line) 0 0
+
+unfoldable pub cellsText : List ℕ → List ℕ
+cellsText line = cond (decides (decider line)) (drop 1 (afterLabel line)) (afterLabel line)
+
+-- the cells of a line
 unfoldable pub cellsOf : List ℕ → List (List ℕ)
-cellsOf line = let xs = afterLabel line in let s = getD xs 0 0 in cellsBy s (cond (decides s) (drop 1 xs) xs)
+cellsOf line = cellsBy (decider line) (cellsText line)
+
+-- A walk over the cells, one after another.
+
+-- whether no cell is left in a text: nothing but separators, spaces and quotes
+unfoldable pub isOver : ℕ → List ℕ → Bool
+isOver s text = every (among (separators s ++ ascii " \"")) text
+
+-- a text from its first cell on, that cell, and what comes after it
+unfoldable pub fromCell : ℕ → List ℕ → List ℕ
+fromCell s text = cond (isOver s text) [] (cond (decides s) text (from (fails (among (separators s))) text))
+
+unfoldable pub firstCell : ℕ → List ℕ → List ℕ
+firstCell s text = cellOf (until (among (separators s)) (fromCell s text))
+
+unfoldable pub afterCell : ℕ → List ℕ → List ℕ
+afterCell s text = past (among (separators s)) (fromCell s text)
+
+-- whether a cell's number is from least to most
+unfoldable pub isWithin : ℤ → ℤ → List ℕ → Bool
+isWithin least most w = leZ least (wholeOf w) && leZ (wholeOf w) most
+
+-- the tests: 0 takes every cell, 1 a whole number, 2 one in its range
+abbrev pub passes : ℕ → ℤ → ℤ → List ℕ → Bool
+passes test least most = cond (eqb test 0) (λ w. true) (cond (eqb test 1) isNumber (isWithin least most))

@@ -11,8 +11,7 @@ ghost use mathlib.Core.List.{[]};
 ghost use Prim.Native.Nat.{_≤_};
 ghost use lib.ListN.{length, getD, drop};
 ghost use Rattle.scanning.specs.Parts.{fails, before};
-ghost use Rattle.cells.specs.Cells.{unreturned, contentOf, isBare, fromLabel, labelOf, afterLabel, decides, separators, unspaced, trimmed, unquoted, cellOf, cellsOf};
-ghost use Rattle.cells.specs.Walk.{decider, cellsText, isOver, fromCell, firstCell, afterCell, isWithin, passes};
+ghost use Rattle.cells.specs.Cells.{unreturned, contentOf, isBare, fromLabel, labelOf, afterLabel, decides, separators, unspaced, trimmed, unquoted, cellOf, cellsOf, decider, cellsText, isOver, fromCell, firstCell, afterCell, isWithin, passes};
 
 // A line without a carriage return at its very end.
 fn without_return(line: &[u8]) -> &[u8]

@@ -2,6 +2,8 @@
 use libc::STDERR_FILENO;
 use printing::put_first;
 use printing::put_output;
+use printing::read_input;
+use printing::say;
 use rules::MOST_BYTES;
 use sheet_packing::pack_text;
 
@@ -12,17 +14,18 @@ fn put_record(packed: &[u8; MOST_BYTES], n: usize) {
 
 fn main() {
     let mut text = io::large_buffer();
-    let n = io::read_full(0, &mut text);
+    let arrived = read_input(&mut text);
+    let n = arrived.size;
+    if arrived.failed {
+        say(b"the input could not be read\n");
+        return;
+    }
     if n == 0 {
-        put_first(
-            STDERR_FILENO,
-            b"nothing arrived: no text on standard input\n",
-            64,
-        );
+        say(b"nothing arrived: no text on standard input\n");
         return;
     }
     if n == 65536 {
-        put_first(STDERR_FILENO, b"the text is longer than 65,535 bytes\n", 64);
+        say(b"the text is longer than 65,535 bytes\n");
         return;
     }
     let mut packed = [0u8; MOST_BYTES];

@@ -98,8 +98,8 @@ pub fn put_composed(text: &[u8], n: usize) {
 
 // What was read: how many bytes, and whether a read failed after them.
 pub struct Arrived {
-    size: usize,
-    failed: bool,
+    pub size: usize,
+    pub failed: bool,
 }
 
 // One read of standard input; no bytes where it failed or the input has ended.

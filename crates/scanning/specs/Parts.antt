@@ -14,6 +14,10 @@ among (x ∷ xs) b = eqb b x || among xs b
 abbrev pub fails : {A : Type 0} → (A → Bool) → A → Bool
 fails p = λ x. not (p x)
 
+-- one of these, or, where that is not wanted, none of them
+abbrev pub meets : Bool → List ℕ → ℕ → Bool
+meets wanted set = cond wanted (among set) (fails (among set))
+
 -- how many entries come before the first that the test takes
 unfoldable pub before : {A : Type 0} → (A → Bool) → List A → ℕ
 before p [] = 0

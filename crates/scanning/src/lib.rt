@@ -2,9 +2,8 @@
 ghost use mathlib.Core.Path.{_≡_};
 ghost use Prim.Native.Nat.{_≤_, _<_, _^_};
 ghost use lib.ListN.{length};
-ghost use Rattle.scanning.specs.Parts.{among, before, until, from, past};
+ghost use Rattle.scanning.specs.Parts.{among, before, until, from, past, meets};
 ghost use Rattle.scanning.specs.Numbers.{isDigit, isNatural, isNumber, withDigit, sizeFrom, wholeOf};
-ghost use Rattle.scanning.specs.Sets.{meets};
 
 // Whether a byte is one of these.
 pub fn is_among(b: u8, set: &[u8]) -> bool

@@ -1,7 +1,7 @@
 -- The labels as the code holds them, and the table place by place. Assumes nothing.
 use mathlib.Core.Path.{_≡_, refl, sym, _∙_}
 use mathlib.Core.Bool.{cond}
-use mathlib.Core.List.{List, [], _∷_}
+use mathlib.Core.List.{List, []}
 use Prim.Native.Nat.{ℕ, zero, suc, _+_, _-_, _*_, _≤_, _<_}
 use native.Mathlib.Omega.{arith}
 use borrow.Author.Tests.{eq-eqb, ne-eqb, lt-ltb, le-ltb}
@@ -17,12 +17,12 @@ use Rattle.laws.proofs.Totals.{total-more, total-part}
 use Rattle.composing.specs.Text.{ascii, Put}
 use Rattle.composing.proofs.Puts.{put-back, put-length}
 use Rattle.scanning.specs.Parts.{among, before, until, from, past, onto, pieces}
-use Rattle.cells.specs.Cells.{fromLabel, afterLabel, separators, unspaced, trimmed, unquoted, cellOf, filled, used, cellsBy, cellsOf}
+use Rattle.cells.specs.Cells.{fromLabel, afterLabel, separators, unspaced, trimmed, unquoted, cellOf, filled, used, cellsBy, decider, cellsText, cellsOf}
 use Rattle.sheet.specs.Table.{labels, due, lineCount, dueAt}
 
 -- the words of the code's text are the labels: by computing
 pub labels-are : cellsOf (ascii "labels k exposures paid indices reporting weight ulae") ≡ labels
-unfolding labels cellsOf cellsBy used filled cellOf unquoted trimmed unspaced separators afterLabel fromLabel pieces onto past from until before among every
+unfolding labels cellsOf decider cellsText cellsBy used filled cellOf unquoted trimmed unspaced separators afterLabel fromLabel pieces onto past from until before among every
 labels-are = refl
 
 -- each has at most nine bytes

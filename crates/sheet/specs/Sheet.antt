@@ -1,5 +1,5 @@
 -- Figures as text, written and read (docs/SHEET.md). Assumes nothing.
-use Prim.Native.Nat.{ℕ, suc, _+_, _-_}
+use Prim.Native.Nat.{ℕ, suc, _-_}
 use mathlib.Core.Bool.{Bool, true, false, cond, _&&_}
 use mathlib.Core.List.{List, [], _∷_, _++_, map}
 use lib.Dec.{eqb}
@@ -11,8 +11,7 @@ use Rattle.rules.specs.Writing.{givenIn, writeAnswer, writeInto}
 use Rattle.composing.specs.Text.{ascii, integer}
 use Rattle.scanning.specs.Parts.{among, fails, before, pieces}
 use Rattle.scanning.specs.Numbers.{isNumber, wholeOf}
-use Rattle.cells.specs.Cells.{contentOf, isBare, labelOf, cellsOf}
-use Rattle.cells.specs.Walk.{isWithin}
+use Rattle.cells.specs.Cells.{contentOf, isBare, labelOf, cellsOf, isWithin}
 use Rattle.sheet.specs.declared.Due.{Due}
 use Rattle.sheet.specs.declared.Wrong.{Wrong}
 use Rattle.sheet.specs.Table.{labelDue, lineCount, dueAt, dueLines}

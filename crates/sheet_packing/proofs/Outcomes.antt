@@ -1,13 +1,13 @@
 -- The outcomes of packing a text: it is not as due, the writer refuses it, or there is a record. Assumes nothing.
 use mathlib.Core.Path.{_≡_, refl, sym, ap, ap₂, _∙_}
-use mathlib.Core.List.{List, [], _++_, append-nil}
+use mathlib.Core.List.{List, [], _++_}
 use Prim.Native.Nat.{ℕ, _+_, _≤_, _<_}
 use native.Mathlib.Decide.{decLe}
 use native.Mathlib.Omega.{arith}
 use borrow.Author.Tests.{eq-eqb, ne-eqb}
 use lib.IntN.{ℤ, pos}
-use lib.ListN.{length, take, drop, replicate, length-take, length-replicate, take-append-drop, drop-of-length-le}
-use lib.Seq.{sets, sets-eq, length-sets, take-all, take-length, length-take-le}
+use lib.ListN.{length, take, drop, replicate, length-replicate, take-append-drop}
+use lib.Seq.{sets, sets-eq, length-sets, take-all, length-take-le}
 use Rattle.rules.specs.Record.{byteCount, mostFields}
 use Rattle.rules.specs.Writing.{givenIn, writeAnswer, writeInto}
 use Rattle.laws.proofs.Joined.{sets-append, take-sets}
@@ -18,7 +18,7 @@ use Rattle.sheet.specs.declared.Found.{Found}
 use Rattle.sheet.specs.Table.{dueAt}
 use Rattle.sheet.specs.Sheet.{Typed, lastYearIn, readSheet, packAnswer, packInto}
 use Rattle.sheet_reading.specs.Reads.{Reads}
-use Rattle.sheet_reading.proofs.Known.{Known, sheet-known}
+use Rattle.sheet_reading.proofs.Known.{sheet-known}
 use Rattle.sheet_fields.specs.Rows.{givenAt}
 use Rattle.sheet_fields.proofs.Sections.{given-front}
 use Rattle.sheet_wording.specs.Problem.{problemLine, problemText}

@@ -1,14 +1,13 @@
 -- What is known of the numbers while the lines are as due: how many they are, and k. Assumes nothing.
-use mathlib.Core.Path.{_≡_, refl, sym, ap, _∙_}
+use mathlib.Core.Path.{_≡_, refl, sym, _∙_}
 use mathlib.Core.Bool.{Bool, true, false, cond, _&&_, false≢true}
 use mathlib.Core.List.{List, [], _∷_, _++_, map, append-nil}
 use Prim.Native.Nat.{ℕ, zero, suc, _+_, _*_, _≤_, _<_}
-use native.Mathlib.Decide.{ℕ-discrete}
 use native.Mathlib.Omega.{arith}
 use borrow.Author.Tests.{eqb-true, eqb-false, leb-true}
 use lib.Dec.{eqb, leb}
 use lib.IntN.{ℤ, pos, negsuc, natAbs}
-use lib.ListN.{length, getD, length-append, length-map, List·getD-append}
+use lib.ListN.{length, length-append, length-map}
 use lib.Signed.{leZ}
 use Rattle.rules.specs.Lists.{every, upTo, total}
 use Rattle.rules.specs.Record.{cells, mostFields}
@@ -16,14 +15,12 @@ use Rattle.laws.proofs.Lists.{both-left, both-right}
 use Rattle.laws.proofs.Rows.{cells-most}
 use Rattle.laws.proofs.Totals.{total-part}
 use Rattle.scanning.specs.Numbers.{isNumber, wholeOf}
-use Rattle.cells.specs.Cells.{isBare, labelOf, cellsOf, contentOf}
-use Rattle.cells.specs.Walk.{isWithin}
+use Rattle.cells.specs.Cells.{isBare, labelOf, cellsOf, contentOf, isWithin}
 use Rattle.sheet.specs.declared.Due.{Due}
-use Rattle.sheet.specs.declared.Wrong.{Wrong}
 use Rattle.sheet.specs.Table.{labelDue, lineCount, dueAt}
 use Rattle.sheet.specs.Sheet.{sameText, lastYearIn, wrong, wrongIn, wordIn, Typed, typed, fine, lines, unmarked, readLine, readLines, readSheet}
 use Rattle.sheet.proofs.Table.{startAt, start-more, start-all, start-room}
-use Rattle.sheet_reading.specs.Good.{Good}
+use Rattle.sheet_reading.specs.Reads.{Good}
 
 -- a line that is as due
 pub record AsDue (d : Due) (line : List ℕ) : Type 0 where

@@ -1,7 +1,7 @@
 -- What is wrong with a line, from what the walks over its cells say; and what the line comes to. Assumes nothing.
 use mathlib.Core.Path.{_≡_, refl, sym, ap, _∙_}
 use mathlib.Core.Bool.{Bool, true, false, cond, _&&_, and-false}
-use mathlib.Core.List.{List, [], _∷_, _++_, map, append-nil}
+use mathlib.Core.List.{List, [], _∷_, _++_, map}
 use Prim.Native.Nat.{ℕ, suc, _+_, _≤_, _<_}
 use native.Mathlib.Numerals.{add-one}
 use native.Mathlib.Omega.{arith}
@@ -17,14 +17,12 @@ use Rattle.composing.specs.Text.{Put}
 use Rattle.composing.proofs.Puts.{put-none}
 use Rattle.scanning.specs.Parts.{fails, before}
 use Rattle.scanning.specs.Numbers.{isNumber, wholeOf}
-use Rattle.cells.specs.Cells.{isBare, labelOf, cellsOf}
-use Rattle.cells.specs.Walk.{isWithin}
+use Rattle.cells.specs.Cells.{isBare, labelOf, cellsOf, isWithin}
 use Rattle.cells.proofs.Lines.{before-all, every-yes, every-no}
 use Rattle.sheet.specs.declared.Due.{Due}
 use Rattle.sheet.specs.declared.Wrong.{Wrong}
-use Rattle.sheet.specs.declared.Found.{Found}
 use Rattle.sheet.specs.Table.{labelDue, lineCount, dueAt}
-use Rattle.sheet.specs.Sheet.{sameText, lastYearIn, wrong, wrongIn, wordIn, Typed, typed, fine, unmarked, readLine, readLines}
+use Rattle.sheet.specs.Sheet.{sameText, lastYearIn, wrong, wrongIn, wordIn, Typed, typed, fine, unmarked, readLine}
 use Rattle.sheet_reading.specs.Reads.{found, Reads}
 
 module _ (d : Due) (line : List ℕ) where

@@ -1,8 +1,8 @@
 -- The turns of the loop over the lines of a text. Assumes nothing.
 use mathlib.Core.Path.{_≡_, refl, sym, ap, _∙_}
 use mathlib.Core.Bool.{Bool, true, false, cond}
-use mathlib.Core.List.{List, [], _∷_, _++_}
-use Prim.Native.Nat.{ℕ, suc, _+_, _≤_}
+use mathlib.Core.List.{List, [], _∷_}
+use Prim.Native.Nat.{ℕ, _+_}
 use native.Mathlib.Numerals.{add-one}
 use native.Mathlib.Omega.{arith}
 use borrow.Author.Tests.{eq-eqb, ne-eqb}
@@ -12,13 +12,11 @@ use lib.ListN.{length, take}
 use lib.Seq.{sets}
 use Rattle.rules.specs.Record.{mostFields}
 use Rattle.laws.proofs.Joined.{sets-append, take-sets}
-use Rattle.composing.specs.Text.{Put}
 use Rattle.cells.specs.Cells.{contentOf}
 use Rattle.sheet.specs.declared.Found.{Found}
 use Rattle.sheet.specs.Table.{lineCount}
 use Rattle.sheet.specs.Sheet.{Typed, typed, fine, lastYearIn, unmarked, lines, readLine, readLines, readSheet}
-use Rattle.sheet_reading.specs.Reads.{found, Reads}
-use Rattle.sheet_reading.specs.Good.{Good}
+use Rattle.sheet_reading.specs.Reads.{found, Reads, Good}
 use Rattle.sheet_reading.proofs.Lines.{sets-same}
 use Rattle.sheet_reading.proofs.Known.{Step, line-step, good-none, good-most}
 

@@ -1,5 +1,5 @@
 -- What the code hands back of a reading. Assumes nothing.
-use Prim.Native.Nat.{ℕ}
+use Prim.Native.Nat.{ℕ, _≤_, _<_}
 use mathlib.Core.Path.{_≡_}
 use mathlib.Core.List.{List}
 use lib.IntN.{ℤ}
@@ -7,7 +7,9 @@ use lib.ListN.{length}
 use lib.Seq.{sets}
 use Rattle.composing.specs.Text.{Put}
 use Rattle.sheet.specs.declared.Found.{Found}
-use Rattle.sheet.specs.Sheet.{Typed}
+use Rattle.sheet.specs.Table.{lineCount}
+use Rattle.sheet.specs.Sheet.{lastYearIn, Typed}
+use Rattle.sheet.proofs.Table.{startAt}
 
 abbrev pub found : ℕ → ℕ → ℕ → ℕ → ℕ → ℕ → Found
 found p n i c w m = record { problem = p; line = n; place = i; cell = c; word = w; count = m }
@@ -17,3 +19,11 @@ pub record Reads (t : Typed) (r : Found) (list₀ list : List ℤ) (word₀ word
   pub said : r ≡ found (t .problem) (t .line) (t .place) (t .cell) (r .word) (length (t .numbers))
   pub stored : list ≡ sets list₀ 0 (t .numbers)
   pub put : Put word₀ word 0 (r .word) (t .word)
+
+-- the numbers vs are those of the lines before a place, count of them
+pub record Good (vs : List ℤ) (place count : ℕ) : Type 0 where
+  pub size : length vs ≡ count
+  pub start : count ≡ startAt (lastYearIn vs) place
+  pub within : place ≤ lineCount (lastYearIn vs)
+  pub few : lastYearIn vs < 16
+  pub some : 1 ≤ place → 1 ≤ lastYearIn vs

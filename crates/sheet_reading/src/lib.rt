@@ -26,8 +26,7 @@ ghost use Rattle.composing.specs.Text.{Put};
 ghost use Rattle.scanning.specs.Numbers.{wholeOf};
 ghost use Rattle.cells.specs.Cells.{cellsOf};
 ghost use Rattle.sheet.specs.Sheet.{unmarked, lastYearIn, wrongIn, wordIn, fine, readLine, readLines, readSheet};
-ghost use Rattle.sheet_reading.specs.Reads.{Reads};
-ghost use Rattle.sheet_reading.specs.Good.{Good};
+ghost use Rattle.sheet_reading.specs.Reads.{Reads, Good};
 
 // What is wrong with a line where d is due.
 fn wrong_in(line: &[u8], d: Due) -> Wrong

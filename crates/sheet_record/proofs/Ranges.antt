@@ -18,9 +18,9 @@ use Rattle.laws.proofs.Rows.{rows-all}
 use Rattle.record.proofs.Fields.{RecordFields}
 use Rattle.scanning.specs.Numbers.{ceiling}
 use Rattle.sheet.specs.declared.Due.{Due}
-use Rattle.sheet.specs.Table.{due, lineCount, dueAt, dueLines}
+use Rattle.sheet.specs.Table.{lineCount, dueAt, dueLines}
 use Rattle.sheet.proofs.Table.{due-paid, due-indices, due-reporting, due-weight, due-ulae}
-use Rattle.sheet_record.proofs.Sheets.{Okay, rangesOf, Sound}
+use Rattle.sheet_record.proofs.Sheets.{rangesOf, Sound}
 
 -- the range of a kind of field
 abbrev rangeOf : Kind → ℤ × ℤ

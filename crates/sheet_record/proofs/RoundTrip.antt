@@ -1,11 +1,11 @@
 -- The text of an accepted record, read again, has nothing wrong and gives the record's fields, and packing it makes the record again.
 -- Assumes nothing.
 use mathlib.Core.Path.{_≡_, refl, sym, ap, _∙_}
-use mathlib.Core.List.{List, [], _∷_, _++_, map, append-nil}
+use mathlib.Core.List.{List, [], _∷_, _++_, append-nil}
 use Prim.Native.Nat.{ℕ, suc, _+_, _≤_, _<_}
 use native.Mathlib.Omega.{arith}
 use lib.IntN.{ℤ, pos, natAbs}
-use lib.ListN.{length, getD, take, drop, length-drop, drop-of-length-le}
+use lib.ListN.{length, getD, take, drop, drop-of-length-le}
 use lib.Seq.{take-add, take-all, sets-eq, length-take-le}
 use Rattle.rules.specs.Lists.{upTo, total}
 use Rattle.rules.specs.Packing.{Fit}
@@ -20,9 +20,8 @@ use Rattle.record.proofs.Fields.{RecordFields}
 use Rattle.record.proofs.RoundTrip.{written-again}
 use Rattle.composing.specs.Text.{Put}
 use Rattle.composing.proofs.Puts.{put-back}
-use Rattle.sheet.specs.declared.Due.{Due}
-use Rattle.sheet.specs.Table.{labels, lineCount, dueAt, dueLines}
-use Rattle.sheet.specs.Sheet.{lineOf, linesOf, lastYearIn, sheetOf, unmarked, lines, fine, readLines, readSheet, recordSize, packAnswer, packInto}
+use Rattle.sheet.specs.Table.{labels, lineCount, dueAt}
+use Rattle.sheet.specs.Sheet.{lineOf, linesOf, lastYearIn, sheetOf, unmarked, fine, readSheet, recordSize, packAnswer, packInto}
 use Rattle.sheet_writing.specs.Shown.{shownText}
 use Rattle.sheet_writing.proofs.Lines.{countsOf, sheet-counts}
 use Rattle.sheet_writing.proofs.Unpacked.{accepted-fields}

@@ -14,12 +14,11 @@ use Rattle.rules.specs.Lists.{upTo, every, total}
 use Rattle.laws.proofs.Lists.{upTo-cons, upTo-ext}
 use Rattle.composing.specs.Text.{integer}
 use Rattle.scanning.specs.Numbers.{ceiling, isNumber, wholeOf}
-use Rattle.scanning.specs.Parts.{among, until, before, pieces}
-use Rattle.cells.specs.Cells.{unreturned, contentOf, isBare, labelOf, cellsOf}
-use Rattle.cells.specs.Walk.{isWithin}
+use Rattle.scanning.specs.Parts.{until, before, pieces}
+use Rattle.cells.specs.Cells.{unreturned, contentOf, isBare, isWithin}
 use Rattle.sheet.specs.declared.Due.{Due}
-use Rattle.sheet.specs.Table.{labels, due, labelDue, lineCount, dueAt, dueLines}
-use Rattle.sheet.specs.Sheet.{spaced, lineOf, linesOf, lastYearIn, sameText, wrong, wrongIn, lines, Typed, fine, readLine, readLines}
+use Rattle.sheet.specs.Table.{labels, labelDue, lineCount, dueAt, dueLines}
+use Rattle.sheet.specs.Sheet.{spaced, lineOf, linesOf, lastYearIn, sameText, wrong, wrongIn, lines, fine, readLine, readLines}
 use Rattle.sheet_writing.proofs.Lines.{countsOf}
 use Rattle.sheet_reading.proofs.Lines.{line-fine}
 use Rattle.sheet_record.proofs.Numbers.{integer-number, integer-value}

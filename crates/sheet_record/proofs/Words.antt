@@ -1,19 +1,19 @@
 -- A line of a sheet read again: its label, and its numbers as cells. Assumes nothing.
 use mathlib.Core.Path.{_≡_, refl, sym, ap, _∙_}
-use mathlib.Core.Bool.{Bool, true, false, not, cond, _&&_, and-false}
+use mathlib.Core.Bool.{Bool, true, false, not, cond, and-false}
 use mathlib.Core.List.{List, [], _∷_, _++_, map, append-nil, append-assoc}
-use Prim.Native.Nat.{ℕ, zero, suc, _+_, _-_, _<_}
+use Prim.Native.Nat.{ℕ, _+_, _-_, _<_}
 use native.Mathlib.Omega.{arith}
 use borrow.Author.Tests.{not-true, eqb-false}
 use lib.Dec.{eqb, leb}
 use lib.IntN.{ℤ}
-use lib.ListN.{length, getD, take, drop}
+use lib.ListN.{length, getD, drop}
 use lib.Seq.{take-length, take-at, drop-at}
 use Rattle.rules.specs.Lists.{every}
 use Rattle.laws.proofs.Lists.{every-append, every-at, both-left, both-right}
 use Rattle.composing.specs.Text.{ascii, integer}
 use Rattle.scanning.specs.Parts.{among, fails, before, until, from, pieces, onto}
-use Rattle.cells.specs.Cells.{lastOf, unreturned, contentOf, isBare, fromLabel, labelOf, afterLabel, separators, unspaced, trimmed, unquoted, cellOf, filled, used, cellsBy, cellsOf}
+use Rattle.cells.specs.Cells.{lastOf, unreturned, contentOf, isBare, fromLabel, labelOf, afterLabel, separators, trimmed, unquoted, cellOf, filled, used, cellsBy, decider, cellsText, cellsOf}
 use Rattle.cells.proofs.Lines.{unspaced-here}
 use Rattle.sheet.specs.Sheet.{spaced, lines}
 use Rattle.sheet_record.proofs.Numbers.{plain, tame, every-of, integer-plain, integer-some}
@@ -208,7 +208,7 @@ numbers-cells (v ∷ vs) =
     rw (h .is, f .space, f .quote, rw (h .is) at cell, numbers-cells vs)
 
 pub line-cells : (w : List ℕ) (vs : List ℤ) → Word w → cellsOf (w ++ spaced vs) ≡ map integer vs
-unfolding cellsOf cellsBy separators spaced filled blanks among every
+unfolding cellsOf decider cellsText cellsBy separators spaced filled blanks among every
 line-cells w vs h = rw (after-label w vs h) (go vs)
   where
     go : (vs : List ℤ) → cellsBy (getD (spaced vs) 0 0) (cond (among (ascii ",;\t") (getD (spaced vs) 0 0)) (drop 1 (spaced vs)) (spaced vs)) ≡ map integer vs

@@ -1,7 +1,6 @@
 -- What comes after the cell, by the separators. Assumes nothing.
 use mathlib.Core.Path.{_∙_}
-use Rattle.cells.specs.Cells.{separators}
-use Rattle.cells.specs.Walk.{afterCell}
+use Rattle.cells.specs.Cells.{afterCell}
 use borrow.Author.Needs.{needs}
 use Rattle.cells.proofs.after_cell.Statement.{statement}
 use Rattle.cells.proofs.after_cell.Tie as tie

@@ -1,7 +1,6 @@
 -- By the byte right after the label. Assumes nothing.
-use mathlib.Core.Path.{ap, sym, _∙_}
-use Rattle.cells.specs.Cells.{decides}
-use Rattle.cells.specs.Walk.{cellsText}
+use mathlib.Core.Path.{sym, _∙_}
+use Rattle.cells.specs.Cells.{cellsText}
 use borrow.Author.Needs.{needs}
 use Rattle.cells.proofs.cells_text.Statement.{statement}
 use Rattle.cells.proofs.cells_text.Tie as tie

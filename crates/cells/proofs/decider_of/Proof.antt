@@ -1,6 +1,6 @@
 -- The first byte of what comes after the label. Assumes nothing.
 use mathlib.Core.Path.{_∙_}
-use Rattle.cells.specs.Walk.{decider}
+use Rattle.cells.specs.Cells.{decider}
 use borrow.Author.Needs.{needs}
 use Rattle.cells.proofs.decider_of.Statement.{statement}
 use Rattle.cells.proofs.decider_of.Tie as tie

@@ -1,6 +1,6 @@
 -- The piece up to the separator. Assumes nothing.
 use mathlib.Core.Path.{_∙_}
-use Rattle.cells.specs.Walk.{firstCell}
+use Rattle.cells.specs.Cells.{firstCell}
 use borrow.Author.Needs.{needs}
 use Rattle.cells.proofs.first_cell.Statement.{statement}
 use Rattle.cells.proofs.first_cell.Tie as tie

@@ -1,6 +1,4 @@
 -- No byte is found that is none of these. Assumes nothing.
-use mathlib.Core.Path.{_∙_}
-use Rattle.cells.specs.Walk.{isOver}
 use Rattle.cells.proofs.Lines.{over-is}
 use borrow.Author.Needs.{needs}
 use Rattle.cells.proofs.is_over.Statement.{statement}

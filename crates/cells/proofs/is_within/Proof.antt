@@ -1,13 +1,12 @@
 -- By the order of signed numbers. Assumes nothing.
 use mathlib.Core.Path.{_≡_, sym, _∙_}
 use borrow.Author.Needs.{needs, sfits-of}
-use lib.IntN.{ℤ}
 use mir.Facts.{toZ-ofZ}
 use mir.Syntax.{w64}
 use mir.Val.{toZ, ofZ}
 use Rattle.laws.proofs.Order.{under, over, inside}
 use Rattle.scanning.specs.Numbers.{wholeOf}
-use Rattle.cells.specs.Walk.{isWithin}
+use Rattle.cells.specs.Cells.{isWithin}
 use Rattle.cells.proofs.is_within.Statement.{statement}
 use Rattle.cells.proofs.is_within.Tie as tie
 

@@ -9,8 +9,7 @@ use mir.Facts.{toZ-ofZ}
 use mir.Syntax.{w64}
 use mir.Val.{toZ}
 use Rattle.scanning.specs.Parts.{before, fails}
-use Rattle.cells.specs.Cells.{cellsBy, cellsOf}
-use Rattle.cells.specs.Walk.{fromCell, firstCell, passes}
+use Rattle.cells.specs.Cells.{cellsBy, cellsOf, fromCell, firstCell, passes}
 use Rattle.cells.proofs.Walk.{walk-shorter, cells-are, lead-here, lead-more, lead-over}
 use borrow.Author.Needs.{needs}
 use Rattle.cells.proofs.leading.Statement.{statement}

@@ -2,7 +2,6 @@
 use mathlib.Core.Path.{sym}
 use native.Mathlib.Omega.{arith}
 use borrow.Author.Tests.{eq-eqb, ne-eqb}
-use lib.ListN.{length}
 use lib.Seq.{length-take-le}
 use Rattle.cells.specs.Cells.{lastOf, unreturned}
 use Rattle.cells.proofs.Lines.{none-unreturned}

@@ -5,10 +5,8 @@ use Prim.Native.Nat.{ℕ, _+_, _-_, _≤_}
 use native.Mathlib.Nat.{le-refl}
 use native.Mathlib.Omega.{arith}
 use borrow.Author.Needs.{needs}
-use borrow.Author.Tests.{not-false}
 use lib.ListN.{length, drop}
-use Rattle.scanning.specs.Parts.{before}
-use Rattle.scanning.specs.Sets.{meets}
+use Rattle.scanning.specs.Parts.{before, meets}
 use Rattle.scanning.proofs.Parts.{before-found, before-more, before-none}
 use Rattle.scanning.proofs.find.Statement.{statement}
 use Rattle.scanning.proofs.find.Tie as tie

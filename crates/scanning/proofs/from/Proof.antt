@@ -1,6 +1,6 @@
 -- The text is cut where the byte was found. Assumes nothing.
 use borrow.Author.Needs.{needs}
-use Rattle.scanning.specs.Sets.{meets}
+use Rattle.scanning.specs.Parts.{meets}
 use Rattle.scanning.proofs.Parts.{from-is}
 use Rattle.scanning.proofs.from.Statement.{statement}
 use Rattle.scanning.proofs.from.Tie as tie

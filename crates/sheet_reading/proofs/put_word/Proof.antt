@@ -1,7 +1,6 @@
 -- By the problem. Assumes nothing.
-use mathlib.Core.Path.{_≡_, sym}
 use borrow.Author.Tests.{eq-eqb, ne-eqb}
-use Rattle.composing.proofs.Puts.{put-none, put-same}
+use Rattle.composing.proofs.Puts.{put-none}
 use Rattle.sheet.specs.Sheet.{wordIn}
 use borrow.Author.Needs.{needs}
 use Rattle.sheet_reading.proofs.put_word.Statement.{statement}

@@ -1,7 +1,6 @@
 -- The loop's invariant: the lines before place i are put, and their numbers passed (put-next-line). Assumes nothing.
-use mathlib.Core.Path.{_≡_, refl, sym, ap, _∙_}
-use mathlib.Core.List.{List}
-use Prim.Native.Nat.{ℕ, _+_, _-_, _<_, _≤_}
+use mathlib.Core.Path.{_≡_, refl}
+use Prim.Native.Nat.{_+_, _-_, _<_, _≤_}
 use native.Mathlib.Omega.{arith}
 use native.Mathlib.Numerals.{add-one}
 use borrow.Author.Needs.{needs, sfits-of}
@@ -14,7 +13,6 @@ use Rattle.rules.specs.Lists.{upTo, total}
 use Rattle.rules.specs.Record.{mostFields}
 use Rattle.composing.specs.Text.{Put}
 use Rattle.composing.proofs.Puts.{put-none, put-length}
-use Rattle.sheet.specs.declared.Due.{Due}
 use Rattle.sheet.specs.Table.{dueAt, dueLines}
 use Rattle.sheet.specs.Sheet.{linesOf, lastYearIn, sheetOf}
 use Rattle.sheet.proofs.Table.{startAt, start-more, start-room}
