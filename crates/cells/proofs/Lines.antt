@@ -1,17 +1,16 @@
 -- Laws of the parts of a line that the functions cut. Assumes nothing.
-use mathlib.Core.Path.{_≡_, refl, sym, ap, _∙_}
+use mathlib.Core.Path.{_≡_, refl, _∙_}
 use mathlib.Core.Bool.{Bool, true, false, not, cond, _&&_}
 use mathlib.Core.List.{List, [], _∷_, _++_}
 use Prim.Native.Nat.{ℕ, zero, suc, _-_, _≤_, _<_, compare·suc-suc}
 use native.Mathlib.Numerals.{unary-clauses}
 use native.Mathlib.Omega.{arith}
-use borrow.Author.Tests.{eq-eqb, ne-eqb}
+use borrow.Author.Tests.{eq-eqb, ne-eqb, eqb-true}
 use lib.Dec.{eqb}
 use lib.ListN.{length, getD, drop}
 use Rattle.rules.specs.Lists.{every}
 use Rattle.composing.specs.Text.{ascii}
 use Rattle.scanning.specs.Parts.{among, fails, before}
-use Rattle.scanning.proofs.Parts.{before-most}
 use Rattle.cells.specs.Cells.{unreturned, decides, separators, unspaced, isOver}
 
 -- nothing
@@ -39,18 +38,9 @@ every-before p (x ∷ xs) = go (p x) (every-before p xs)
     go true h = rw (compare·suc-suc) h
     go false h = ne-eqb 0 (suc (length xs)) (λ e. omega arith)
 
--- how many there are, and whether one fails
-pub before-all : {A : Type 0} (xs : List A) → before (fails (λ (x : A). true)) xs ≡ length xs
-unfolding before
-before-all [] = refl
-before-all (x ∷ xs) = ap suc (before-all xs)
-
-module _ {A : Type 0} (p : A → Bool) (xs : List A) where
-  pub every-yes : length xs ≤ before (fails p) xs → every p xs ≡ true
-  every-yes h = sym (every-before p xs) ∙ eq-eqb (before (fails p) xs) (length xs) (omega (arith, before-most (fails p) xs))
-
-  pub every-no : before (fails p) xs < length xs → every p xs ≡ false
-  every-no h = sym (every-before p xs) ∙ ne-eqb (before (fails p) xs) (length xs) (λ e. omega arith)
+-- where none fails, all come before it
+pub before-all : {A : Type 0} (p : A → Bool) (xs : List A) → every p xs ≡ true → before (fails p) xs ≡ length xs
+before-all p xs h = eqb-true (before (fails p) xs) (length xs) (every-before p xs ∙ h)
 
 pub every-is : (set xs : List ℕ) (n : ℕ) → n ≡ before (fails (among set)) xs → eqb n (length xs) ≡ every (among set) xs
 every-is set xs n e = rw e (every-before (among set) xs)

@@ -222,16 +222,17 @@ pub cells-are : (line : List ℕ) (s : ℕ) (xs : List ℕ) → s ≡ decider li
 unfolding cellsOf cellsText decider
 cells-are line s xs e f = rw (f, e)
 
--- a walk that stops at the first cell that a test takes: here, or later, or there is none
-module _ (f : List ℕ → Bool) (s : ℕ) (xs : List ℕ) where
-  pub lead-here : 0 < length (fromCell s xs) → f (firstCell s xs) ≡ true → before f (cellsBy s xs) ≡ 0
-  unfolding before
-  lead-here h e = rw (walk-more s xs h, e)
+-- a walk that stops at the first cell that fails a test: it is here, or later, or there is none
+module _ (p : List ℕ → Bool) (s : ℕ) (xs : List ℕ) where
+  pub lead-here : 0 < length (fromCell s xs) → p (firstCell s xs) ≡ false → (before (fails p) (cellsBy s xs) ≡ 0) × (every p (cellsBy s xs) ≡ false)
+  unfolding before every
+  lead-here h e = rw (walk-more s xs h, e) (refl, refl)
 
-  pub lead-more : 0 < length (fromCell s xs) → f (firstCell s xs) ≡ false → before f (cellsBy s xs) ≡ suc (before f (cellsBy s (afterCell s xs)))
-  unfolding before
-  lead-more h e = rw (walk-more s xs h, e)
+  pub lead-more : 0 < length (fromCell s xs) → p (firstCell s xs) ≡ true
+      → (before (fails p) (cellsBy s xs) ≡ suc (before (fails p) (cellsBy s (afterCell s xs)))) × (every p (cellsBy s xs) ≡ every p (cellsBy s (afterCell s xs)))
+  unfolding before every
+  lead-more h e = rw (walk-more s xs h, e) (refl, refl)
 
-  pub lead-over : length (fromCell s xs) ≤ 0 → before f (cellsBy s xs) ≡ 0
-  unfolding before
-  lead-over h = rw (walk-over s xs h)
+  pub lead-over : length (fromCell s xs) ≤ 0 → (before (fails p) (cellsBy s xs) ≡ 0) × (every p (cellsBy s xs) ≡ true)
+  unfolding before every
+  lead-over h = rw (walk-over s xs h) (refl, refl)

@@ -1,6 +1,6 @@
 -- A line of a text: its content, its label and its cells. Assumes nothing.
 use Prim.Native.Nat.{ℕ, zero, suc, _-_}
-use mathlib.Core.Bool.{Bool, true, cond, _&&_}
+use mathlib.Core.Bool.{Bool, cond, _&&_}
 use mathlib.Core.List.{List, [], _∷_, _++_, map}
 use lib.Dec.{eqb, leb}
 use lib.IntN.{ℤ}
@@ -113,6 +113,6 @@ afterCell s text = past (among (separators s)) (fromCell s text)
 unfoldable pub isWithin : ℤ → ℤ → List ℕ → Bool
 isWithin least most w = leZ least (wholeOf w) && leZ (wholeOf w) most
 
--- the tests: 0 takes every cell, 1 a whole number, 2 one in its range
-abbrev pub passes : ℕ → ℤ → ℤ → List ℕ → Bool
-passes test least most = cond (eqb test 0) (λ w. true) (cond (eqb test 1) isNumber (isWithin least most))
+-- the tests of a cell: whether it is in its range, or whether it is a whole number
+abbrev pub passes : Bool → ℤ → ℤ → List ℕ → Bool
+passes ranged least most = cond ranged (isWithin least most) isNumber

@@ -8,10 +8,17 @@ use scanning::past;
 use scanning::until;
 ghost use mathlib.Core.Path.{_≡_};
 ghost use mathlib.Core.List.{[]};
-ghost use Prim.Native.Nat.{_≤_};
+ghost use Prim.Native.Nat.{_≤_, _<_, _^_};
+ghost use Rattle.rules.specs.Lists.{every};
 ghost use lib.ListN.{length, getD, drop};
 ghost use Rattle.scanning.specs.Parts.{fails, before};
 ghost use Rattle.cells.specs.Cells.{unreturned, contentOf, isBare, fromLabel, labelOf, afterLabel, decides, separators, unspaced, trimmed, unquoted, cellOf, cellsOf, decider, cellsText, isOver, fromCell, firstCell, afterCell, isWithin, passes};
+
+// How many cells pass a test before the first that does not, and whether all do.
+pub struct Run {
+    pub passed: usize,
+    pub all: bool,
+}
 
 // A line without a carriage return at its very end.
 fn without_return(line: &[u8]) -> &[u8]
@@ -242,32 +249,36 @@ fn is_within(word: &[u8], least: i64, most: i64) -> bool
 }
 
 // Whether a cell passes the test.
-fn does_pass(word: &[u8], test: u64, least: i64, most: i64) -> bool
-    ensures { λ r. ⌜ r ≡ passes test least most (now (word .entry)) ⌝ }
+fn does_pass(word: &[u8], ranged: bool, least: i64, most: i64) -> bool
+    ensures { λ r. ⌜ r ≡ passes ranged least most (now (word .entry)) ⌝ }
 {
-    if test == 0 {
-        return true;
+    if ranged {
+        return is_within(word, least, most);
     }
-    if test == 1 {
-        return is_number(word);
-    }
-    is_within(word, least, most)
+    is_number(word)
 }
 
-// How many cells of a line come before the first that fails the test.
-pub fn leading(line: &[u8], test: u64, least: i64, most: i64) -> usize
-    ensures { λ r. ⌜ r ≡ before (fails (passes test least most)) (cellsOf (now (line .entry))) ⌝ }
+// How many cells of a line come before the first that fails the test, and whether none fails.
+pub fn leading(line: &[u8], ranged: bool, least: i64, most: i64) -> Run
+    ensures { λ r. ⌜ (r .passed ≡ before (fails (passes ranged least most)) (cellsOf (now (line .entry))))
+        × ((r .all ≡ every (passes ranged least most) (cellsOf (now (line .entry)))) × (r .passed < 2 ^ 63)) ⌝ }
 {
     let s = decider_of(line);
     let mut rest = cells_text(line);
     let mut count: usize = 0;
     while from_cell(rest, s).len() > 0 {
-        if !does_pass(first_cell(rest, s), test, least, most) {
-            return count;
+        if !does_pass(first_cell(rest, s), ranged, least, most) {
+            return Run {
+                passed: count,
+                all: false,
+            };
         }
         count += 1;
         let next = after_cell(rest, s);
         rest = next;
     }
-    count
+    Run {
+        passed: count,
+        all: true,
+    }
 }

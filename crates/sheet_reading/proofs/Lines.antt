@@ -18,7 +18,7 @@ use Rattle.composing.proofs.Puts.{put-none}
 use Rattle.scanning.specs.Parts.{fails, before}
 use Rattle.scanning.specs.Numbers.{isNumber, wholeOf}
 use Rattle.cells.specs.Cells.{isBare, labelOf, cellsOf, isWithin}
-use Rattle.cells.proofs.Lines.{before-all, every-yes, every-no}
+use Rattle.cells.proofs.Lines.{before-all}
 use Rattle.sheet.specs.declared.Due.{Due}
 use Rattle.sheet.specs.declared.Wrong.{Wrong}
 use Rattle.sheet.specs.Table.{labelDue, lineCount, dueAt}
@@ -31,35 +31,32 @@ module _ (d : Due) (line : List ℕ) where
   unfolding wrongIn
   wrong-label h = rw h
 
-  module _ (same : sameText (labelOf line) (labelDue d) ≡ true) (n a : ℕ) (e : n ≡ before (fails (λ (w : List ℕ). true)) (cellsOf line))
-      (f : a ≡ before (fails isNumber) (cellsOf line)) where
-    count : length (cellsOf line) ≡ n
-    count = sym (e ∙ before-all (cellsOf line))
-
+  module _ (same : sameText (labelOf line) (labelDue d) ≡ true) (a : ℕ) (f : a ≡ before (fails isNumber) (cellsOf line)) where
     -- a cell that is no number
-    pub wrong-number : a < n → wrong 2 (a + 1) ≡ wrongIn d line
+    pub wrong-number : every isNumber (cellsOf line) ≡ false → wrong 2 (a + 1) ≡ wrongIn d line
     unfolding wrongIn
-    wrong-number h = rw (same, every-no isNumber (cellsOf line) (omega (arith, count)), add-one a, f)
+    wrong-number h = rw (same, h, add-one a, f)
 
-    module _ (numbers : n ≤ a) where
-      all : every isNumber (cellsOf line) ≡ true
-      all = every-yes isNumber (cellsOf line) (omega (arith, count))
+    module _ (numbers : every isNumber (cellsOf line) ≡ true) where
+      count : length (cellsOf line) ≡ a
+      count = sym (f ∙ before-all isNumber (cellsOf line) numbers)
 
       -- another count
-      pub wrong-count : (n ≡ d .count → ⊥) → wrong 3 n ≡ wrongIn d line
+      pub wrong-count : (a ≡ d .count → ⊥) → wrong 3 a ≡ wrongIn d line
       unfolding wrongIn
-      wrong-count h = rw (same, all, count, ne-eqb n (d .count) h)
+      wrong-count h = rw (same, numbers, count, ne-eqb a (d .count) h)
 
-      module _ (right : n ≡ d .count) (b : ℕ) (g : b ≡ before (fails (isWithin (d .least) (d .most))) (cellsOf line)) where
+      module _ (right : a ≡ d .count) where
         -- a number out of its range
-        pub wrong-range : b < n → wrong 4 (b + 1) ≡ wrongIn d line
+        pub wrong-range : (b : ℕ) → b ≡ before (fails (isWithin (d .least) (d .most))) (cellsOf line) → every (isWithin (d .least) (d .most)) (cellsOf line) ≡ false
+            → wrong 4 (b + 1) ≡ wrongIn d line
         unfolding wrongIn
-        wrong-range h = rw (same, all, count, eq-eqb n (d .count) right, every-no (isWithin (d .least) (d .most)) (cellsOf line) (omega (arith, count)), add-one b, g)
+        wrong-range b g h = rw (same, numbers, count, eq-eqb a (d .count) right, h, add-one b, g)
 
         -- nothing
-        pub wrong-none : n ≤ b → wrong 0 0 ≡ wrongIn d line
+        pub wrong-none : every (isWithin (d .least) (d .most)) (cellsOf line) ≡ true → wrong 0 0 ≡ wrongIn d line
         unfolding wrongIn
-        wrong-none h = rw (same, all, count, eq-eqb n (d .count) right, every-yes (isWithin (d .least) (d .most)) (cellsOf line) (omega (arith, count)))
+        wrong-none h = rw (same, numbers, count, eq-eqb a (d .count) right, h)
 
 -- a list whose front is stored again
 pub sets-same : (l : List ℤ) (n : ℕ) → length (take n l) ≡ n → sets l 0 (take n l) ≡ l

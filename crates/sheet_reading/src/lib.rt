@@ -38,25 +38,24 @@ fn wrong_in(line: &[u8], d: Due) -> Wrong
             cell: 0,
         };
     }
-    let n = leading(line, 0, 0, 0);
-    let a = leading(line, 1, 0, 0);
-    if a < n {
+    let numbers = leading(line, false, 0, 0);
+    if !numbers.all {
         return Wrong {
             problem: 2,
-            cell: a + 1,
+            cell: numbers.passed + 1,
         };
     }
-    if n != d.count {
+    if numbers.passed != d.count {
         return Wrong {
             problem: 3,
-            cell: n,
+            cell: numbers.passed,
         };
     }
-    let b = leading(line, 2, d.least, d.most);
-    if b < n {
+    let ranges = leading(line, true, d.least, d.most);
+    if !ranges.all {
         return Wrong {
             problem: 4,
-            cell: b + 1,
+            cell: ranges.passed + 1,
         };
     }
     Wrong {
