@@ -16,7 +16,7 @@ use Rattle.laws.proofs.Totals.{fromTo-all}
 use Rattle.laws.proofs.Lists.{every-upTo}
 use Rattle.rules.specs.Triangle.{ZeroOutside}
 use Rattle.totals.proofs.Whole.{Totals, totals, column-is, diagonal-is}
-use Rattle.totals.proofs.Most.{running-most}
+use Rattle.totals.proofs.TotalsMost.{running-most}
 use Rattle.accuracy.proofs.Rounding.{Running, shares-sum}
 use Rattle.accuracy.proofs.Solved.{solution-near}
 use Rattle.accuracy.proofs.Existence.{exists}

@@ -10,7 +10,7 @@ use Rattle.rules.specs.Lists.{every}
 use Rattle.composing.specs.Text.{ascii}
 use Rattle.scanning.specs.Parts.{among, onto, pieces}
 use Rattle.cells.specs.Cells.{decides, separators, used}
-use Rattle.cells.proofs.Walk.{pieces-first}
+use Rattle.cells.proofs.CellWalk.{pieces-first}
 
 -- pieces, each with the byte s after it
 abbrev pub ended : ℕ → List (List ℕ) → List ℕ

@@ -1,3 +1,3 @@
-pub mod Lines
-pub mod Walk
+pub mod CellLines
+pub mod CellWalk
 pub mod Kept

@@ -64,8 +64,8 @@ unfoldable pub unquoted : List ℕ → List ℕ
 unquoted w = cond (leb 2 (length w) && (isQuoted w && eqb (lastOf w) 34)) (take (length w - 2) (drop 1 w)) w
 
 -- the cell that a piece is
-unfoldable pub cellOf : List ℕ → List ℕ
-cellOf piece = unquoted (trimmed piece)
+unfoldable pub cellFrom : List ℕ → List ℕ
+cellFrom piece = unquoted (trimmed piece)
 
 -- the pieces that are not empty
 unfoldable pub filled : List (List ℕ) → List (List ℕ)
@@ -80,7 +80,7 @@ used (x ∷ xs) = cond (every (every (among (ascii " \""))) (x ∷ xs)) [] (x �
 
 -- the cells of a text where s decides: each piece between separators; where spaces and tabs separate, several are as one
 unfoldable pub cellsBy : ℕ → List ℕ → List (List ℕ)
-cellsBy s text = let ps = pieces (among (separators s)) text in map cellOf (used (cond (decides s) ps (filled ps)))
+cellsBy s text = let ps = pieces (among (separators s)) text in map cellFrom (used (cond (decides s) ps (filled ps)))
 
 -- the byte that decides for a line, and the text of its cells
 unfoldable pub decider : List ℕ → ℕ
@@ -104,7 +104,7 @@ unfoldable pub fromCell : ℕ → List ℕ → List ℕ
 fromCell s text = cond (isOver s text) [] (cond (decides s) text (from (fails (among (separators s))) text))
 
 unfoldable pub firstCell : ℕ → List ℕ → List ℕ
-firstCell s text = cellOf (until (among (separators s)) (fromCell s text))
+firstCell s text = cellFrom (until (among (separators s)) (fromCell s text))
 
 unfoldable pub afterCell : ℕ → List ℕ → List ℕ
 afterCell s text = past (among (separators s)) (fromCell s text)

@@ -12,7 +12,7 @@ ghost use Prim.Native.Nat.{_≤_, _<_, _^_};
 ghost use Rattle.rules.specs.Lists.{every};
 ghost use lib.ListN.{length, getD, drop};
 ghost use Rattle.scanning.specs.Parts.{fails, before};
-ghost use Rattle.cells.specs.Cells.{unreturned, contentOf, isBare, fromLabel, labelOf, afterLabel, decides, separators, unspaced, trimmed, unquoted, cellOf, cellsOf, decider, cellsText, isOver, fromCell, firstCell, afterCell, isWithin, passes};
+ghost use Rattle.cells.specs.Cells.{unreturned, contentOf, isBare, fromLabel, labelOf, afterLabel, decides, separators, unspaced, trimmed, unquoted, cellFrom, cellsOf, decider, cellsText, isOver, fromCell, firstCell, afterCell, isWithin, passes};
 
 // How many cells pass a test before the first that does not, and whether all do.
 pub struct Run {
@@ -175,7 +175,7 @@ fn unquoted_of(word: &[u8]) -> &[u8]
 
 // The cell that a piece is.
 fn cell_of(piece: &[u8]) -> &[u8]
-    ensures { λ r. ⌜ now r ≡ cellOf (now (piece .entry)) ⌝ }
+    ensures { λ r. ⌜ now r ≡ cellFrom (now (piece .entry)) ⌝ }
 {
     unquoted_of(trimmed_of(piece))
 }

@@ -20,7 +20,7 @@ use Rattle.triangle.proofs.Passed.{rows-all}
 use Rattle.totals.proofs.Square.{zero-outside}
 use Rattle.reading.specs.Sound.{Sound}
 use Rattle.reading.specs.Reading.{rowRead}
-use Rattle.reading.proofs.Accepted.{Filled}
+use Rattle.reading.proofs.FiguresRead.{Filled}
 
 module _ (f : Figures) (six : cumulativesPass (f .k) (f .increments) ≡ true) where
   -- every row has passed question 6

@@ -22,7 +22,7 @@ use Rattle.laws.proofs.Lists.{length-upTo, upTo-ext, every-same, total-most, bo
 use Rattle.laws.proofs.Padded.{filled-at}
 use Rattle.laws.proofs.Joined.{sets-filled, future-length, future-cells, future-most}
 use Rattle.laws.proofs.Questions.{said, yes-said}
-use Rattle.totals.proofs.Most.{diagonal-most, latest-level}
+use Rattle.totals.proofs.TotalsMost.{diagonal-most, latest-level}
 use Rattle.totals.proofs.Square.{zero-outside}
 use Rattle.triangle.proofs.Passed.{column-developed, column-base, paid-most, column-sum-most, paid-total}
 use Rattle.completion.specs.Asked.{Completable, rowsAsked}
@@ -30,7 +30,7 @@ use Rattle.entries.specs.Leading.{leading, passing}
 use Rattle.entries.proofs.Leading.{leading-all, asked-all, passing-all}
 use Rattle.ladder.specs.Columns.{developedIn, baseIn, Ladderable}
 use Rattle.allowance.proofs.Rates.{ratio-most}
-use Rattle.results.proofs.Places.{length-payments, length-completed}
+use Rattle.results.proofs.SectionPlaces.{length-payments, length-completed}
 use Rattle.results.proofs.Limits.{shares-most, levels-most, ahead-most, ultimates-most, addable-payments, addable-provisions, factors-most, addable-completed}
 use Rattle.engine.specs.Stages.{Separated, Printable, printedList}
 

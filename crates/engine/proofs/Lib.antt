@@ -1,4 +1,4 @@
-pub mod Questions
+pub mod RunQuestions
 pub mod Before
 pub mod Later
 pub mod Run

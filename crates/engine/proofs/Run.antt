@@ -16,11 +16,11 @@ use Rattle.rules.specs.Results.{resultsOf, resultCount}
 use Rattle.rules.specs.Demand.{ThirdDemand}
 use Rattle.rules.specs.Engine.{figureQuestions, holdsList, questions, runAnswer, runInto}
 use Rattle.laws.proofs.Questions.{both-zero}
-use Rattle.reading.proofs.Accepted.{sound-figures}
-use Rattle.results.proofs.Places.{results-length}
+use Rattle.reading.proofs.FiguresRead.{sound-figures}
+use Rattle.results.proofs.SectionPlaces.{results-length}
 use Rattle.results.proofs.Demanded.{third-demand}
 use Rattle.engine.specs.Stages.{Answers}
-use Rattle.engine.proofs.Questions.{answered, one-said}
+use Rattle.engine.proofs.RunQuestions.{answered, one-said}
 
 -- what a run that answers n and leaves `held` in the buffer `out` has to show
 abbrev pub Ran : List ℕ → List ℤ → ℕ → List ℤ → Type 0

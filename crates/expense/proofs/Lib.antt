@@ -1,1 +1,1 @@
-pub mod Most
+pub mod ReservesMost

@@ -6,7 +6,7 @@ use Rattle.rules.specs.Lists.{upTo, joined}
 use Rattle.rules.specs.Results.{shareSection, levelSection, futureLevelSection, sectionStart}
 use Rattle.composing.specs.Text.{ascii, decimal, fixed}
 use Rattle.rows.specs.Rows.{entry, level}
-use Rattle.tables.specs.Tables.{year, cell, lineEnd, lines}
+use Rattle.tables.specs.Tables.{year, cell, lineEnd, tableLines}
 
 -- year h: its share and its level, from the sections at p and q
 unfoldable pub factorLine : List ℤ → ℕ → ℕ → ℕ → List ℕ
@@ -17,4 +17,4 @@ unfoldable pub factorsTable : ℕ → List ℤ → List ℕ
 factorsTable k list =
     ascii "\nShares by development year, and levels a claim by payment year\n  year         share         level\n"
     ++ (joined (upTo (factorLine list (sectionStart k shareSection) (sectionStart k levelSection)) (k + 1))
-    ++ lines list 2 k (k + 1) (level 1 1) (sectionStart k futureLevelSection))
+    ++ tableLines list 2 k (k + 1) (level 1 1) (sectionStart k futureLevelSection))

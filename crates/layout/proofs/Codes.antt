@@ -10,8 +10,8 @@ use Rattle.rules.specs.Lists.{total}
 use Rattle.rules.specs.Record.{Kind, bitsOf, kindsOf}
 use Rattle.packing.specs.Field.{rowAt}
 use Rattle.packing.proofs.Pack.{unpack-append, pack-append, rows-are, length-row}
-use Rattle.layout.proofs.Sections.{join, Shaped}
-use Rattle.layout.proofs.Sizes.{bits-of-row}
+use Rattle.layout.proofs.LayoutSections.{join, Shaped}
+use Rattle.layout.proofs.RecordSizes.{bits-of-row}
 
 -- the widths of the fields of a layout
 abbrev pub widthsOf : List (ℕ × Kind) → List ℕ

@@ -1,3 +1,3 @@
-pub mod Sizes
-pub mod Sections
+pub mod RecordSizes
+pub mod LayoutSections
 pub mod Codes

@@ -14,11 +14,11 @@ use Rattle.rules.specs.Results.{resultCount, mostEntries, resultsOf}
 use Rattle.rules.specs.Engine.{questions, runAnswer, runInto}
 use Rattle.laws.proofs.Joined.{take-sets}
 use Rattle.laws.proofs.Questions.{both-zero}
-use Rattle.reading.proofs.Rows.{years-known, opening-yes}
-use Rattle.record.proofs.Answers.{reader-yes}
+use Rattle.reading.proofs.RowsRead.{years-known, opening-yes}
+use Rattle.record.proofs.RecordAnswers.{reader-yes}
 use Rattle.record.proofs.Number.{record-read}
-use Rattle.results.proofs.Places.{results-length}
-use Rattle.list_text.specs.Lines.{separated, entriesText, refusedText}
+use Rattle.results.proofs.SectionPlaces.{results-length}
+use Rattle.list_text.specs.EntryLines.{entriesBy, entriesText, refusedText}
 use Rattle.list_runs.specs.Runs.{runText, fieldsText}
 
 -- a refused run and a refused reading
@@ -37,7 +37,7 @@ module _ (s : List ℕ) (r : runAnswer s mostEntries ≡ 0) where
   run-some = years-known s (opening-yes s (both-zero (openingQuestions s) _ refl r .0) .0) .0
 
   pub run-accepted : (between n : ℕ) (list : List ℤ) → list ≡ runInto s (replicate mostEntries (pos 0)) → n ≡ resultCount (lastYearOf s) → n ≤ mostEntries
-      → separated between (take n list) ≡ runText between s
+      → entriesBy between (take n list) ≡ runText between s
   unfolding runInto afterCall figuresOf runText
   run-accepted between n list e f l =
       let front : take n list ≡ resultsOf (figuresOf s)

@@ -7,11 +7,11 @@ use Rattle.rules.specs.Record.{mostFields, fieldsOf, figuresOf}
 use Rattle.rules.specs.Reading.{readAnswer}
 use Rattle.rules.specs.Results.{mostEntries, resultsOf}
 use Rattle.rules.specs.Engine.{runAnswer}
-use Rattle.list_text.specs.Lines.{separated, entriesText, refusedText}
+use Rattle.list_text.specs.EntryLines.{entriesBy, entriesText, refusedText}
 
 -- the result list of the record s with a byte between its entries, or the number of its refusal
 unfoldable pub runText : ℕ → List ℕ → List ℕ
-runText between s = cond (eqb (runAnswer s mostEntries) 0) (separated between (resultsOf (figuresOf s))) (refusedText (runAnswer s mostEntries))
+runText between s = cond (eqb (runAnswer s mostEntries) 0) (entriesBy between (resultsOf (figuresOf s))) (refusedText (runAnswer s mostEntries))
 
 -- one entry a line, and all on one line
 abbrev pub listText : List ℕ → List ℕ

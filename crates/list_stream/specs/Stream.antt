@@ -14,13 +14,13 @@ unfoldable pub lengthAt : List ℕ → ℕ → ℕ
 lengthAt s p = 256 * getD s p 0 + getD s (p + 1) 0
 
 -- where the length of record i stands, i counted from 0
-unfoldable pub startOf : List ℕ → ℕ → ℕ
-startOf s zero = 0
-startOf s (suc i) = startOf s i + 2 + lengthAt s (startOf s i)
+unfoldable pub recordStart : List ℕ → ℕ → ℕ
+recordStart s zero = 0
+recordStart s (suc i) = recordStart s i + 2 + lengthAt s (recordStart s i)
 
 -- record i: the bytes behind its length
 unfoldable pub recordAt : List ℕ → ℕ → List ℕ
-recordAt s i = take (lengthAt s (startOf s i)) (drop (startOf s i + 2) s)
+recordAt s i = take (lengthAt s (recordStart s i)) (drop (recordStart s i + 2) s)
 
 -- the rows of the first n records
 unfoldable pub rowsText : List ℕ → ℕ → List ℕ
@@ -37,7 +37,7 @@ mostRow = 10758
 -- the first `count` records of s stand before place `from`, all of their rows are in the buffer and end before place `end`, and no more were taken
 -- because no whole record is left or the buffer has no room for one row more
 pub record RowsPut (s before after : List ℕ) (count from end : ℕ) : Type 0 where
-  pub place : from ≡ startOf s count
+  pub place : from ≡ recordStart s count
   pub inside : from ≤ length s
   pub put : Put before after 0 end (rowsText s count)
   pub whole : end ≡ length (rowsText s count)

@@ -8,7 +8,7 @@ ghost use mathlib.Core.Path.{_≡_};
 ghost use Prim.Native.Nat.{_≤_, _<_};
 ghost use lib.ListN.{length, take};
 ghost use Rattle.composing.specs.Text.{Put};
-ghost use Rattle.list_text.specs.Lines.{after, entryText, separated, entriesText, rowText, refusedText};
+ghost use Rattle.list_text.specs.EntryLines.{after, entryText, entriesBy, entriesText, rowText, refusedText};
 
 // The byte after entry i of n.
 fn after_entry(between: u8, n: usize, i: usize) -> u8
@@ -29,7 +29,7 @@ fn put_entry(out: &mut [u8], at: usize, z: i64, next: u8) -> usize
 // The first n entries of a list, with a byte between them and a line feed after the last.
 pub fn put_separated(out: &mut [u8], at: usize, list: &[i64], n: usize, between: u8) -> usize
     requires { ⌜ n ≤ length (now list) ⌝ }
-    ensures { λ r. ⌜ Put (now (out .entry)) (now (out .exit)) at r (separated between (take n (now (list .entry)))) ⌝ }
+    ensures { λ r. ⌜ Put (now (out .entry)) (now (out .exit)) at r (entriesBy between (take n (now (list .entry)))) ⌝ }
 {
     let mut end = at;
     for i in 0..n {

@@ -5,7 +5,7 @@ use mathlib.Core.Path.{_≡_}
 use Rattle.rules.specs.Lists.{total}
 use Rattle.rules.specs.Record.{cells}
 use Rattle.rules.specs.Results.{sectionCounts, resultCount}
-use Rattle.laws.proofs.Rows.{cells-least}
+use Rattle.laws.proofs.TriangleRows.{cells-least}
 
 -- the sections' counts summed
 sum-of-counts : (k c : ℕ) → k + 1 ≤ c

@@ -7,7 +7,7 @@ use Rattle.rules.specs.Triangle.{futureStart}
 use Rattle.rules.specs.Lists.{total}
 use Rattle.rules.specs.Record.{cells}
 use Rattle.rules.specs.Results.{averageSection, shareSection, levelSection, futureLevelSection, paymentSection, provisionSection, provisionTotalSection, notReportedSection, reserveSection, reserveTotalSection, ratioSection, factorSection, completedSection, sectionCounts, sectionStart}
-use Rattle.laws.proofs.Rows.{cells-least}
+use Rattle.laws.proofs.TriangleRows.{cells-least}
 use Rattle.listing.specs.declared.Starts.{Starts}
 use Rattle.listing.specs.Starts.{startsOf}
 

@@ -14,7 +14,7 @@ use Rattle.rules.specs.Record.{cells}
 use Rattle.rules.specs.Triangle.{rowStart, cellOf}
 use Rattle.rules.specs.Completion.{mostUltimate}
 use Rattle.laws.proofs.Lists.{length-upTo, total-most}
-use Rattle.laws.proofs.Rows.{cells-twice, rows-all}
+use Rattle.laws.proofs.TriangleRows.{cells-twice, rows-all}
 use Rattle.laws.proofs.Joined.{sets-append, joined-more, past-length}
 use Rattle.listing.specs.Starts.{averageRowOf, Addable}
 

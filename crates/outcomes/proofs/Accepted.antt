@@ -15,7 +15,7 @@ use Rattle.rules.specs.Ladder.{completedAll, completedPass}
 use Rattle.rules.specs.Results.{mostEntries, paidIn, developmentIn, resultsOf}
 use Rattle.rules.specs.Engine.{completionQuestions, ratioQuestions, ladderQuestions, laterQuestions, figureQuestions, runAnswer, runInto}
 use Rattle.laws.proofs.Questions.{yes-said}
-use Rattle.results.proofs.Places.{results-length}
+use Rattle.results.proofs.SectionPlaces.{results-length}
 use Rattle.outcomes.specs.Outcome.{filledBy}
 use Rattle.outcomes.proofs.Passed.{accepted, room, figures-answer}
 

@@ -21,8 +21,8 @@ use Rattle.laws.proofs.Lists.{both-left, both-right}
 use Rattle.laws.proofs.Questions.{yes-said}
 use Rattle.triangle.specs.Bounds.{Increments, Exposures}
 use Rattle.reading.specs.Sound.{Sound}
-use Rattle.reading.proofs.Accepted.{sound-figures}
-use Rattle.reading.proofs.Rows.{years-known, opening-yes}
+use Rattle.reading.proofs.FiguresRead.{sound-figures}
+use Rattle.reading.proofs.RowsRead.{years-known, opening-yes}
 
 -- the answer is the number of none of the first six questions
 pub record Late (s : List ℕ) : Type 0 where

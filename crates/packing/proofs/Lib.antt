@@ -1,3 +1,3 @@
 pub mod Pack
-pub mod Places
+pub mod BitPlaces
 pub mod Puts

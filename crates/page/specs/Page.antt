@@ -8,7 +8,7 @@ use Rattle.rules.specs.Triangle.{futureStart}
 use Rattle.rules.specs.Results.{averageSection, paymentSection, ratioSection, factorSection, completedSection, sectionStart}
 use Rattle.composing.specs.Text.{ascii, fixed}
 use Rattle.rows.specs.Rows.{entry, falling, rising, level}
-use Rattle.tables.specs.Tables.{lineEnd, lines, triangle}
+use Rattle.tables.specs.Tables.{lineEnd, tableLines, triangle}
 use Rattle.factors_table.specs.Factors.{factorsTable}
 use Rattle.amounts_table.specs.Amounts.{amountsTable}
 
@@ -32,7 +32,7 @@ ratioLine k list = ascii "\nULAE ratio " ++ (fixed 6 (entry list (sectionStart k
 unfoldable pub developmentTable : ℕ → List ℤ → List ℕ
 developmentTable k list =
     ascii "\nChain ladder: development factors, from each development year to the next\n  year        factor\n"
-    ++ lines list 6 k 0 (level 0 1) (sectionStart k factorSection)
+    ++ tableLines list 6 k 0 (level 0 1) (sectionStart k factorSection)
 
 -- the cumulatives that the chain ladder completes, at the right of the cells of what is given
 unfoldable pub completedTable : ℕ → List ℤ → List ℕ

@@ -9,7 +9,7 @@ use Rattle.rules.specs.Results.{levelSection, futureLevelSection, sectionStart}
 use Rattle.rows.specs.Rows.{entry}
 use Rattle.sizes.specs.Sizes.{mostSize}
 use Rattle.sizes.proofs.Sizes.{largest-most}
-use Rattle.plots.specs.Plots.{largestLevel, shareOf, runningShare}
+use Rattle.plots.specs.Plots.{largestLevel, shareDrawn, runningShare}
 
 pub level-most : (k : ℕ) (list : List ℤ) → largestLevel k list ≤ mostSize
 unfolding largestLevel
@@ -20,7 +20,7 @@ pub running-none : (list : List ℤ) (p : ℕ) → 0 ≡ runningShare list p 0
 unfolding runningShare
 running-none list p = refl
 
-pub running-suc : (list : List ℤ) (p n : ℕ) → runningShare list p n + shareOf (entry list (p + n)) ≡ runningShare list p (suc n)
+pub running-suc : (list : List ℤ) (p n : ℕ) → runningShare list p n + shareDrawn (entry list (p + n)) ≡ runningShare list p (suc n)
 unfolding runningShare
 running-suc list p n = refl
 

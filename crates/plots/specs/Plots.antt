@@ -26,13 +26,13 @@ levelsPlot k list =
     ++ (joined (upTo (levelBar list (largestLevel k list) (k + 1) (sectionStart k futureLevelSection)) k) ++ ascii "</g>\n</svg>\n")))
 
 -- a share in billionths, at most the whole
-abbrev pub shareOf : ℤ → ℕ
-shareOf z = min (natAbs z) billion
+abbrev pub shareDrawn : ℤ → ℕ
+shareDrawn z = min (natAbs z) billion
 
 -- the sum of the first n shares, of the section at place p
 unfoldable pub runningShare : List ℤ → ℕ → ℕ → ℕ
 runningShare list p zero = 0
-runningShare list p (suc n) = runningShare list p n + shareOf (entry list (p + n))
+runningShare list p (suc n) = runningShare list p n + shareDrawn (entry list (p + n))
 
 -- the running share of development year h: the shares of the years 0 to h
 unfoldable pub shareBar : List ℤ → ℕ → ℕ → List ℕ

@@ -20,7 +20,7 @@ ghost use Rattle.rules.specs.Results.{shareSection, levelSection, futureLevelSe
 ghost use Rattle.composing.specs.Text.{fixed, Put};
 ghost use Rattle.sizes.specs.Sizes.{mostSize, limited, scaled};
 ghost use Rattle.bars.specs.Bars.{bar};
-ghost use Rattle.plots.specs.Plots.{levelBar, largestLevel, levelsPlot, shareOf, shareBar, sharesPlot};
+ghost use Rattle.plots.specs.Plots.{levelBar, largestLevel, levelsPlot, shareDrawn, shareBar, sharesPlot};
 
 // The level of a year.
 fn put_level(out: &mut [u8], at: usize, largest: u64, h: usize, level: i64) -> usize
@@ -88,7 +88,7 @@ fn put_levels_plot(
 
 // A share in billionths, at most the whole.
 fn share_of(x: i64) -> u64
-    ensures { λ r. ⌜ r ≡ shareOf x ⌝ }
+    ensures { λ r. ⌜ r ≡ shareDrawn x ⌝ }
 {
     let size = size_of(x);
     if size < BILLION { size } else { BILLION }

@@ -1,7 +1,7 @@
-pub mod Amounts
-pub mod Rows
-pub mod Lists
+pub mod AmountsRead
+pub mod RowsRead
+pub mod ListsRead
 pub mod Reached
 pub mod Ranges
-pub mod Answers
-pub mod Accepted
+pub mod ReadAnswers
+pub mod FiguresRead

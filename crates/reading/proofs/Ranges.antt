@@ -15,11 +15,11 @@ use Rattle.entries.specs.Leading.{passing}
 use Rattle.packing.specs.Field.{rowAt}
 use Rattle.layout.specs.Places.{placesOf}
 use Rattle.layout.specs.declared.Places.{Places}
-use Rattle.layout.proofs.Sizes.{bytes-room, bytes-least, bits-most, starts}
-use Rattle.laws.proofs.Rows.{cells-most}
+use Rattle.layout.proofs.RecordSizes.{bytes-room, bytes-least, bits-most, starts}
+use Rattle.laws.proofs.TriangleRows.{cells-most}
 use Rattle.reading.specs.Reading.{RowInside, rowRead}
-use Rattle.reading.proofs.Rows.{Whole, ranges-are, codes-row, rows, years-field}
-use Rattle.reading.proofs.Lists.{codes, one-row}
+use Rattle.reading.proofs.RowsRead.{Whole, ranges-are, codes-row, rows, years-field}
+use Rattle.reading.proofs.ListsRead.{codes, one-row}
 use Rattle.reading.proofs.Reached.{kindAt, rowFits, reached, unreached, rows-pass, row-fails, row-passes}
 
 -- whether every field of row i is in range

@@ -12,7 +12,7 @@ use Rattle.rules.specs.Lists.{every}
 use Rattle.rules.specs.Record.{Kind, lastYear, section, bitsInRange}
 use Rattle.entries.specs.Leading.{passing}
 use Rattle.laws.proofs.Lists.{both-left, both-right}
-use Rattle.layout.proofs.Sections.{everyRow}
+use Rattle.layout.proofs.LayoutSections.{everyRow}
 use Rattle.reading.specs.Reading.{rowsRead}
 
 -- the kind of the fields of row i

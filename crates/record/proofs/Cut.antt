@@ -12,9 +12,9 @@ use Rattle.rules.specs.Lists.{total, every}
 use Rattle.rules.specs.Record.{Figures, figures, Kind, million, layout, kindsOf, section, fieldCount, byteCount, inRange, exposuresIn, incrementsIn, indicesIn, reportingIn, weightIn, ulaeIn}
 use Rattle.rules.specs.Writing.{givenIn, givenFields}
 use Rattle.laws.proofs.Lists.{both-left, both-right}
-use Rattle.layout.proofs.Sections.{join, Shaped, everyRow, length-join, section-join, every-join}
-use Rattle.layout.proofs.Sizes.{fields-count}
-use Rattle.record.proofs.Answers.{Taken}
+use Rattle.layout.proofs.LayoutSections.{join, Shaped, everyRow, length-join, section-join, every-join}
+use Rattle.layout.proofs.RecordSizes.{fields-count}
+use Rattle.record.proofs.RecordAnswers.{Taken}
 use Rattle.record.proofs.Field.{not-below}
 use Rattle.record.proofs.Fields.{RecordFields}
 

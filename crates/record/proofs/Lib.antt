@@ -1,6 +1,6 @@
 pub mod Field
 pub mod Fields
 pub mod Number
-pub mod Answers
+pub mod RecordAnswers
 pub mod Cut
 pub mod RoundTrip

@@ -13,7 +13,7 @@ use Rattle.rules.specs.Lists.{total}
 use Rattle.rules.specs.Record.{Kind, lastYear, layout, kindsOf, fieldCount, widths, bitCount, byteCount, fillingCount, valueOf, codeOf, bitsInRange, everyField, lastYearOf, codesOf, fillingOf, fieldsOf, recordOf}
 use Rattle.rules.specs.Packing.{Fit}
 use Rattle.packing.proofs.Pack.{Fits, pack-lt, unpack-pack, pack-unpack, unpack-fits, number-append, number-lt, bytes-number, number-bytes, length-bytes, bytes-small}
-use Rattle.layout.proofs.Sizes.{bytes-room, years-lt}
+use Rattle.layout.proofs.RecordSizes.{bytes-room, years-lt}
 use Rattle.record.proofs.Fields.{RecordFields, fields-coded, all-valued}
 
 -- the first byte is the bits before those of the others

@@ -15,13 +15,13 @@ use Rattle.rules.specs.Packing.{Fit}
 use Rattle.rules.specs.Lists.{every}
 use Rattle.rules.specs.Engine.{figureQuestions, holdsList, questions, runAnswer}
 use Rattle.packing.proofs.Pack.{bytes-small}
-use Rattle.layout.proofs.Sizes.{years-lt}
-use Rattle.reading.proofs.Rows.{Whole}
-use Rattle.reading.proofs.Answers.{listOf, list-same}
+use Rattle.layout.proofs.RecordSizes.{years-lt}
+use Rattle.reading.proofs.RowsRead.{Whole}
+use Rattle.reading.proofs.ReadAnswers.{listOf, list-same}
 use Rattle.laws.proofs.Questions.{both-zero, later-answer}
 use borrow.Author.Tests.{le-leb}
 use native.Mathlib.Nat.{le-refl}
-use Rattle.record.proofs.Answers.{Accepted, Taken, reader-yes, yes-reader, writer-yes, yes-writer}
+use Rattle.record.proofs.RecordAnswers.{Accepted, Taken, reader-yes, yes-reader, writer-yes, yes-writer}
 use Rattle.record.proofs.Cut.{cutBy, given-stored, given-cut, cut-taken, given-fields, given-again}
 use Rattle.record.proofs.Fields.{RecordFields}
 use Rattle.record.proofs.Number.{record-made, record-read}

@@ -17,7 +17,7 @@ use Rattle.rules.specs.Results.{shareSection, levelSection, squareOf, latestOf,
 use Rattle.rules.specs.Demand.{printed, printedSquare, Carried, ThirdDemand}
 use Rattle.laws.proofs.Totals.{total-same}
 use Rattle.laws.proofs.Padded.{filled-at}
-use Rattle.totals.proofs.Most.{diagonal-most}
+use Rattle.totals.proofs.TotalsMost.{diagonal-most}
 use Rattle.accuracy.proofs.Near.{near-exact, share-most}
 use Rattle.totals.proofs.Square.{zero-outside}
 use Rattle.allowance.proofs.Carried.{Basis, payment-near, provision-near, provisions-near, reserve-near, reserves-near}

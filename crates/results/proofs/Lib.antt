@@ -1,4 +1,4 @@
-pub mod Places
+pub mod SectionPlaces
 pub mod Printed
 pub mod Demanded
 pub mod Limits

@@ -16,10 +16,10 @@ use Rattle.rules.specs.Ladder.{developed, base, developmentFactors, completedAl
 use Rattle.rules.specs.Results.{averageSection, shareSection, levelSection, paymentSection, provisionSection, provisionTotalSection, reserveSection, reserveTotalSection, ratioSection, sectionCount, sectionCounts, resultCount, sectionStart, separationSections, completionSections, reserveSections, ladderSections, squareOf, latestOf, factorsIn, paidIn, levelsIn, provisionsIn, developmentIn, ratioIn, sections, resultsOf}
 use Rattle.rules.specs.Demand.{entryOf, printed, printedSquare}
 use Rattle.laws.proofs.Lists.{length-upTo, getD-upTo, upTo-ext}
-use Rattle.laws.proofs.Rows.{rows-all}
+use Rattle.laws.proofs.TriangleRows.{rows-all}
 use Rattle.laws.proofs.Joined.{past-length, past-at, future-length, joined-at, row-inside, append-all}
 use Rattle.totals.proofs.Square.{cell-inside}
-use Rattle.results.proofs.Places.{numbers-size, length-payments, section-entry, section-inside, results-length}
+use Rattle.results.proofs.SectionPlaces.{numbers-size, length-payments, section-entry, section-inside, results-length}
 
 -- an entry of a list of numbers
 number-at : (g : ℕ → ℕ) (n j : ℕ) → j < n → getD (map pos (upTo g n)) j (pos 0) ≡ pos (g j)

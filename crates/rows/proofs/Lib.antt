@@ -1,3 +1,3 @@
 pub mod Counts
 pub mod Begun
-pub mod Places
+pub mod RowPlaces

@@ -2,4 +2,4 @@ pub mod Passing
 pub mod Totals
 pub mod Corners
 pub mod Steps
-pub mod Questions
+pub mod FactorQuestions

@@ -9,7 +9,7 @@ use Rattle.rules.specs.Triangle.{cellOf, columnTotal}
 use Rattle.rules.specs.Separation.{restsPass}
 use Rattle.laws.proofs.Adding.{sumTo-size}
 use Rattle.triangle.specs.Bounds.{mostAverage, Cells}
-use Rattle.totals.proofs.Most.{diagonal-most, corner-most}
+use Rattle.totals.proofs.TotalsMost.{diagonal-most, corner-most}
 use Rattle.totals.proofs.Walk.{column-walk}
 use Rattle.totals.proofs.Whole.{totals}
 use Rattle.separation.specs.Walk.{TotalsOf, CornersOf, Ready}

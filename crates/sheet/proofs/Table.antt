@@ -12,17 +12,17 @@ use lib.Seq.{length-take-le}
 use Rattle.rules.specs.Lists.{every, upTo, total}
 use Rattle.rules.specs.Record.{cells, million, mostIndex, mostAmount, mostFields}
 use Rattle.rules.specs.Triangle.{rowStart}
-use Rattle.laws.proofs.Rows.{rows-all, cells-most}
+use Rattle.laws.proofs.TriangleRows.{rows-all, cells-most}
 use Rattle.laws.proofs.Totals.{total-more, total-part}
 use Rattle.composing.specs.Text.{ascii, Put}
 use Rattle.composing.proofs.Puts.{put-back, put-length}
 use Rattle.scanning.specs.Parts.{among, before, until, from, past, onto, pieces}
-use Rattle.cells.specs.Cells.{fromLabel, afterLabel, separators, unspaced, trimmed, unquoted, cellOf, filled, used, cellsBy, decider, cellsText, cellsOf}
+use Rattle.cells.specs.Cells.{fromLabel, afterLabel, separators, unspaced, trimmed, unquoted, cellFrom, filled, used, cellsBy, decider, cellsText, cellsOf}
 use Rattle.sheet.specs.Table.{labels, due, lineCount, dueAt}
 
 -- the words of the code's text are the labels: by computing
 pub labels-are : cellsOf (ascii "labels k exposures paid indices reporting weight ulae") ≡ labels
-unfolding labels cellsOf decider cellsText cellsBy used filled cellOf unquoted trimmed unspaced separators afterLabel fromLabel pieces onto past from until before among every
+unfolding labels cellsOf decider cellsText cellsBy used filled cellFrom unquoted trimmed unspaced separators afterLabel fromLabel pieces onto past from until before among every
 labels-are = refl
 
 -- each has at most nine bytes

@@ -11,7 +11,7 @@ ghost use lib.ListN.{length, take, drop};
 ghost use Rattle.rules.specs.Lists.{padded};
 ghost use Rattle.rules.specs.Record.{byteCount, mostBytes, mostFields};
 ghost use Rattle.rules.specs.Writing.{writeAnswer, writeInto};
-ghost use Rattle.sheet_fields.specs.Rows.{givenAt, rowsOf};
+ghost use Rattle.sheet_fields.specs.FieldRows.{givenAt, rowsOf};
 
 // The rows of natural numbers of a record.
 pub struct Rows {

@@ -19,10 +19,10 @@ use Rattle.sheet.specs.Table.{dueAt}
 use Rattle.sheet.specs.Sheet.{Typed, lastYearIn, readSheet, packAnswer, packInto}
 use Rattle.sheet_reading.specs.Reads.{Reads}
 use Rattle.sheet_reading.proofs.Known.{sheet-known}
-use Rattle.sheet_fields.specs.Rows.{givenAt}
-use Rattle.sheet_fields.proofs.Sections.{given-front}
+use Rattle.sheet_fields.specs.FieldRows.{givenAt}
+use Rattle.sheet_fields.proofs.FieldSections.{given-front}
 use Rattle.sheet_wording.specs.Problem.{problemLine, problemText}
-use Rattle.sheet_packing.specs.Said.{refusedText, saidOf, sizeOf}
+use Rattle.sheet_packing.specs.Said.{refusedFront, saidOf, sizeOf}
 
 -- of a text put into a buffer, what fits is there
 put-front : {a b : List ℕ} {j : ℕ} {xs : List ℕ} → Put a b 0 j xs → take j b ≡ take (length a) xs
@@ -68,7 +68,7 @@ module _ (text : List ℕ) (f : Found) (list : List ℤ) (word : List ℕ) (h : 
 
   -- something is wrong with the text
   pub wrong : (f .problem ≡ 0 → ⊥) → (buffer : List ℕ) → (buffer ≡ packInto t buffer) × ((0 ≡ sizeOf t)
-      × (refusedText (f .problem) (f .place) ++ problemLine (f .problem) (f .line) (dueAt (lastYearIn (take (f .count) list)) (f .place)) (f .cell) (take (f .word) word) ≡ saidOf t))
+      × (refusedFront (f .problem) (f .place) ++ problemLine (f .problem) (f .line) (dueAt (lastYearIn (take (f .count) list)) (f .place)) (f .cell) (take (f .word) word) ≡ saidOf t))
   unfolding packInto sizeOf saidOf problemText
   wrong some buffer =
       let no = ne-eqb (t .problem) 0 (λ e. some (problem ∙ e)) in

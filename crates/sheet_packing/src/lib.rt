@@ -18,7 +18,7 @@ ghost use Rattle.composing.specs.Text.{Put};
 ghost use Rattle.sheet.specs.Table.{dueAt};
 ghost use Rattle.sheet.specs.Sheet.{lastYearIn, readSheet, packInto};
 ghost use Rattle.sheet_wording.specs.Problem.{problemLine};
-ghost use Rattle.sheet_packing.specs.Said.{refusedText, saidOf, sizeOf};
+ghost use Rattle.sheet_packing.specs.Said.{refusedFront, saidOf, sizeOf};
 
 // How many bytes of the record and of the message there are: one of the two is none.
 pub struct Outcome {
@@ -28,7 +28,7 @@ pub struct Outcome {
 
 // The refusal in front, where a number is out of its range.
 fn put_refused(out: &mut [u8], problem: u64, place: usize) -> usize
-    ensures { λ r. ⌜ Put (now (out .entry)) (now (out .exit)) 0 r (refusedText problem place) ⌝ }
+    ensures { λ r. ⌜ Put (now (out .entry)) (now (out .exit)) 0 r (refusedFront problem place) ⌝ }
 {
     if problem != 4 {
         return 0;
@@ -43,7 +43,7 @@ fn put_refused(out: &mut [u8], problem: u64, place: usize) -> usize
 fn put_wrong(out: &mut [u8], f: Found, list: &[i64], word: &[u8]) -> usize
     requires { ⌜ (f .count ≤ length (now list)) × ((lastYearIn (take (f .count) (now list)) < 16) × (f .word ≤ length (now word))) ⌝ }
     ensures { λ r. ⌜ Put (now (out .entry)) (now (out .exit)) 0 r
-        (refusedText (f .problem) (f .place)
+        (refusedFront (f .problem) (f .place)
         ++ problemLine (f .problem) (f .line) (dueAt (lastYearIn (take (f .count) (now (list .entry)))) (f .place)) (f .cell) (take (f .word) (now (word .entry)))) ⌝ }
 {
     let k = last_year(list, f.count) as usize;

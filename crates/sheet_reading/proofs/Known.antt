@@ -12,7 +12,7 @@ use lib.Signed.{leZ}
 use Rattle.rules.specs.Lists.{every, upTo, total}
 use Rattle.rules.specs.Record.{cells, mostFields}
 use Rattle.laws.proofs.Lists.{both-left, both-right}
-use Rattle.laws.proofs.Rows.{cells-most}
+use Rattle.laws.proofs.TriangleRows.{cells-most}
 use Rattle.laws.proofs.Totals.{total-part}
 use Rattle.scanning.specs.Numbers.{isNumber, wholeOf}
 use Rattle.cells.specs.Cells.{isBare, labelOf, cellsOf, contentOf, isWithin}

@@ -1,3 +1,3 @@
-pub mod Lines
+pub mod LinesRead
 pub mod Known
 pub mod Turns

@@ -17,7 +17,7 @@ use Rattle.sheet.specs.declared.Found.{Found}
 use Rattle.sheet.specs.Table.{lineCount}
 use Rattle.sheet.specs.Sheet.{Typed, typed, fine, lastYearIn, unmarked, lines, readLine, readLines, readSheet}
 use Rattle.sheet_reading.specs.Reads.{found, Reads, Good}
-use Rattle.sheet_reading.proofs.Lines.{sets-same}
+use Rattle.sheet_reading.proofs.LinesRead.{sets-same}
 use Rattle.sheet_reading.proofs.Known.{Step, line-step, good-none, good-most}
 
 -- before the lines ls, nothing wrong so far

@@ -6,15 +6,15 @@ use native.Mathlib.Omega.{arith}
 use lib.IntN.{ℤ, natAbs}
 use lib.ListN.{length, take, drop, length-append, length-take}
 use Rattle.rules.specs.Lists.{upTo, total}
-use Rattle.laws.proofs.Rows.{cells-most}
-use Rattle.layout.proofs.Sizes.{fields-count}
+use Rattle.laws.proofs.TriangleRows.{cells-most}
+use Rattle.layout.proofs.RecordSizes.{fields-count}
 use Rattle.composing.specs.Text.{decimal, sign, integer}
 use Rattle.composing.proofs.Decimals.{length-most, length-sign}
 use Rattle.sheet.specs.declared.Due.{Due}
 use Rattle.sheet.specs.Table.{labels, labelDue, lineCount, dueAt, dueLines}
 use Rattle.sheet.specs.Sheet.{spaced, lineOf, linesOf, lastYearIn, sheetOf}
 use Rattle.sheet.proofs.Table.{due-paid, due-indices, due-reporting, due-weight, due-ulae}
-use Rattle.sheet_writing.proofs.Lines.{countsOf, sheet-counts}
+use Rattle.sheet_writing.proofs.LinesPut.{countsOf, sheet-counts}
 
 -- a number takes at most 21 places, and a space before it
 spaced-length : (vs : List ℤ) → length (spaced vs) ≤ 22 * length vs

@@ -1,4 +1,4 @@
-pub mod Numbers
+pub mod NumbersBack
 pub mod Words
 pub mod Sheets
 pub mod Ranges

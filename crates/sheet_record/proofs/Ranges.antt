@@ -14,7 +14,7 @@ use Rattle.rules.specs.Lists.{upTo}
 use Rattle.rules.specs.Triangle.{rowStart}
 use Rattle.rules.specs.Record.{Kind, layout, kindsOf, inRange, everyField, signOf, cells, million, mostAmount, mostIndex}
 use Rattle.laws.proofs.Lists.{both-left, both-right}
-use Rattle.laws.proofs.Rows.{rows-all}
+use Rattle.laws.proofs.TriangleRows.{rows-all}
 use Rattle.record.proofs.Fields.{RecordFields}
 use Rattle.scanning.specs.Numbers.{ceiling}
 use Rattle.sheet.specs.declared.Due.{Due}

@@ -14,8 +14,8 @@ use Rattle.rules.specs.Record.{fieldCount, lastYearOf, fieldsOf, mostFields}
 use Rattle.rules.specs.Reading.{readAnswer, readInto}
 use Rattle.rules.specs.Writing.{givenIn, writeAnswer, writeInto}
 use Rattle.laws.proofs.Lists.{length-upTo}
-use Rattle.layout.proofs.Sizes.{fields-count, years-lt}
-use Rattle.record.proofs.Answers.{reader-yes, yes-reader}
+use Rattle.layout.proofs.RecordSizes.{fields-count, years-lt}
+use Rattle.record.proofs.RecordAnswers.{reader-yes, yes-reader}
 use Rattle.record.proofs.Fields.{RecordFields}
 use Rattle.record.proofs.RoundTrip.{written-again}
 use Rattle.composing.specs.Text.{Put}
@@ -23,7 +23,7 @@ use Rattle.composing.proofs.Puts.{put-back}
 use Rattle.sheet.specs.Table.{labels, lineCount, dueAt}
 use Rattle.sheet.specs.Sheet.{lineOf, linesOf, lastYearIn, sheetOf, unmarked, fine, readSheet, recordSize, packAnswer, packInto}
 use Rattle.sheet_writing.specs.Shown.{shownText}
-use Rattle.sheet_writing.proofs.Lines.{countsOf, sheet-counts}
+use Rattle.sheet_writing.proofs.LinesPut.{countsOf, sheet-counts}
 use Rattle.sheet_writing.proofs.Unpacked.{accepted-fields}
 use Rattle.sheet_record.proofs.Length.{sheet-length}
 use Rattle.sheet_record.proofs.Ranges.{fields-sound}

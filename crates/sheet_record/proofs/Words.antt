@@ -13,10 +13,10 @@ use Rattle.rules.specs.Lists.{every}
 use Rattle.laws.proofs.Lists.{every-append, every-at, both-left, both-right}
 use Rattle.composing.specs.Text.{ascii, integer}
 use Rattle.scanning.specs.Parts.{among, fails, before, until, from, pieces, onto}
-use Rattle.cells.specs.Cells.{lastOf, unreturned, contentOf, isBare, fromLabel, labelOf, afterLabel, separators, trimmed, unquoted, cellOf, filled, used, cellsBy, decider, cellsText, cellsOf}
-use Rattle.cells.proofs.Lines.{unspaced-here}
+use Rattle.cells.specs.Cells.{lastOf, unreturned, contentOf, isBare, fromLabel, labelOf, afterLabel, separators, trimmed, unquoted, cellFrom, filled, used, cellsBy, decider, cellsText, cellsOf}
+use Rattle.cells.proofs.CellLines.{unspaced-here}
 use Rattle.sheet.specs.Sheet.{spaced, lines}
-use Rattle.sheet_record.proofs.Numbers.{plain, tame, every-of, integer-plain, integer-some}
+use Rattle.sheet_record.proofs.NumbersBack.{plain, tame, every-of, integer-plain, integer-some}
 
 -- what is known of a plain byte
 pub record Plain (b : ℕ) : Type 0 where
@@ -179,8 +179,8 @@ word-unquoted w h =
     let quote : eqb (getD w 0 0) 34 ≡ false = rw (h .is) (first-plain w h .quote) in
     rw (quote, and-false (leb 2 (length w)))
 
-word-cell : (w : List ℕ) → Word w → cellOf w ≡ w
-unfolding cellOf
+word-cell : (w : List ℕ) → Word w → cellFrom w ≡ w
+unfolding cellFrom
 word-cell w h = ap unquoted (word-trimmed w h) ∙ word-unquoted w h
 
 -- the pieces between blanks of a word and the numbers after it
@@ -198,7 +198,7 @@ spaced-pieces w (v ∷ vs) h =
     pieces-end blanks w 32 (integer v ++ spaced vs) h refl ∙ ap (λ (l : List (List ℕ)). w ∷ l) (spaced-pieces (integer v) vs (number-blankless v))
 
 -- none of them is empty, and each is a cell
-numbers-cells : (vs : List ℤ) → map cellOf (used (filled (map integer vs))) ≡ map integer vs
+numbers-cells : (vs : List ℤ) → map cellFrom (used (filled (map integer vs))) ≡ map integer vs
 unfolding filled used every among
 numbers-cells [] = refl
 numbers-cells (v ∷ vs) =

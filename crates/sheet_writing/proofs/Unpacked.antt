@@ -11,8 +11,8 @@ use Rattle.rules.specs.Packing.{Fit}
 use Rattle.rules.specs.Questions.{afterCall}
 use Rattle.rules.specs.Record.{fieldCount, lastYearOf, fieldsOf, mostFields}
 use Rattle.rules.specs.Reading.{readAnswer, readInto}
-use Rattle.layout.proofs.Sizes.{fields-count, years-lt}
-use Rattle.record.proofs.Answers.{reader-yes}
+use Rattle.layout.proofs.RecordSizes.{fields-count, years-lt}
+use Rattle.record.proofs.RecordAnswers.{reader-yes}
 use Rattle.record.proofs.Fields.{RecordFields}
 use Rattle.record.proofs.Number.{record-read}
 use Rattle.composing.specs.Text.{Put}
@@ -21,7 +21,7 @@ use Rattle.sheet.specs.declared.Due.{Due}
 use Rattle.sheet.specs.Table.{dueLines}
 use Rattle.sheet.specs.Sheet.{linesOf, lastYearIn, sheetOf}
 use Rattle.sheet_writing.specs.Shown.{shownText}
-use Rattle.sheet_writing.proofs.Lines.{countsOf, sheet-counts}
+use Rattle.sheet_writing.proofs.LinesPut.{countsOf, sheet-counts}
 
 -- lines look at no more entries than they have numbers
 lines-first : (ds : List Due) (vs ys : List ℤ) → countsOf ds ≤ length vs → linesOf ds (vs ++ ys) ≡ linesOf ds vs

@@ -29,8 +29,8 @@ unfoldable pub line : List ℤ → ℕ → ℕ → ℕ → ℕ → ℕ → List 
 line list d y blank n p = year (decimal y) ++ (spaces (14 * blank) ++ (cellsFrom list d p n ++ lineEnd))
 
 -- n lines for the years from y on: the entries of the list from place p on, one after another
-abbrev pub lines : List ℤ → ℕ → ℕ → ℕ → Rows → ℕ → List ℕ
-lines list d n y r p = rowsBy (line list d) n y r p
+abbrev pub tableLines : List ℤ → ℕ → ℕ → ℕ → Rows → ℕ → List ℕ
+tableLines list d n y r p = rowsBy (line list d) n y r p
 
 -- the heading of a triangle: the development years 0 to k
 unfoldable pub yearsLine : ℕ → List ℕ
@@ -38,4 +38,4 @@ yearsLine k = year (ascii "year") ++ (joined (upTo (λ j. cell (decimal j)) (k +
 
 -- a triangle under its title: a line for each origin year
 unfoldable pub triangle : List ℕ → ℕ → List ℤ → ℕ → Rows → ℕ → List ℕ
-triangle title k list d r p = title ++ (yearsLine k ++ lines list d (k + 1) 0 r p)
+triangle title k list d r p = title ++ (yearsLine k ++ tableLines list d (k + 1) 0 r p)

@@ -12,7 +12,7 @@ ghost use Rattle.rules.specs.Lists.{upTo, joined};
 ghost use Rattle.rules.specs.Results.{mostEntries};
 ghost use Rattle.composing.specs.Text.{decimal, fixed, right, Put};
 ghost use Rattle.rows.specs.Rows.{entry, entriesIn};
-ghost use Rattle.tables.specs.Tables.{cell, yearsLine, cellsFrom, line, lines, triangle};
+ghost use Rattle.tables.specs.Tables.{cell, yearsLine, cellsFrom, line, tableLines, triangle};
 
 // Columns for the development years before n.
 fn put_year_cells(out: &mut [u8], at: usize, n: usize) -> usize
@@ -101,7 +101,7 @@ pub fn put_lines(
     p: usize,
 ) -> usize
     requires { ⌜ (y + n ≤ 32) × ((rows .blank ≤ 16) × ((rows .up ≤ 1) × (p + entriesIn n rows ≤ mostEntries))) ⌝ }
-    ensures { λ r. ⌜ Put (now (out .entry)) (now (out .exit)) at r (lines (now (list .entry)) d n y rows p) ⌝ }
+    ensures { λ r. ⌜ Put (now (out .entry)) (now (out .exit)) at r (tableLines (now (list .entry)) d n y rows p) ⌝ }
 {
     let mut end = at;
     let mut row = rows;

@@ -2,5 +2,5 @@ pub mod Cells
 pub mod Corners
 pub mod Walk
 pub mod Whole
-pub mod Most
+pub mod TotalsMost
 pub mod Square

@@ -14,7 +14,7 @@ use Rattle.rules.specs.Expense.{paidTotal}
 use Rattle.rules.specs.Ladder.{developed, base}
 use Rattle.laws.proofs.Lists.{length-upTo, getD-upTo, every-upTo}
 use Rattle.laws.proofs.Joined.{upTo-all, padded-all}
-use Rattle.laws.proofs.Rows as starts
+use Rattle.laws.proofs.TriangleRows as starts
 use Rattle.laws.proofs.Totals.{total-none, total-more, total-same, total-cut, sumTo-parts}
 use Rattle.entries.proofs.Leading.{leading-all}
 use Rattle.triangle.specs.Columns.{cumulativeIn, columnSum, rowsPassing}

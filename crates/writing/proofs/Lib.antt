@@ -1,4 +1,4 @@
-pub mod Signs
-pub mod Rows
+pub mod WrittenSigns
+pub mod RowsGiven
 pub mod Recorded
-pub mod Answers
+pub mod WriteAnswers

@@ -16,10 +16,10 @@ use Rattle.packing.specs.Pending.{packedSo, placeOf, Packable, PackedOn}
 use Rattle.rules.specs.Packing.{Fit}
 use Rattle.packing.proofs.Pack.{bytes-number}
 use Rattle.packing.proofs.Puts.{packed-none, packed-then, ready-then}
-use Rattle.layout.proofs.Sizes.{bytes-room, bits-most}
+use Rattle.layout.proofs.RecordSizes.{bytes-room, bits-most}
 use Rattle.layout.proofs.Codes.{widthsOf, total-row, packRows, pack-rows}
 use Rattle.writing.specs.Writing.{Writable}
-use Rattle.writing.proofs.Rows.{few-years, rowsOf, rowCodes, codes-shaped, Lengths, lengths-are, rows-layout, codes-join}
+use Rattle.writing.proofs.RowsGiven.{few-years, rowsOf, rowCodes, codes-shaped, Lengths, lengths-are, rows-layout, codes-join}
 
 -- nothing is pending
 abbrev pub none : Pending

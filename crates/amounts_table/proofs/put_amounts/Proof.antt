@@ -2,7 +2,7 @@
 use native.Mathlib.Omega.{arith}
 use Rattle.composing.proofs.Puts.{put-three}
 use Rattle.amounts_table.specs.Amounts.{amountsTable}
-use Rattle.rows.proofs.Places.{placed}
+use Rattle.rows.proofs.RowPlaces.{placed}
 use borrow.Author.Needs.{needs}
 use Rattle.amounts_table.proofs.put_amounts.Statement.{statement}
 use Rattle.amounts_table.proofs.put_amounts.Tie as tie

@@ -1,6 +1,6 @@
 -- Nothing is left of nothing. Assumes nothing.
 use Rattle.scanning.proofs.Parts.{from-place}
-use Rattle.cells.proofs.Lines.{none-after}
+use Rattle.cells.proofs.CellLines.{none-after}
 use borrow.Author.Needs.{needs}
 use Rattle.cells.proofs.after_first.Statement.{statement}
 use Rattle.cells.proofs.after_first.Tie as tie

@@ -6,7 +6,7 @@ use native.Mathlib.Omega.{arith}
 use lib.ListN.{getD, drop}
 use lib.Seq.{drop-drop, getD-drop}
 use Rattle.cells.specs.Cells.{cellsBy}
-use Rattle.cells.proofs.Walk.{walk-first, walk-rest, cells-are}
+use Rattle.cells.proofs.CellWalk.{walk-first, walk-rest, cells-are}
 use borrow.Author.Needs.{needs}
 use Rattle.cells.proofs.cell_at.Statement.{statement}
 use Rattle.cells.proofs.cell_at.Tie as tie

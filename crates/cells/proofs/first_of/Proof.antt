@@ -1,5 +1,5 @@
 -- There is none in nothing. Assumes nothing.
-use Rattle.cells.proofs.Lines.{none-first}
+use Rattle.cells.proofs.CellLines.{none-first}
 use borrow.Author.Needs.{needs}
 use Rattle.cells.proofs.first_of.Statement.{statement}
 use Rattle.cells.proofs.first_of.Tie as tie

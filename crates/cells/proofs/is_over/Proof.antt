@@ -1,5 +1,5 @@
 -- No byte is found that is none of these. Assumes nothing.
-use Rattle.cells.proofs.Lines.{over-is}
+use Rattle.cells.proofs.CellLines.{over-is}
 use borrow.Author.Needs.{needs}
 use Rattle.cells.proofs.is_over.Statement.{statement}
 use Rattle.cells.proofs.is_over.Tie as tie

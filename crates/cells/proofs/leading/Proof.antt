@@ -12,7 +12,7 @@ use mir.Val.{toZ}
 use Rattle.rules.specs.Lists.{every}
 use Rattle.scanning.specs.Parts.{before, fails}
 use Rattle.cells.specs.Cells.{cellsBy, cellsOf, fromCell, firstCell, passes}
-use Rattle.cells.proofs.Walk.{walk-shorter, cells-are, lead-here, lead-more, lead-over}
+use Rattle.cells.proofs.CellWalk.{walk-shorter, cells-are, lead-here, lead-more, lead-over}
 use borrow.Author.Needs.{needs}
 use Rattle.cells.proofs.leading.Statement.{statement}
 use Rattle.cells.proofs.leading.Tie as tie

@@ -4,7 +4,7 @@ use Prim.Native.Nat.{_≤_}
 use native.Mathlib.Omega.{arith}
 use lib.ListN.{length}
 use Rattle.cells.specs.Cells.{unspaced}
-use Rattle.cells.proofs.Lines.{unspaced-here, unspaced-more, unspaced-none}
+use Rattle.cells.proofs.CellLines.{unspaced-here, unspaced-more, unspaced-none}
 use borrow.Author.Needs.{needs}
 use Rattle.cells.proofs.unspaced_end.Statement.{statement}
 use Rattle.cells.proofs.unspaced_end.Tie as tie

@@ -4,7 +4,7 @@ use native.Mathlib.Omega.{arith}
 use borrow.Author.Tests.{eq-eqb, ne-eqb}
 use lib.Seq.{length-take-le}
 use Rattle.cells.specs.Cells.{lastOf, unreturned}
-use Rattle.cells.proofs.Lines.{none-unreturned}
+use Rattle.cells.proofs.CellLines.{none-unreturned}
 use borrow.Author.Needs.{needs}
 use Rattle.cells.proofs.without_return.Statement.{statement}
 use Rattle.cells.proofs.without_return.Tie as tie

@@ -3,7 +3,7 @@ use mathlib.Core.Path.{refl}
 use native.Mathlib.Nat.{mul-le-mul}
 use native.Mathlib.Omega.{arith}
 use Rattle.rules.specs.Completion.{paymentOf}
-use Rattle.completion.proofs.Most.{unit-most, payment-most}
+use Rattle.completion.proofs.PaymentsMost.{unit-most, payment-most}
 use Rattle.completion.proofs.payment.Statement.{statement}
 use Rattle.completion.proofs.payment.Tie as tie
 

@@ -2,7 +2,7 @@
 use native.Mathlib.Omega.{arith}
 use Prim.Native.Nat.{_+_}
 use Rattle.composing.proofs.Puts.{put-four}
-use Rattle.rows.proofs.Places.{placed}
+use Rattle.rows.proofs.RowPlaces.{placed}
 use Rattle.csv_text.specs.Csv.{expenseLines}
 use Rattle.csv_rows.proofs.Fits.{alone-fits, origin-fits}
 use borrow.Author.Needs.{needs}

@@ -3,7 +3,7 @@ use mathlib.Core.Path.{sym, ap}
 use native.Mathlib.Omega.{arith}
 use Prim.Native.Nat.{_+_}
 use Rattle.composing.proofs.Puts.{put-same, put-three}
-use Rattle.rows.proofs.Places.{placed}
+use Rattle.rows.proofs.RowPlaces.{placed}
 use Rattle.csv_rows.specs.Csv.{csvSection}
 use Rattle.csv_text.specs.Csv.{separationLines}
 use Rattle.csv_rows.proofs.Fits.{given-fits, year-fits}

@@ -14,7 +14,7 @@ use Rattle.rules.specs.Ladder.{developed, base, factorsPass, completedAll, comp
 use Rattle.rules.specs.Results.{paidIn, provisionsIn, developmentIn}
 use Rattle.rules.specs.Engine.{completionQuestions, ratioQuestions, ladderQuestions, laterQuestions}
 use Rattle.engine.specs.Stages.{Separated}
-use Rattle.engine.proofs.Questions.{one-no, one-yes, refused, accepted, first-refused, later}
+use Rattle.engine.proofs.RunQuestions.{one-no, one-yes, refused, accepted, first-refused, later}
 use Rattle.engine.proofs.Later as stage
 use Rattle.engine.proofs.Later.{Worked}
 use Rattle.engine.proofs.finish.Statement.{statement}

@@ -13,7 +13,7 @@ use Rattle.rules.specs.Record.{cells}
 use Rattle.rules.specs.Expense.{notReported, reserve}
 use Rattle.rules.specs.Results.{separationSections, completionSections, reserveSections, ladderSections}
 use Rattle.laws.proofs.Lists.{length-upTo}
-use Rattle.laws.proofs.Rows.{cells-least}
+use Rattle.laws.proofs.TriangleRows.{cells-least}
 use Rattle.laws.proofs.Joined.{sets-append, joined-both}
 use Rattle.listing.proofs.Counts.{results-count}
 use Rattle.engine.specs.Stages.{printedList}

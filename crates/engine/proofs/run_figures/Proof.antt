@@ -13,7 +13,7 @@ use Rattle.rules.specs.Separation.{separationQuestions, separateAnswer}
 use Rattle.rules.specs.Results.{squareOf}
 use Rattle.rules.specs.declared.Factors.{Factors}
 use Rattle.rules.specs.Engine.{figureQuestions, laterQuestions}
-use Rattle.engine.proofs.Questions.{one-no, one-yes, first-refused, later}
+use Rattle.engine.proofs.RunQuestions.{one-no, one-yes, first-refused, later}
 use Rattle.engine.proofs.Before as stage
 use Rattle.engine.proofs.run_figures.Statement.{statement}
 use Rattle.engine.proofs.run_figures.Tie as tie

@@ -19,7 +19,7 @@ use Rattle.rules.specs.Results.{reserveSections}
 use Rattle.laws.proofs.Lists.{length-upTo, map-upTo}
 use Rattle.laws.proofs.Totals.{total-more}
 use Rattle.laws.proofs.Joined.{sets-append, both-more}
-use Rattle.expense.proofs.Most.{reported-more, reported-most, product-most, provision-most}
+use Rattle.expense.proofs.ReservesMost.{reported-more, reported-most, product-most, provision-most}
 use Rattle.expense.proofs.put_reserves.Statement.{statement}
 use Rattle.expense.proofs.put_reserves.Tie as tie
 

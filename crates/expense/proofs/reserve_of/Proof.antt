@@ -7,7 +7,7 @@ use native.Mathlib.Omega.{arith}
 use Rattle.rules.specs.Record.{million}
 use Rattle.rules.specs.Completion.{mostUltimate}
 use Rattle.rules.specs.Expense.{weighted, reserveOf}
-use Rattle.expense.proofs.Most.{mixture-most, weighted-most, reserveOf-most}
+use Rattle.expense.proofs.ReservesMost.{mixture-most, weighted-most, reserveOf-most}
 use Rattle.expense.proofs.reserve_of.Statement.{statement}
 use Rattle.expense.proofs.reserve_of.Tie as tie
 

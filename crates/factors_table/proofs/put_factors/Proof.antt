@@ -3,7 +3,7 @@ use native.Mathlib.Omega.{arith}
 use Prim.Native.Nat.{_+_}
 use Rattle.composing.proofs.Puts.{put-three}
 use Rattle.rows.proofs.Counts.{entries-level}
-use Rattle.rows.proofs.Places.{placed}
+use Rattle.rows.proofs.RowPlaces.{placed}
 use Rattle.factors_table.specs.Factors.{factorsTable}
 use borrow.Author.Needs.{needs}
 use Rattle.factors_table.proofs.put_factors.Statement.{statement}

@@ -5,7 +5,7 @@ use borrow.Author.Needs.{needs}
 use Rattle.rules.specs.Record.{byteCount}
 use Rattle.layout.specs.declared.Places.{Places}
 use Rattle.layout.specs.Places.{placesOf}
-use Rattle.layout.proofs.Sizes.{bits-most}
+use Rattle.layout.proofs.RecordSizes.{bits-most}
 use Rattle.layout.proofs.bytes_of.Statement.{statement}
 use Rattle.layout.proofs.bytes_of.Tie as tie
 

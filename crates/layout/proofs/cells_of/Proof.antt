@@ -1,7 +1,7 @@
 -- Twice the cells are (k + 1) (k + 2), so half of that product is exact, and at most 136. Assumes nothing.
 use native.Mathlib.Omega.{arith}
 use borrow.Author.Needs.{needs}
-use Rattle.laws.proofs.Rows.{cells-twice, cells-most}
+use Rattle.laws.proofs.TriangleRows.{cells-twice, cells-most}
 use Rattle.layout.proofs.cells_of.Statement.{statement}
 use Rattle.layout.proofs.cells_of.Tie as tie
 

@@ -1,7 +1,7 @@
 -- The closed form of the number of fields, with at most 136 cells. Assumes nothing.
 use native.Mathlib.Omega.{arith}
 use borrow.Author.Needs.{needs}
-use Rattle.layout.proofs.Sizes.{fields-count}
+use Rattle.layout.proofs.RecordSizes.{fields-count}
 use Rattle.layout.proofs.fields_of.Statement.{statement}
 use Rattle.layout.proofs.fields_of.Tie as tie
 

@@ -6,7 +6,7 @@ use borrow.Author.Needs.{needs}
 use Rattle.rules.specs.Record.{cells, bitCount}
 use Rattle.layout.specs.declared.Places.{Places}
 use Rattle.layout.specs.Places.{startOf, placesOf}
-use Rattle.layout.proofs.Sizes.{starts}
+use Rattle.layout.proofs.RecordSizes.{starts}
 use Rattle.layout.proofs.places_of.Statement.{statement}
 use Rattle.layout.proofs.places_of.Tie as tie
 

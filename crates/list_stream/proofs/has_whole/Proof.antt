@@ -1,7 +1,7 @@
 -- No length (no-length), or the length against what is left (some-length). Assumes nothing.
 use borrow.Author.Needs.{needs}
 use native.Mathlib.Omega.{arith}
-use Rattle.list_stream.proofs.Rows.{no-length, some-length}
+use Rattle.list_stream.proofs.RowsTaken.{no-length, some-length}
 use Rattle.list_stream.proofs.has_whole.Statement.{statement}
 use Rattle.list_stream.proofs.has_whole.Tie as tie
 

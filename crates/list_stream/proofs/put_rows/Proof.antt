@@ -12,17 +12,17 @@ use Rattle.laws.proofs.Joined.{joined-more}
 use Rattle.composing.specs.Text.{Put}
 use Rattle.composing.proofs.Puts.{put-none, put-more, put-same, put-length, put-room}
 use Rattle.list_runs.specs.Runs.{listRow}
-use Rattle.list_stream.specs.Stream.{lengthAt, startOf, recordAt, rowsText}
-use Rattle.list_stream.proofs.Rows.{text-most, whole-inside}
+use Rattle.list_stream.specs.Stream.{lengthAt, recordStart, recordAt, rowsText}
+use Rattle.list_stream.proofs.RowsTaken.{text-most, whole-inside}
 use Rattle.list_stream.proofs.put_rows.Statement.{statement}
 use Rattle.list_stream.proofs.put_rows.Tie as tie
 
 -- the place after one record more, the row of that record, and the length of the rows with it
-next-start : (s : List ℕ) (n p : ℕ) → p ≡ startOf s n → p + 2 + lengthAt s p ≡ startOf s (n + 1)
-unfolding startOf
+next-start : (s : List ℕ) (n p : ℕ) → p ≡ recordStart s n → p + 2 + lengthAt s p ≡ recordStart s (n + 1)
+unfolding recordStart
 next-start s n p e = rw (add-one n, e)
 
-record-is : (s : List ℕ) (n p size : ℕ) → p ≡ startOf s n → size ≡ lengthAt s p → listRow (take size (drop (p + 2) s)) ≡ listRow (recordAt s n)
+record-is : (s : List ℕ) (n p size : ℕ) → p ≡ recordStart s n → size ≡ lengthAt s p → listRow (take size (drop (p + 2) s)) ≡ listRow (recordAt s n)
 unfolding recordAt
 record-is s n p size e f = rw (f, e)
 
@@ -33,7 +33,7 @@ rows-length s n = rw (add-one n) (ap length (joined-more (λ i. listRow (recordA
 pub record Turn (s before after : List ℕ) (room count from end : ℕ) : Type 0 where
   pub long : room ≡ length before
   pub few : count ≤ from
-  pub place : from ≡ startOf s count
+  pub place : from ≡ recordStart s count
   pub inside : from ≤ length s
   pub put : Put before after 0 end (rowsText s count)
   pub whole : end ≡ length (rowsText s count)
@@ -46,7 +46,7 @@ abbrev μ-loop : tie.MeasureT-loop
 μ-loop s out₀ room count₀ from₀ end₀ out count from end = length s - from
 
 loop-holds : tie.Need-loop-holds Inv-loop μ-loop
-unfolding startOf rowsText upTo joined
+unfolding recordStart rowsText upTo joined
 loop-holds c = record { long = refl; few = omega arith; place = refl; inside = omega arith; put = put-none _ _; whole = refl; fits = omega arith }
 
 sub-loop : tie.Need-sub-loop Inv-loop μ-loop

@@ -2,7 +2,7 @@
 use borrow.Author.Needs.{needs}
 use borrow.Author.Tests.{eq-eqb, ne-eqb}
 use Prim.Native.Nat.{_+_}
-use Rattle.list_text.specs.Lines.{after}
+use Rattle.list_text.specs.EntryLines.{after}
 use Rattle.list_text.proofs.after_entry.Statement.{statement}
 use Rattle.list_text.proofs.after_entry.Tie as tie
 

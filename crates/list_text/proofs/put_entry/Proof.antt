@@ -2,7 +2,7 @@
 use borrow.Author.Needs.{needs}
 use mir.Facts.{toZ-ofZ}
 use Rattle.composing.proofs.Puts.{put-append}
-use Rattle.list_text.specs.Lines.{entryText}
+use Rattle.list_text.specs.EntryLines.{entryText}
 use Rattle.list_text.proofs.put_entry.Statement.{statement}
 use Rattle.list_text.proofs.put_entry.Tie as tie
 

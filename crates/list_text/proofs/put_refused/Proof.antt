@@ -1,7 +1,7 @@
 -- The word, the number and the line feed. Assumes nothing.
 use borrow.Author.Needs.{needs}
 use Rattle.composing.proofs.Puts.{put-three}
-use Rattle.list_text.specs.Lines.{refusedText}
+use Rattle.list_text.specs.EntryLines.{refusedText}
 use Rattle.list_text.proofs.put_refused.Statement.{statement}
 use Rattle.list_text.proofs.put_refused.Tie as tie
 

@@ -13,7 +13,7 @@ use Rattle.rules.specs.Lists.{upTo, joined}
 use Rattle.laws.proofs.Lists.{upTo-ext}
 use Rattle.composing.specs.Text.{Put}
 use Rattle.composing.proofs.Puts.{put-first, put-more, put-same, put-length}
-use Rattle.list_text.specs.Lines.{after, entryText, separated}
+use Rattle.list_text.specs.EntryLines.{after, entryText, entriesBy}
 use Rattle.list_text.proofs.put_separated.Statement.{statement}
 use Rattle.list_text.proofs.put_separated.Tie as tie
 
@@ -22,8 +22,8 @@ abbrev entry : List ℤ → ℕ → ℕ → ℕ → List ℕ
 entry list n between i = entryText (getD list i (pos 0)) (after between n i)
 
 -- all n of them are the text of the first n
-all-entries : (list : List ℤ) (n between : ℕ) → n ≤ length list → joined (upTo (entry list n between) n) ≡ separated between (take n list)
-unfolding separated
+all-entries : (list : List ℤ) (n between : ℕ) → n ≤ length list → joined (upTo (entry list n between) n) ≡ entriesBy between (take n list)
+unfolding entriesBy
 all-entries list n between h =
     let size : length (take n list) ≡ n = rw length-take (omega arith) in
     rw (size, upTo-ext (entry list n between) (λ i. entryText (getD (take n list) i (pos 0)) (after between n i)) n (λ i l. rw (getD-take n list i (pos 0) l)))

@@ -9,7 +9,7 @@ use lib.Seq.{sets, length-sets}
 use Rattle.rules.specs.Lists.{upTo, joined}
 use Rattle.rules.specs.Triangle.{rowStart}
 use Rattle.listing.specs.Starts.{averageRowOf}
-use Rattle.laws.proofs.Rows.{start-more, rows-all, row-within}
+use Rattle.laws.proofs.TriangleRows.{start-more, rows-all, row-within}
 use Rattle.listing.proofs.Sections.{rows-more}
 use Rattle.listing.proofs.put_averages.Statement.{statement}
 use Rattle.listing.proofs.put_averages.Tie as tie

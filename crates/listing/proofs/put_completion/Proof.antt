@@ -14,7 +14,7 @@ use Rattle.laws.proofs.Lists.{total-take}
 use Rattle.laws.proofs.Joined.{sets-append}
 use Rattle.rules.specs.Results.{completionSections}
 use Rattle.entries.proofs.Runs.{length-naturals}
-use Rattle.laws.proofs.Rows.{cells-least}
+use Rattle.laws.proofs.TriangleRows.{cells-least}
 use Rattle.listing.proofs.Sections.{small-total, future-most, three-runs, three-length}
 use Rattle.listing.proofs.put_completion.Statement.{statement}
 use Rattle.listing.proofs.put_completion.Tie as tie

@@ -12,7 +12,7 @@ use Rattle.laws.proofs.Joined.{sets-append}
 use Rattle.rules.specs.Lists.{joined}
 use Rattle.rules.specs.Results.{ladderSections}
 use Rattle.entries.proofs.Runs.{length-naturals}
-use Rattle.laws.proofs.Rows.{cells-least}
+use Rattle.laws.proofs.TriangleRows.{cells-least}
 use Rattle.listing.proofs.Sections.{future-most}
 use Rattle.listing.proofs.put_ladder.Statement.{statement}
 use Rattle.listing.proofs.put_ladder.Tie as tie

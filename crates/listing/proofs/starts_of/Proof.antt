@@ -3,7 +3,7 @@ use native.Mathlib.Omega.{arith}
 use Prim.Native.Nat.{ℕ}
 use mathlib.Core.Path.{_≡_}
 use Rattle.rules.specs.Results.{shareSection, levelSection, futureLevelSection, paymentSection, provisionSection, provisionTotalSection, notReportedSection, reserveSection, reserveTotalSection, ratioSection, factorSection, completedSection, sectionStart}
-use Rattle.laws.proofs.Rows.{cells-least}
+use Rattle.laws.proofs.TriangleRows.{cells-least}
 use Rattle.listing.specs.declared.Starts.{Starts}
 use Rattle.listing.specs.Starts.{startsOf}
 use Rattle.listing.proofs.Known.{known}

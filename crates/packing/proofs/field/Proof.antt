@@ -4,7 +4,7 @@ use Prim.Native.Nat.{_+_, _-_, _*_, _≤_}
 use native.Mathlib.Omega.{arith}
 use lib.ListN.{length}
 use lib.Pow.{pow-pos}
-use Rattle.packing.proofs.Places.{one-shl, field-within}
+use Rattle.packing.proofs.BitPlaces.{one-shl, field-within}
 use borrow.Author.Needs.{needs}
 use Rattle.packing.proofs.field.Statement.{statement}
 use Rattle.packing.proofs.field.Tie as tie

@@ -10,7 +10,7 @@ use lib.Pow.{shl-exact}
 use Rattle.rules.specs.Packing.{Fit}
 use Rattle.packing.specs.Field.{fieldAt}
 use Rattle.packing.proofs.Pack.{field-lt}
-use Rattle.packing.proofs.Places.{byte-more}
+use Rattle.packing.proofs.BitPlaces.{byte-more}
 use borrow.Author.Needs.{needs}
 use Rattle.packing.proofs.followed.Statement.{statement}
 use Rattle.packing.proofs.followed.Tie as tie

@@ -3,7 +3,7 @@ use native.Mathlib.Omega.{arith}
 use Prim.Native.Nat.{_+_}
 use Rattle.composing.proofs.Puts.{put-three}
 use Rattle.rows.proofs.Counts.{entries-rising}
-use Rattle.rows.proofs.Places.{placed}
+use Rattle.rows.proofs.RowPlaces.{placed}
 use Rattle.page.specs.Page.{ratioLine, completedTable}
 use borrow.Author.Needs.{needs}
 use Rattle.page.proofs.put_ladder.Statement.{statement}

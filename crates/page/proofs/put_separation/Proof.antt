@@ -4,7 +4,7 @@ use native.Mathlib.Omega.{arith}
 use Prim.Native.Nat.{_+_}
 use Rattle.composing.proofs.Puts.{put-same, put-three}
 use Rattle.rows.proofs.Counts.{entries-falling, entries-rising}
-use Rattle.rows.proofs.Places.{placed}
+use Rattle.rows.proofs.RowPlaces.{placed}
 use Rattle.tables.specs.Tables.{triangle}
 use Rattle.page.specs.Page.{averagesTable, paymentsTable}
 use borrow.Author.Needs.{needs}

@@ -2,7 +2,7 @@
 use mathlib.Core.Path.{ap₂, _∙_}
 use native.Mathlib.Omega.{arith}
 use Prim.Native.Nat.{max}
-use Rattle.laws.proofs.Rows.{cells-most}
+use Rattle.laws.proofs.TriangleRows.{cells-most}
 use Rattle.listing.proofs.Known.{known}
 use Rattle.plots.specs.Plots.{largestLevel}
 use borrow.Author.Needs.{needs}

@@ -1,6 +1,6 @@
 -- The heading, the bars of both sections and the words follow one another (put-five). Assumes nothing.
 use native.Mathlib.Omega.{arith}
-use Rattle.laws.proofs.Rows.{cells-most}
+use Rattle.laws.proofs.TriangleRows.{cells-most}
 use Rattle.composing.proofs.Puts.{put-five}
 use Rattle.listing.proofs.Known.{known}
 use Rattle.plots.specs.Plots.{levelsPlot}

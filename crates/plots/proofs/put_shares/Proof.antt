@@ -11,7 +11,7 @@ use Rattle.rules.specs.Lists.{upTo, joined}
 use Rattle.composing.specs.Text.{Put}
 use Rattle.composing.proofs.Puts.{put-first, put-more, put-length}
 use Rattle.rows.specs.Rows.{entry}
-use Rattle.plots.specs.Plots.{shareOf, runningShare, shareBar}
+use Rattle.plots.specs.Plots.{shareDrawn, runningShare, shareBar}
 use Rattle.plots.proofs.Running.{running-none, running-suc, running-most}
 use borrow.Author.Needs.{needs, sfits-of}
 use Rattle.plots.proofs.put_shares.Statement.{statement}
@@ -48,7 +48,7 @@ loop-again c =
     let l = c .before .before .before .before .before .before .before .loop in
     let list = s .args .list .now in
     let kept = toZ-ofZ {w = w64} {z = getD list (s .args .p + l .h) (pos 0)} (sfits-of (c .before .before .before .before .before .share-of-arg .given)) in
-    let share : c .before .before .before .before .share-of .result ≡ shareOf (entry list (s .args .p + l .h)) = c .before .before .before .before .share-of .ensures ∙ ap shareOf kept in
+    let share : c .before .before .before .before .share-of .result ≡ shareDrawn (entry list (s .args .p + l .h)) = c .before .before .before .before .share-of .ensures ∙ ap shareDrawn kept in
     let sum : l .running + c .before .before .before .before .share-of .result ≡ runningShare list (s .args .p) (suc (l .h)) = ap₂ _+_ (l .inv .1) share ∙ running-suc list (s .args .p) (l .h) in (
       omega arith,
       rw (add-one (l .h)) sum,

@@ -1,6 +1,6 @@
 -- The heading, the bars and the end follow one another (put-three). Assumes nothing.
 use native.Mathlib.Omega.{arith}
-use Rattle.laws.proofs.Rows.{cells-most}
+use Rattle.laws.proofs.TriangleRows.{cells-most}
 use Rattle.composing.proofs.Puts.{put-three}
 use Rattle.listing.proofs.Known.{known}
 use Rattle.plots.specs.Plots.{sharesPlot}

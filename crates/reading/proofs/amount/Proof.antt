@@ -6,7 +6,7 @@ use native.Mathlib.Omega.{arith}
 use mir.Syntax.{w64}
 use mir.ValLaws.{toZ-pos}
 use Rattle.laws.proofs.Signed.{minus-fits, minus}
-use Rattle.reading.proofs.Amounts.{amount-plus, amount-minus}
+use Rattle.reading.proofs.AmountsRead.{amount-plus, amount-minus}
 use Rattle.reading.proofs.amount.Statement.{statement}
 use Rattle.reading.proofs.amount.Tie as tie
 

@@ -14,7 +14,7 @@ use Rattle.rules.specs.Questions.{firstNo, afterCall}
 use Rattle.rules.specs.Record.{fieldCount, lastYearOf, fieldsOf}
 use Rattle.rules.specs.Reading.{hasRoom, openingQuestions, fieldQuestions, readAnswer, readInto}
 use Rattle.laws.proofs.Questions.{first-answer, later-answer, after-refusal}
-use Rattle.reading.proofs.Rows.{opening-yes, years-known}
+use Rattle.reading.proofs.RowsRead.{opening-yes, years-known}
 use Rattle.reading.proofs.doonamurk_read.Statement.{statement}
 use Rattle.reading.proofs.doonamurk_read.Tie as tie
 

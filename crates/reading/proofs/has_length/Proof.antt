@@ -13,8 +13,8 @@ use Rattle.rules.specs.Record.{bitCount, byteCount, fillingCount, lastYearOf, f
 use Rattle.rules.specs.Reading.{hasLength}
 use Rattle.layout.specs.declared.Places.{Places}
 use Rattle.layout.specs.Places.{placesOf}
-use Rattle.layout.proofs.Sizes.{bits-most, bytes-least}
-use Rattle.reading.proofs.Rows.{years-known}
+use Rattle.layout.proofs.RecordSizes.{bits-most, bytes-least}
+use Rattle.reading.proofs.RowsRead.{years-known}
 use Rattle.reading.proofs.has_length.Statement.{statement}
 use Rattle.reading.proofs.has_length.Tie as tie
 

@@ -10,12 +10,12 @@ use Rattle.rules.specs.Packing.{Fit}
 use Rattle.rules.specs.Questions.{firstNo, afterCall}
 use Rattle.rules.specs.Record.{million, mostIndex, mostAmount, cells, lastYearOf, figuresOf}
 use Rattle.rules.specs.Reading.{fieldQuestions}
-use Rattle.layout.proofs.Sizes.{fields-count}
+use Rattle.layout.proofs.RecordSizes.{fields-count}
 use Rattle.reading.specs.Sound.{Sound}
 use Rattle.reading.specs.Reading.{Signable}
-use Rattle.reading.proofs.Rows.{whole, opening-yes, years-known}
-use Rattle.reading.proofs.Answers.{fields-put}
-use Rattle.reading.proofs.Accepted.{Filled, filled, sound-figures}
+use Rattle.reading.proofs.RowsRead.{whole, opening-yes, years-known}
+use Rattle.reading.proofs.ReadAnswers.{fields-put}
+use Rattle.reading.proofs.FiguresRead.{Filled, filled, sound-figures}
 use Rattle.laws.proofs.Questions.{after-refusal}
 use Rattle.reading.proofs.read_into.Statement.{statement}
 use Rattle.reading.proofs.read_into.Tie as tie

@@ -1,7 +1,7 @@
 -- `reading::sound` meets its contract: the size is what is left of the bits at division by 2 ^ 34. Assumes nothing.
 use mathlib.Core.Path.{sym}
 use mathlib.Core.Bool.{and-true, and-false}
-use Rattle.reading.proofs.Amounts.{amount-range}
+use Rattle.reading.proofs.AmountsRead.{amount-range}
 use Prim.Native.Nat.{_%_, _^_}
 use lib.Dec.{leb}
 use borrow.Author.Tests.{eq-eqb, ne-eqb}

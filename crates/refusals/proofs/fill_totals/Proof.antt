@@ -8,7 +8,7 @@ use Rattle.rules.specs.Packing.{Fit}
 use Rattle.rules.specs.Record.{figuresOf}
 use Rattle.rules.specs.Triangle.{columnTotal, diagonalTotal}
 use Rattle.rules.specs.Results.{squareOf}
-use Rattle.reading.proofs.Accepted.{Filled, filled}
+use Rattle.reading.proofs.FiguresRead.{Filled, filled}
 use Rattle.outcomes.proofs.Passed.{Late, seventh, opening, fields, some, rows-ready}
 use Rattle.refusals.proofs.Totals.{square-filled, square-ready}
 use Rattle.refusals.proofs.fill_totals.Statement.{statement}

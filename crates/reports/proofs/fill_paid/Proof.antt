@@ -3,9 +3,9 @@ use native.Mathlib.Omega.{arith}
 use mathlib.Core.Path.{_≡_, refl, _∙_}
 use Rattle.rules.specs.Packing.{Fit}
 use Rattle.rules.specs.Record.{figuresOf}
-use Rattle.reading.proofs.Accepted.{Filled, filled}
+use Rattle.reading.proofs.FiguresRead.{Filled, filled}
 use Rattle.outcomes.proofs.Passed.{Late, accepted, opening, fields, some, rows-ready}
-use Rattle.reports.proofs.Accepted.{paid-is, paid-small}
+use Rattle.reports.proofs.PagesAccepted.{paid-is, paid-small}
 use Rattle.reports.proofs.fill_paid.Statement.{statement}
 use Rattle.reports.proofs.fill_paid.Tie as tie
 

@@ -13,7 +13,7 @@ use Rattle.rules.specs.Lists.{upTo, padded}
 use Rattle.laws.proofs.Padded.{filled-none, filled-more}
 use Rattle.page.specs.Page.{ladderUltimate}
 use Rattle.listing.proofs.Known.{start-more}
-use Rattle.reports.proofs.Accepted.{ladder-room, ladder-entry}
+use Rattle.reports.proofs.PagesAccepted.{ladder-room, ladder-entry}
 use Rattle.reports.proofs.ladder_of.Statement.{statement}
 use Rattle.reports.proofs.ladder_of.Tie as tie
 

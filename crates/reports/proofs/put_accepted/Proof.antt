@@ -5,7 +5,7 @@ use Rattle.rules.specs.Record.{figuresOf}
 use Rattle.composing.proofs.Puts.{put-same}
 use Rattle.listing.proofs.Known.{at-starts}
 use Rattle.outcomes.proofs.Passed.{accepted, some}
-use Rattle.reports.proofs.Accepted.{ladder-fits, page-is}
+use Rattle.reports.proofs.PagesAccepted.{ladder-fits, page-is}
 use Rattle.reports.proofs.put_accepted.Statement.{statement}
 use Rattle.reports.proofs.put_accepted.Tie as tie
 

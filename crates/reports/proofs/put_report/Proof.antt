@@ -1,7 +1,7 @@
 -- A refusal in words (refusal-is), or the page of the list that the engine filled. Assumes nothing.
 use native.Mathlib.Omega.{arith}
 use Rattle.composing.proofs.Puts.{put-same}
-use Rattle.reports.proofs.Accepted.{refusal-is}
+use Rattle.reports.proofs.PagesAccepted.{refusal-is}
 use borrow.Author.Needs.{needs}
 use Rattle.reports.proofs.put_report.Statement.{statement}
 use Rattle.reports.proofs.put_report.Tie as tie

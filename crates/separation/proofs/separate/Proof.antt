@@ -13,11 +13,11 @@ use lib.ListN.{getD}
 use Rattle.rules.specs.Triangle.{columnTotal, diagonalTotal}
 use Rattle.rules.specs.Separation.{billion, columnOf, diagonalOf, totalsPass, restsPass, separateAnswer, factorsOf}
 use Rattle.laws.proofs.Lists.{getD-upTo}
-use Rattle.totals.proofs.Most.{diagonal-most}
+use Rattle.totals.proofs.TotalsMost.{diagonal-most}
 use Rattle.separation.specs.Walk.{TotalsOf, CornersOf, factorsTo}
 use Rattle.separation.proofs.Totals.{column-small, ready}
 use Rattle.separation.proofs.Steps.{latest-running}
-use Rattle.separation.proofs.Questions.{seven, answer-seven, answer-eight, answer-factors, none-back, factors-back}
+use Rattle.separation.proofs.FactorQuestions.{seven, answer-seven, answer-eight, answer-factors, none-back, factors-back}
 use Rattle.separation.proofs.separate.Statement.{statement}
 use Rattle.separation.proofs.separate.Tie as tie
 

@@ -5,7 +5,7 @@ use Prim.Native.Nat.{_+_, _-_, _≤_}
 use Rattle.rules.specs.Lists.{upTo, joined}
 use Rattle.rules.specs.Triangle.{rowStart}
 use Rattle.rules.specs.Results.{averageSection, sectionStart}
-use Rattle.laws.proofs.Rows.{row-room, start-more}
+use Rattle.laws.proofs.TriangleRows.{row-room, start-more}
 use Rattle.composing.specs.Text.{Put}
 use Rattle.composing.proofs.Puts.{put-first, put-more, put-length}
 use Rattle.listing.proofs.Known.{known}

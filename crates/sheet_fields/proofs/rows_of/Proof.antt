@@ -6,7 +6,7 @@ use lib.IntN.{pos, natAbs}
 use lib.ListN.{getD}
 use mir.Facts.{toZ-ofZ}
 use mir.Syntax.{w64}
-use Rattle.sheet_fields.proofs.Sections.{rows-are}
+use Rattle.sheet_fields.proofs.FieldSections.{rows-are}
 use borrow.Author.Needs.{needs}
 use Rattle.sheet_fields.proofs.rows_of.Statement.{statement}
 use Rattle.sheet_fields.proofs.rows_of.Tie as tie

@@ -9,7 +9,7 @@ use lib.ListN.{getD, take, drop}
 use mir.Facts.{toZ-ofZ}
 use mir.Syntax.{w64}
 use Rattle.rules.specs.Lists.{padded}
-use Rattle.sheet_fields.proofs.Sections.{sizes-more}
+use Rattle.sheet_fields.proofs.FieldSections.{sizes-more}
 use Rattle.sheet_fields.proofs.sizes_of.Statement.{statement}
 use Rattle.sheet_fields.proofs.sizes_of.Tie as tie
 

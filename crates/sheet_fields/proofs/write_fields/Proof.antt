@@ -5,7 +5,7 @@ use lib.ListN.{length, take}
 use lib.Seq.{length-take-le}
 use Rattle.rules.specs.Record.{byteCount}
 use Rattle.rules.specs.Writing.{writeAnswer}
-use Rattle.sheet_fields.proofs.Sections.{exposures-fit, exposures-cut, indices-fit, indices-cut, reporting-fit, reporting-cut, ulae-fit, ulae-cut, given-is, written}
+use Rattle.sheet_fields.proofs.FieldSections.{exposures-fit, exposures-cut, indices-fit, indices-cut, reporting-fit, reporting-cut, ulae-fit, ulae-cut, given-is, written}
 use borrow.Author.Needs.{needs}
 use Rattle.sheet_fields.proofs.write_fields.Statement.{statement}
 use Rattle.sheet_fields.proofs.write_fields.Tie as tie

@@ -2,22 +2,22 @@
 use borrow.Author.Tests.{eq-eqb, ne-eqb}
 use Rattle.composing.specs.Text.{decimal, decimalIn}
 use Rattle.composing.proofs.Puts.{put-none}
-use Rattle.sheet_packing.specs.Said.{refusedText}
+use Rattle.sheet_packing.specs.Said.{refusedFront}
 use borrow.Author.Needs.{needs}
 use Rattle.sheet_packing.proofs.put_refused.Statement.{statement}
 use Rattle.sheet_packing.proofs.put_refused.Tie as tie
 
 returns : tie.Need-returns
-unfolding refusedText
+unfolding refusedFront
 returns c = rw (ne-eqb (c .before .before .args .problem) 4 (c .if1 .taken)) (put-none _ 0)
 
 returns-2 : tie.Need-returns-2
-unfolding refusedText decimal decimalIn
+unfolding refusedFront decimal decimalIn
 returns-2 c =
     rw (eq-eqb (c .before .before .before .before .before .before .before .before .args .problem) 4 (c .before .before .before .before .before .before .if1 .left), eq-eqb (c .before .before .before .before .before .before .before .before .args .place) 0 (c .before .before .before .before .before .if2 .taken)) (c .before .before .put-bytes .ensures)
 
 returns-3 : tie.Need-returns-3
-unfolding refusedText decimal decimalIn
+unfolding refusedFront decimal decimalIn
 returns-3 c =
     rw (eq-eqb (c .before .before .before .before .before .before .before .before .args .problem) 4 (c .before .before .before .before .before .before .if1 .left), ne-eqb (c .before .before .before .before .before .before .before .before .args .place) 0 (c .before .before .before .before .before .if2 .left)) (c .before .before .put-bytes2 .ensures)
 

@@ -6,7 +6,7 @@ use lib.IntN.{pos, natAbs}
 use lib.ListN.{getD}
 use mir.Facts.{toZ-ofZ}
 use mir.Syntax.{w64}
-use Rattle.sheet_reading.proofs.Lines.{year-first}
+use Rattle.sheet_reading.proofs.LinesRead.{year-first}
 use Rattle.sheet_reading.proofs.last_year.Statement.{statement}
 use Rattle.sheet_reading.proofs.last_year.Tie as tie
 

@@ -8,7 +8,7 @@ use lib.ListN.{take, length-take}
 use Rattle.composing.proofs.Puts.{put-none}
 use Rattle.sheet.specs.Sheet.{readLines, lastYearIn}
 use Rattle.sheet.specs.Table.{lineCount}
-use Rattle.sheet_reading.proofs.Lines.{reads-kept}
+use Rattle.sheet_reading.proofs.LinesRead.{reads-kept}
 use borrow.Author.Needs.{needs}
 use Rattle.sheet_reading.proofs.read_end.Statement.{statement}
 use Rattle.sheet_reading.proofs.read_end.Tie as tie

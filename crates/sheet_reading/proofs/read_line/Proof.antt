@@ -10,7 +10,7 @@ use Rattle.composing.proofs.Puts.{put-none, put-same}
 use Rattle.cells.specs.Cells.{cellsOf, labelOf}
 use Rattle.sheet.specs.Table.{lineCount, dueAt}
 use Rattle.sheet.specs.Sheet.{lastYearIn, wrongIn, wordIn}
-use Rattle.sheet_reading.proofs.Lines.{line-bare, line-over, line-wrong, line-fine, reads-kept, reads-fine}
+use Rattle.sheet_reading.proofs.LinesRead.{line-bare, line-over, line-wrong, line-fine, reads-kept, reads-fine}
 use Rattle.sheet_reading.proofs.Known.{as-due, good-room}
 use borrow.Author.Needs.{needs}
 use Rattle.sheet_reading.proofs.read_line.Statement.{statement}

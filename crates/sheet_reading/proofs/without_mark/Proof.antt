@@ -3,7 +3,7 @@ use borrow.Author.Tests.{eq-eqb, ne-eqb}
 use lib.ListN.{getD}
 use Rattle.scanning.proofs.Parts.{from-place}
 use Rattle.sheet.specs.Sheet.{unmarked}
-use Rattle.sheet_reading.proofs.Lines.{short-unmarked}
+use Rattle.sheet_reading.proofs.LinesRead.{short-unmarked}
 use borrow.Author.Needs.{needs}
 use Rattle.sheet_reading.proofs.without_mark.Statement.{statement}
 use Rattle.sheet_reading.proofs.without_mark.Tie as tie

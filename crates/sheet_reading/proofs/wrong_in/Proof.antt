@@ -9,7 +9,7 @@ use Rattle.scanning.specs.Parts.{fails, before}
 use Rattle.cells.specs.Cells.{labelOf, cellsOf, isWithin}
 use Rattle.sheet.specs.Table.{labelDue}
 use Rattle.sheet.specs.Sheet.{sameText}
-use Rattle.sheet_reading.proofs.Lines.{wrong-label, wrong-number, wrong-count, wrong-range, wrong-none}
+use Rattle.sheet_reading.proofs.LinesRead.{wrong-label, wrong-number, wrong-count, wrong-range, wrong-none}
 use Rattle.sheet_reading.proofs.wrong_in.Statement.{statement}
 use Rattle.sheet_reading.proofs.wrong_in.Tie as tie
 

@@ -10,7 +10,7 @@ use mir.Facts.{toZ-ofZ}
 use Rattle.composing.specs.Text.{Put}
 use Rattle.composing.proofs.Puts.{put-none, put-length}
 use Rattle.sheet.specs.Sheet.{spaced}
-use Rattle.sheet_writing.proofs.Lines.{put-number}
+use Rattle.sheet_writing.proofs.LinesPut.{put-number}
 use Rattle.sheet_writing.proofs.put_numbers.Statement.{statement}
 use Rattle.sheet_writing.proofs.put_numbers.Tie as tie
 

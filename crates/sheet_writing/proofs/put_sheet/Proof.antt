@@ -16,7 +16,7 @@ use Rattle.composing.proofs.Puts.{put-none, put-length}
 use Rattle.sheet.specs.Table.{dueAt, dueLines}
 use Rattle.sheet.specs.Sheet.{linesOf, lastYearIn, sheetOf}
 use Rattle.sheet.proofs.Table.{startAt, start-more, start-room}
-use Rattle.sheet_writing.proofs.Lines.{put-next-line}
+use Rattle.sheet_writing.proofs.LinesPut.{put-next-line}
 use Rattle.sheet_writing.proofs.put_sheet.Statement.{statement}
 use Rattle.sheet_writing.proofs.put_sheet.Tie as tie
 

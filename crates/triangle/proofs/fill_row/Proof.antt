@@ -15,7 +15,7 @@ use Rattle.rules.specs.Lists.{upTo}
 use Rattle.rules.specs.Triangle.{paidOf, sumTo, cumulativeOf, mostCumulative, rowPasses, givenCumulative, paidTo, averageOf}
 use Rattle.laws.proofs.Lists.{getD-upTo, every-upTo}
 use Rattle.laws.proofs.Joined.{first-more}
-use Rattle.laws.proofs.Rows.{row-room}
+use Rattle.laws.proofs.TriangleRows.{row-room}
 use Rattle.laws.proofs.Signed.{held}
 use Rattle.triangle.specs.Columns.{columnSum}
 use Rattle.triangle.proofs.Added.{mixed, mixed-after, mixed-none, mixed-more, mixed-all}

@@ -14,7 +14,7 @@ use Rattle.rules.specs.Triangle.{rowStart, paidOf, averageOf, rowPasses, cumula
 use Rattle.laws.proofs.Lists.{every-next, fails-at, length-upTo}
 use Rattle.laws.proofs.Joined.{sets-filled}
 use Rattle.laws.proofs.Padded.{filled-none, filled-more, rest-at}
-use Rattle.laws.proofs.Rows.{row-room, start-more}
+use Rattle.laws.proofs.TriangleRows.{row-room, start-more}
 use Rattle.entries.proofs.Leading.{leading-stop}
 use Rattle.triangle.specs.Columns.{columnSum, rowsPassing}
 use Rattle.triangle.proofs.Passed.{rows-all}

@@ -14,7 +14,7 @@ use Rattle.rules.specs.Triangle.{paidOf, sumTo, cumulativeOf, mostCumulative, r
 use Rattle.laws.proofs.Signed.{held}
 use Rattle.laws.proofs.Order.{under, over, inside}
 use Rattle.laws.proofs.Lists.{every-next, fails-at}
-use Rattle.laws.proofs.Rows.{row-room}
+use Rattle.laws.proofs.TriangleRows.{row-room}
 use Rattle.triangle.proofs.Cumulatives.{more-fits, more-is, more-read}
 use Rattle.triangle.proofs.row_passes.Statement.{statement}
 use Rattle.triangle.proofs.row_passes.Tie as tie

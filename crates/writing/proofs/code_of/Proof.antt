@@ -4,7 +4,7 @@ use mathlib.Core.Path.{refl}
 use native.Mathlib.Omega.{arith}
 use mir.Facts.{toZ-ofZ, toZ-pos}
 use mir.Syntax.{w64}
-use Rattle.writing.proofs.Signs.{Below, Above, is-below, is-above}
+use Rattle.writing.proofs.WrittenSigns.{Below, Above, is-below, is-above}
 use Rattle.writing.proofs.code_of.Statement.{statement}
 use Rattle.writing.proofs.code_of.Tie as tie
 

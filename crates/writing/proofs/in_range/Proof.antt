@@ -1,6 +1,6 @@
 -- `writing::in_range` meets its contract, by the sign of the number. Assumes nothing.
 use mir.Facts.{toZ-ofZ}
-use Rattle.writing.proofs.Signs.{range-below, range-above}
+use Rattle.writing.proofs.WrittenSigns.{range-below, range-above}
 use Rattle.writing.proofs.in_range.Statement.{statement}
 use Rattle.writing.proofs.in_range.Tie as tie
 

@@ -14,12 +14,12 @@ use Rattle.rules.specs.Reading.{hasLastYear, hasLength, inRanges, openingQuesti
 use Rattle.packing.specs.Field.{fieldAt}
 use Rattle.rules.specs.Packing.{Fit}
 use Rattle.packing.proofs.Pack.{field-lt}
-use Rattle.packing.proofs.Places.{field-append, field-byte}
+use Rattle.packing.proofs.BitPlaces.{field-append, field-byte}
 use Rattle.laws.proofs.Lists.{both-left, both-right}
 use Rattle.laws.proofs.Questions.{yes-said}
-use Rattle.layout.proofs.Sections.{join, Shaped, mapRows, everyRow, section-join, zip-join, mapRows-shaped, every-join}
+use Rattle.layout.proofs.LayoutSections.{join, Shaped, mapRows, everyRow, section-join, zip-join, mapRows-shaped, every-join}
 use Rattle.layout.proofs.Codes.{rowsFrom, rows-shaped, unpack-rows}
-use Rattle.layout.proofs.Sizes.{bytes-room, bytes-least, years-lt}
+use Rattle.layout.proofs.RecordSizes.{bytes-room, bytes-least, years-lt}
 
 -- bytes that have passed questions 1 and 2
 pub record Whole (s : List ℕ) : Type 0 where

@@ -13,7 +13,7 @@ use Rattle.rules.specs.Record.{Figures, million, layout, kindsOf, fieldCount, b
 use Rattle.rules.specs.Reading.{hasLastYear, hasLength, hasRoom, inRanges, sharesSum, openingQuestions, fieldQuestions, readAnswer}
 use Rattle.rules.specs.Writing.{givenFields, givenLastYear, givenLengths, givenRanges, givenSum, writeAnswer}
 use Rattle.laws.proofs.Lists.{both-left, both-right}
-use Rattle.layout.proofs.Sizes.{bytes-least}
+use Rattle.layout.proofs.RecordSizes.{bytes-least}
 
 -- the first answer is yes, and so are the others
 first-yes : (n : ℕ) (b : Bool) (qs : List (ℕ × Bool)) → firstNo ((suc n, b) ∷ qs) ≡ 0 → (b ≡ true) × (firstNo qs ≡ 0)

@@ -18,7 +18,7 @@ use Rattle.composing.proofs.Puts.{put-none}
 use Rattle.scanning.specs.Parts.{fails, before}
 use Rattle.scanning.specs.Numbers.{isNumber, wholeOf}
 use Rattle.cells.specs.Cells.{isBare, labelOf, cellsOf, isWithin}
-use Rattle.cells.proofs.Lines.{before-all}
+use Rattle.cells.proofs.CellLines.{before-all}
 use Rattle.sheet.specs.declared.Due.{Due}
 use Rattle.sheet.specs.declared.Wrong.{Wrong}
 use Rattle.sheet.specs.Table.{labelDue, lineCount, dueAt}

@@ -17,16 +17,16 @@ unfoldable pub entryText : ℤ → ℕ → List ℕ
 entryText z next = integer z ++ (next ∷ [])
 
 -- entries with a byte between them, and a line feed after the last
-unfoldable pub separated : ℕ → List ℤ → List ℕ
-separated between zs = joined (upTo (λ i. entryText (getD zs i (pos 0)) (after between (length zs) i)) (length zs))
+unfoldable pub entriesBy : ℕ → List ℤ → List ℕ
+entriesBy between zs = joined (upTo (λ i. entryText (getD zs i (pos 0)) (after between (length zs) i)) (length zs))
 
 -- entries one a line
 abbrev pub entriesText : List ℤ → List ℕ
-entriesText zs = separated 10 zs
+entriesText zs = entriesBy 10 zs
 
 -- entries on one line, with blanks between them
 abbrev pub rowText : List ℤ → List ℕ
-rowText zs = separated 32 zs
+rowText zs = entriesBy 32 zs
 
 -- the answer of a call that refused under question n
 unfoldable pub refusedText : ℕ → List ℕ

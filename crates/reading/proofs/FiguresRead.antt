@@ -18,16 +18,16 @@ use Rattle.rules.specs.Reading.{sharesSum, openingQuestions, fieldQuestions}
 use Rattle.entries.proofs.Leading.{passing-all}
 use Rattle.laws.proofs.Lists.{both-left, both-right, every-at, at-most, take-padded}
 use Rattle.laws.proofs.Joined.{sets-filled, padded-all}
-use Rattle.laws.proofs.Rows.{cells-most}
+use Rattle.laws.proofs.TriangleRows.{cells-most}
 use Rattle.packing.proofs.Pack.{length-row}
 use Rattle.packing.specs.Field.{rowAt}
 use Rattle.layout.specs.Places.{startOf, placesOf}
 use Rattle.reading.specs.Reading.{rowRead}
 use Rattle.reading.specs.Sound.{Sound}
-use Rattle.reading.proofs.Rows.{Whole, whole}
-use Rattle.reading.proofs.Lists.{lists, one-row}
+use Rattle.reading.proofs.RowsRead.{Whole, whole}
+use Rattle.reading.proofs.ListsRead.{lists, one-row}
 use Rattle.reading.proofs.Ranges.{Passed, Tested, Found, found, ranges-pass}
-use Rattle.reading.proofs.Answers.{fields-yes}
+use Rattle.reading.proofs.ReadAnswers.{fields-yes}
 
 -- arrays of zeros into which the record was read hold its figures
 pub record Filled (s : List ℕ) : Type 0 where

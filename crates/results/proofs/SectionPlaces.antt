@@ -16,7 +16,7 @@ use Rattle.rules.specs.Expense.{notReported, reserve}
 use Rattle.rules.specs.Ladder.{developed, base, developmentFactor, developmentFactors, completedRow, completedAll}
 use Rattle.rules.specs.Results.{sectionCounts, resultCount, sectionStart, separationSections, completionSections, reserveSections, ladderSections, squareOf, latestOf, factorsIn, paidIn, levelsIn, provisionsIn, developmentIn, ratioIn, sections, resultsOf}
 use Rattle.laws.proofs.Lists.{length-upTo}
-use Rattle.laws.proofs.Rows.{rows-all}
+use Rattle.laws.proofs.TriangleRows.{rows-all}
 use Rattle.laws.proofs.Joined.{past-length, future-length, future-cells}
 
 -- how long the lists are, list by list

@@ -20,8 +20,8 @@ use Rattle.laws.proofs.Lists.{both-right, same-answer}
 use Rattle.laws.proofs.Questions.{both-zero, yes-said}
 use Rattle.composing.specs.Text.{decimal, sign, integer, ascii}
 use Rattle.composing.proofs.Decimals.{length-most, length-sign}
-use Rattle.results.proofs.Places.{results-length}
-use Rattle.list_text.specs.Lines.{after, entryText, separated, refusedText}
+use Rattle.results.proofs.SectionPlaces.{results-length}
+use Rattle.list_text.specs.EntryLines.{after, entryText, entriesBy, refusedText}
 use Rattle.list_runs.specs.Runs.{runText}
 use Rattle.list_stream.specs.Stream.{lengthAt, wholeAt, mostRow}
 
@@ -38,8 +38,8 @@ unfolding entryText integer
 entry-most z next =
     omega (arith, length-append (sign z ++ decimal (natAbs z)) (next ∷ []), length-append (sign z) (decimal (natAbs z)), length-most (natAbs z), length-sign z)
 
-separated-most : (between : ℕ) (zs : List ℤ) → length (separated between zs) ≤ length zs * 22
-unfolding separated
+separated-most : (between : ℕ) (zs : List ℤ) → length (entriesBy between zs) ≤ length zs * 22
+unfolding entriesBy
 separated-most between zs =
     joined-most (λ i. entryText (getD zs i (pos 0)) (after between (length zs) i)) 22 (λ i. entry-most (getD zs i (pos 0)) (after between (length zs) i)) (length zs)
 

@@ -3,7 +3,7 @@ use mathlib.Core.Path.{_≡_}
 use Prim.Native.Nat.{ℕ, _+_, _-_, _≤_, _<_}
 use Rattle.rules.specs.Triangle.{futureStart}
 use Rattle.rules.specs.Record.{cells}
-use Rattle.laws.proofs.Rows.{cells-most}
+use Rattle.laws.proofs.TriangleRows.{cells-most}
 use Rattle.laws.proofs.Joined.{future-cells}
 use Rattle.listing.specs.Starts.{startsOf}
 use Rattle.listing.specs.declared.Starts.{Starts}

@@ -11,7 +11,7 @@ use Rattle.rules.specs.Record.{Kind, bitsOf, cells, layout, kindsOf, widths, bi
 use Rattle.rules.specs.Packing.{Fit}
 use Rattle.layout.specs.Places.{startOf}
 use Rattle.laws.proofs.Lists.{at-most}
-use Rattle.laws.proofs.Rows.{cells-twice, cells-most}
+use Rattle.laws.proofs.TriangleRows.{cells-twice, cells-most}
 
 -- the bits of a row of n fields of one kind and the fields after it
 pub bits-of-row : (n : ℕ) (κ : Kind) (κs : List Kind) → total (map bitsOf (replicate n κ ++ κs)) ≡ bitsOf κ * n + total (map bitsOf κs)

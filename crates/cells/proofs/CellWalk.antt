@@ -11,7 +11,7 @@ use Rattle.rules.specs.Lists.{every}
 use Rattle.composing.specs.Text.{ascii}
 use Rattle.scanning.specs.Parts.{among, fails, before, until, from, past, onto, pieces}
 use Rattle.scanning.proofs.Parts.{until-length}
-use Rattle.cells.specs.Cells.{decides, separators, unspaced, trimmed, unquoted, cellOf, filled, used, cellsBy, cellsOf, decider, cellsText, isOver, fromCell, firstCell, afterCell}
+use Rattle.cells.specs.Cells.{decides, separators, unspaced, trimmed, unquoted, cellFrom, filled, used, cellsBy, cellsOf, decider, cellsText, isOver, fromCell, firstCell, afterCell}
 
 module _ (p : ℕ → Bool) where
   -- the pieces after the first
@@ -156,9 +156,9 @@ module _ (s : ℕ) where
   walk-over xs h = go (isOver s xs) refl (decides s) h
     where
       go : (t : Bool) → isOver s xs ≡ t → (u : Bool) → length (cond t [] (cond u xs (from (fails p) xs))) ≤ 0
-          → map cellOf (used (cond u (pieces p xs) (filled (pieces p xs)))) ≡ []
-      go true e true k = ap (map cellOf) (used-none (pieces p xs) (empty-pieces (separators s) xs ∙ e))
-      go true e false k = ap (map cellOf) (used-none (filled (pieces p xs)) (empty-filled (pieces p xs) ∙ empty-pieces (separators s) xs ∙ e))
+          → map cellFrom (used (cond u (pieces p xs) (filled (pieces p xs)))) ≡ []
+      go true e true k = ap (map cellFrom) (used-none (pieces p xs) (empty-pieces (separators s) xs ∙ e))
+      go true e false k = ap (map cellFrom) (used-none (filled (pieces p xs)) (empty-filled (pieces p xs) ∙ empty-pieces (separators s) xs ∙ e))
       go false e true k = rw (nothing xs k)
       go false e false k = rw (filled-from p xs, nothing (from (fails p) xs) k)
 
@@ -168,20 +168,20 @@ module _ (s : ℕ) where
   walk-more xs h = go (isOver s xs) refl (decides s) h
     where
       go : (t : Bool) → isOver s xs ≡ t → (u : Bool) → 0 < length (cond t [] (cond u xs (from (fails p) xs)))
-          → map cellOf (used (cond u (pieces p xs) (filled (pieces p xs))))
-          ≡ cellOf (until p (cond t [] (cond u xs (from (fails p) xs))))
-          ∷ map cellOf (used (cond u (pieces p (past p (cond t [] (cond u xs (from (fails p) xs))))) (filled (pieces p (past p (cond t [] (cond u xs (from (fails p) xs))))))))
+          → map cellFrom (used (cond u (pieces p xs) (filled (pieces p xs))))
+          ≡ cellFrom (until p (cond t [] (cond u xs (from (fails p) xs))))
+          ∷ map cellFrom (used (cond u (pieces p (past p (cond t [] (cond u xs (from (fails p) xs))))) (filled (pieces p (past p (cond t [] (cond u xs (from (fails p) xs))))))))
       go true e u k = absurd (omega arith)
       go false e true k =
           let first = pieces-first p xs in
-          ap (map cellOf)
+          ap (map cellFrom)
           (ap used first
           ∙ used-some (until p xs) (after p xs) (sym (ap empty first) ∙ empty-pieces (separators s) xs ∙ e)
           ∙ ap (λ (l : List (List ℕ)). until p xs ∷ l) (after-past p used refl xs))
       go false e false k =
           let ys = from (fails p) xs in
           let first = filled-from p xs ∙ ap filled (pieces-first p ys) ∙ filled-first (until p ys) (after p ys) (first-some p xs k) in
-          ap (map cellOf)
+          ap (map cellFrom)
           (ap used first
           ∙ used-some (until p ys) (filled (after p ys)) (sym (ap empty first) ∙ empty-filled (pieces p xs) ∙ empty-pieces (separators s) xs ∙ e)
           ∙ ap (λ (l : List (List ℕ)). until p ys ∷ l) (after-past p (λ (l : List (List ℕ)). used (filled l)) refl ys))
@@ -202,7 +202,7 @@ module _ (s : ℕ) where
 
   -- the first cell, and those after it, where there are any
   pub walk-first : (xs : List ℕ) → getD (cellsBy s xs) 0 [] ≡ firstCell s xs
-  unfolding firstCell cellOf until before trimmed unquoted from unspaced
+  unfolding firstCell cellFrom until before trimmed unquoted from unspaced
   walk-first xs = go (decLt 0 (length (fromCell s xs)))
     where
       go : Dec (0 < length (fromCell s xs)) → getD (cellsBy s xs) 0 [] ≡ firstCell s xs

@@ -16,12 +16,12 @@ use Rattle.rules.specs.Completion.{mostUltimate}
 use Rattle.rules.specs.Ladder.{completedRow, completedAll, completedPass}
 use Rattle.rules.specs.Results.{completedSection, sectionStart, mostEntries, separationSections, completionSections, reserveSections, ladderSections, paidIn, developmentIn, sections, resultsOf}
 use Rattle.rules.specs.Engine.{runAnswer}
-use Rattle.laws.proofs.Rows.{cells-most}
+use Rattle.laws.proofs.TriangleRows.{cells-most}
 use Rattle.laws.proofs.Joined.{future-length, future-cells}
 use Rattle.triangle.specs.Columns.{rowsPassing}
 use Rattle.triangle.proofs.Passed.{paid-most}
 use Rattle.engine.proofs.Before.{paid-are}
-use Rattle.results.proofs.Places.{section-entry, section-inside, length-completed}
+use Rattle.results.proofs.SectionPlaces.{section-entry, section-inside, length-completed}
 use Rattle.results.proofs.Limits.{most-list, completed-most}
 use Rattle.listing.specs.Starts.{Addable}
 use Rattle.listing.proofs.Known.{known, start-least}

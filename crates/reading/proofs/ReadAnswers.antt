@@ -23,10 +23,10 @@ use Rattle.packing.specs.Field.{fieldAt, rowAt}
 use Rattle.packing.proofs.Pack.{length-row}
 use Rattle.layout.specs.Places.{startOf, placesOf}
 use Rattle.layout.specs.declared.Places.{Places}
-use Rattle.layout.proofs.Sizes.{starts}
+use Rattle.layout.proofs.RecordSizes.{starts}
 use Rattle.reading.specs.Reading.{triangleFields, assumptionFields}
-use Rattle.reading.proofs.Rows.{Whole, fields-are, years-field}
-use Rattle.reading.proofs.Lists.{lists, values, one-row}
+use Rattle.reading.proofs.RowsRead.{Whole, fields-are, years-field}
+use Rattle.reading.proofs.ListsRead.{lists, values, one-row}
 
 -- questions 4 and 5
 module _ (s : List ℕ) where

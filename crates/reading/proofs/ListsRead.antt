@@ -10,8 +10,8 @@ use Rattle.rules.specs.Record.{Kind, layout, section, cells, increment, valueOf
 use Rattle.packing.specs.Field.{fieldAt, rowAt}
 use Rattle.rules.specs.Lists.{upTo}
 use Rattle.layout.specs.Places.{startOf}
-use Rattle.layout.proofs.Sizes.{starts}
-use Rattle.reading.proofs.Rows.{Whole, codes-row, fields-row}
+use Rattle.layout.proofs.RecordSizes.{starts}
+use Rattle.reading.proofs.RowsRead.{Whole, codes-row, fields-row}
 
 naturals : (xs : List ℕ) → map natAbs (map pos xs) ≡ xs
 naturals [] = refl

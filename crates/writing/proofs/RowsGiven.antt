@@ -12,7 +12,7 @@ use Rattle.rules.specs.Record.{Figures, Kind, lastYear, exposure, increment, in
 use Rattle.rules.specs.Writing.{givenFields, givenLastYear, givenLengths, givenRanges}
 use Rattle.rules.specs.Lists.{every, between}
 use Rattle.laws.proofs.Lists.{both-left, both-right}
-use Rattle.layout.proofs.Sections.{join, Shaped, mapRows, zip-join, every-join}
+use Rattle.layout.proofs.LayoutSections.{join, Shaped, mapRows, zip-join, every-join}
 use Rattle.writing.specs.Writing.{rangesOf}
 
 -- the values of what is given, a row for each kind, and their bits

@@ -10,7 +10,7 @@ use lib.Seq.{take-suc, getD-drop, drop-drop}
 use Rattle.rules.specs.Lists.{upTo, total}
 use Rattle.rules.specs.Record.{fieldCount}
 use Rattle.laws.proofs.Lists.{map-upTo}
-use Rattle.layout.proofs.Sizes.{fields-count}
+use Rattle.layout.proofs.RecordSizes.{fields-count}
 use Rattle.composing.specs.Text.{Put, integer}
 use Rattle.composing.proofs.Puts.{put-append, put-three, put-same}
 use Rattle.sheet.specs.declared.Due.{Due}
