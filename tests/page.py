@@ -102,7 +102,7 @@ def csv(record):
     (averages, shares, levels, future, payments, provisions, provision_total, unreported, reserves, reserve_total, ratio, factors,
      completed) = sections(k, results)
     claim, money = "hundredths a claim", "currency units"
-    lines = [("section", "origin year", "year", "value", "unit")]
+    lines = [("section", "origin year", "development or payment year", "value", "unit")]
 
     def put(name, unit, entries):
         lines.extend((name, origin, year, value, unit) for origin, year, value in entries)

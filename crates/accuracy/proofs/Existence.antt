@@ -6,8 +6,7 @@ use native.Mathlib.Nat.{mul-pos}
 use native.Mathlib.Omega.{arith}
 use lib.IntN.{ℤ, pos, _+ℤ_}
 use Rattle.rules.specs.Lists.{total, upTo}
-use Rattle.rules.specs.Exact.{sumFrom, Solution}
-use Rattle.rules.specs.Accuracy.{fromTo}
+use Rattle.rules.specs.Exact.{sumFrom, Solution, fromTo}
 use Rattle.laws.proofs.Totals.{total-none, total-more, total-from, sumTo-pos, fromTo-one, fromTo-first}
 use Rattle.totals.proofs.Whole.{Totals}
 

@@ -4,7 +4,7 @@ use mathlib.Core.Path.{_≡_, sym, _∙_, ap, subst}
 use Prim.Native.Nat.{ℕ, zero, suc, _+_, _*_, _-_, _/_, _≤_, _<_}
 use native.Mathlib.Nat.{mul-div-cancel, le-refl, mul-le-mul-right, mul-le-mul-left, le-of-mul-le-mul-right, div-mul-le-self, lt-div-mul-add}
 use native.Mathlib.Omega.{arith}
-use Rattle.rules.specs.Accuracy.{fromTo}
+use Rattle.rules.specs.Exact.{fromTo}
 use Rattle.laws.proofs.Totals.{fromTo-one, fromTo-first}
 use Rattle.totals.proofs.Whole.{Totals}
 use Rattle.accuracy.proofs.Rounding.{Running, T-pos, floor-low, floor-high, rises}

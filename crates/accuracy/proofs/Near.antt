@@ -10,7 +10,7 @@ use lib.Dec.{leb}
 use lib.IntN.{ℤ}
 use Rattle.rules.specs.Triangle.{columnTotal, diagonalTotal}
 use Rattle.rules.specs.Separation.{billion, columnOf, diagonalOf, cornerOf, runningDown, runningOf, shareOf, levelOf, totalsPass, restsPass, runningPass}
-use Rattle.rules.specs.Accuracy.{fromTo, NearExact}
+use Rattle.rules.specs.Exact.{fromTo, NearExact}
 use Rattle.laws.proofs.Diff.{is-pos, is-minus, is-mul, is-abs, le-is, lt-is}
 use Rattle.laws.proofs.Totals.{fromTo-all}
 use Rattle.laws.proofs.Lists.{every-upTo}

@@ -5,7 +5,7 @@ use Prim.Native.Nat.{ℕ, zero, suc, _+_, _*_, _-_, _≤_, _<_}
 use native.Mathlib.Nat.{mul-le-mul-right, mul-le-mul-left, le-of-mul-le-mul-right, mul-pos, eq-of-mul-eq-mul-right}
 use native.Mathlib.Omega.{arith}
 use Rattle.rules.specs.Lists.{total, upTo}
-use Rattle.rules.specs.Accuracy.{fromTo}
+use Rattle.rules.specs.Exact.{fromTo}
 use Rattle.laws.proofs.Totals.{total-none, total-more, fromTo-one, fromTo-first}
 use Rattle.totals.proofs.Whole.{Totals}
 

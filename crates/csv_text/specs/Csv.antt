@@ -51,4 +51,4 @@ ladderLines k list =
 -- the whole, from the result list of the years 0 to k
 unfoldable pub csvOf : ℕ → List ℤ → List ℕ
 csvOf k list =
-    ascii "section,origin year,year,value,unit\n" ++ (separationLines k list ++ (completionLines k list ++ (expenseLines k list ++ ladderLines k list)))
+    ascii "section,origin year,development or payment year,value,unit\n" ++ (separationLines k list ++ (completionLines k list ++ (expenseLines k list ++ ladderLines k list)))

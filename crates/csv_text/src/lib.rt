@@ -185,7 +185,11 @@ pub fn put_csv(out: &mut [u8], list: &[i64; MOST_ENTRIES], k: usize) -> usize
     ensures { λ r. ⌜ Put (now (out .entry)) (now (out .exit)) 0 r (csvOf k (now (list .entry))) ⌝ }
 {
     let places = starts_of(k);
-    let a = put_bytes(out, 0, b"section,origin year,year,value,unit\n");
+    let a = put_bytes(
+        out,
+        0,
+        b"section,origin year,development or payment year,value,unit\n",
+    );
     let b = put_separation(out, a, list, k, places);
     let c = put_completion(out, b, list, k, places);
     let d = put_expense(out, c, list, k, places);

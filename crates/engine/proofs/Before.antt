@@ -13,13 +13,11 @@ use Rattle.rules.specs.Triangle.{cumulativesPass, averageRow, averagesOf, ZeroO
 use Rattle.rules.specs.Separation.{separateAnswer, separated}
 use Rattle.rules.specs.Results.{squareOf, factorsIn, paidIn}
 use Rattle.rules.specs.declared.Factors.{Factors}
-use Rattle.triangle.specs.Bounds.{Cells}
-use Rattle.triangle.specs.Columns.{columnSum, rowsPassing}
+use Rattle.triangle.specs.Columns.{Cells, columnSum, rowsPassing}
 use Rattle.triangle.proofs.Square.{cells-bounded}
 use Rattle.triangle.proofs.Passed.{rows-all}
 use Rattle.totals.proofs.Square.{zero-outside}
-use Rattle.reading.specs.Sound.{Sound}
-use Rattle.reading.specs.Reading.{rowRead}
+use Rattle.reading.specs.Reading.{Sound, rowRead}
 use Rattle.reading.proofs.FiguresRead.{Filled}
 
 module _ (f : Figures) (six : cumulativesPass (f .k) (f .increments) ≡ true) where

@@ -17,7 +17,7 @@ use Rattle.rules.specs.Results.{separationSections, completionSections, reserve
 use Rattle.triangle.specs.Columns.{columnSum}
 use Rattle.expense.specs.Reservable.{Reservable}
 use Rattle.listing.specs.Starts.{Addable}
-use Rattle.reading.specs.Sound.{Sound}
+use Rattle.reading.specs.Reading.{Sound}
 
 -- figures whose separation was accepted: their square s, the sums v of the cumulatives' columns, the paid cumulatives c, the shares r and the levels l
 pub record Separated (f : Figures) (s : List (List ℤ)) (v c r l : List ℕ) : Type 0 where

@@ -26,7 +26,7 @@ ghost use Rattle.rules.specs.Reading.{openingQuestions, fieldQuestions};
 ghost use Rattle.rules.specs.Results.{resultCount};
 ghost use Rattle.rules.specs.Engine.{laterQuestions, figureQuestions, holdsList, runAnswer, runInto};
 ghost use Rattle.rules.specs.Demand.{ThirdDemand};
-ghost use Rattle.reading.specs.Sound.{Sound};
+ghost use Rattle.reading.specs.Reading.{Sound};
 ghost use Rattle.engine.specs.Stages.{Separated, Printable, printedList, Answers};
 
 // The whole list.

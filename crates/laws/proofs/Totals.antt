@@ -9,7 +9,7 @@ use lib.IntN.{ℤ, pos, _+ℤ_, +ℤ-idr, +ℤ-assoc}
 use lib.ListN.{getD, take}
 use Rattle.rules.specs.Lists.{total, upTo}
 use Rattle.rules.specs.Triangle.{sumTo}
-use Rattle.rules.specs.Accuracy.{fromTo}
+use Rattle.rules.specs.Exact.{fromTo}
 use Rattle.laws.proofs.Lists.{total-take}
 
 -- two lists, one after the other

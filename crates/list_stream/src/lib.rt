@@ -75,10 +75,11 @@ pub fn put_rows(s: &[u8], out: &mut [u8]) -> Taken
     Taken { count, from, end }
 }
 
-// The bytes from place `from` up to place `to` move to the start.
+// The bytes from place `from` up to place `to` move to the start; those past their new places stay.
 pub fn move_down(s: &mut [u8], from: usize, to: usize)
     requires { ⌜ (from ≤ to) × (to ≤ length (now s)) ⌝ }
-    ensures { λ _. ⌜ ((j : ℕ) → from + j < to → getD (now (s .exit)) j 0 ≡ getD (now (s .entry)) (from + j) 0) ⌝ }
+    ensures { λ _. ⌜ ((j : ℕ) → from + j < to → getD (now (s .exit)) j 0 ≡ getD (now (s .entry)) (from + j) 0)
+        × ((j : ℕ) → to ≤ from + j → getD (now (s .exit)) j 0 ≡ getD (now (s .entry)) j 0) ⌝ }
 {
     for i in from..to {
         s[i - from] = s[i];

@@ -19,8 +19,8 @@ use Rattle.rules.specs.Results.{squareOf, resultCount, mostEntries}
 use Rattle.rules.specs.Engine.{laterQuestions, figureQuestions, holdsList, questions, runAnswer}
 use Rattle.laws.proofs.Lists.{both-left, both-right}
 use Rattle.laws.proofs.Questions.{yes-said}
-use Rattle.triangle.specs.Bounds.{Increments, Exposures}
-use Rattle.reading.specs.Sound.{Sound}
+use Rattle.triangle.specs.Columns.{Increments, Exposures}
+use Rattle.reading.specs.Reading.{Sound}
 use Rattle.reading.proofs.FiguresRead.{sound-figures}
 use Rattle.reading.proofs.RowsRead.{years-known, opening-yes}
 

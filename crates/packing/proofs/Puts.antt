@@ -10,7 +10,7 @@ use lib.Pow.{pow-add, shl-exact, recompose}
 use lib.Seq.{take-suc-set, drop-drop}
 use Rattle.rules.specs.Packing.{numberOf}
 use Rattle.packing.specs.declared.Pending.{Pending}
-use Rattle.packing.specs.Pending.{packedSo, placeOf, Packable, PackedOn}
+use Rattle.packing.specs.Field.{packedSo, placeOf, Packable, PackedOn}
 use Rattle.packing.proofs.Pack.{pack-more}
 
 -- one byte more

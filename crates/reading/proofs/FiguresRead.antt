@@ -22,8 +22,7 @@ use Rattle.laws.proofs.TriangleRows.{cells-most}
 use Rattle.packing.proofs.Pack.{length-row}
 use Rattle.packing.specs.Field.{rowAt}
 use Rattle.layout.specs.Places.{startOf, placesOf}
-use Rattle.reading.specs.Reading.{rowRead}
-use Rattle.reading.specs.Sound.{Sound}
+use Rattle.reading.specs.Reading.{rowRead, Sound}
 use Rattle.reading.proofs.RowsRead.{Whole, whole}
 use Rattle.reading.proofs.ListsRead.{lists, one-row}
 use Rattle.reading.proofs.Ranges.{Passed, Tested, Found, found, ranges-pass}

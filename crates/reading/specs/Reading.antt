@@ -1,12 +1,14 @@
--- What the reader makes of a record: the rows of fields that it reads as far as question 4 says yes, and the fields in their order. Assumes nothing.
+-- What the reader makes of a record: the rows of fields that it reads as far as question 4 says yes, the fields in their order, and what the later steps
+-- use of figures that have passed questions 4 and 5. Assumes nothing.
 use Prim.Native.Nat.{ℕ, _+_, _*_, _<_, _≤_, _^_}
 use mathlib.Core.Bool.{cond}
 use mathlib.Core.List.{List, [], _∷_, _++_, map}
-use lib.IntN.{ℤ, pos}
+use lib.IntN.{ℤ, pos, natAbs}
 use lib.ListN.{length, getD, take, drop}
-use Rattle.rules.specs.Lists.{every}
-use Rattle.rules.specs.Record.{Kind, layout, cells, bitsInRange, codesOf, lastYearOf}
+use Rattle.rules.specs.Lists.{every, total}
+use Rattle.rules.specs.Record.{Kind, layout, cells, bitsInRange, codesOf, lastYearOf, Figures, million, mostIndex, mostAmount}
 use Rattle.entries.specs.Leading.{passing}
+use mathlib.Core.Path.{_≡_}
 
 -- a row of n fields of w bits lies within the bytes s
 pub record RowInside (s : List ℕ) (at w n : ℕ) : Type 0 where
@@ -38,3 +40,16 @@ triangleFields k n p = pos k ∷ (map pos (take (k + 1) n) ++ take (cells k) p)
 
 unfoldable pub assumptionFields : ℕ → List ℕ → List ℕ → ℕ → List ℕ → List ℤ
 assumptionFields k e b w u = map pos (take k e) ++ (map pos (take (k + 1) b) ++ (pos w ∷ map pos (take (k + 1) u)))
+
+-- entries past the lists' ends are bounded too, since they are zero
+pub record Sound (f : Figures) : Type 0 where
+  pub some : 1 ≤ f .k
+  pub few : f .k < 16
+  pub exposures : (i : ℕ) → i ≤ f .k → (1 ≤ getD (f .exposures) i 0) × (getD (f .exposures) i 0 ≤ million)
+  pub exposures-most : (i : ℕ) → getD (f .exposures) i 0 ≤ million
+  pub increments : (i : ℕ) → natAbs (getD (f .increments) i (pos 0)) ≤ mostAmount
+  pub indices : (t : ℕ) → getD (f .indices) t 0 ≤ mostIndex
+  pub reporting : (j : ℕ) → getD (f .reporting) j 0 ≤ million
+  pub reporting-sum : total (take (f .k + 1) (f .reporting)) ≡ million
+  pub weight : f .weight ≤ million
+  pub ulae : (t : ℕ) → getD (f .ulae) t 0 ≤ mostAmount

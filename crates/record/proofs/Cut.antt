@@ -10,7 +10,7 @@ use lib.ListN.{length, getD, take, drop, length-append, length-drop, length-map,
 use lib.Seq.{sets, length-take-le, getD-take, take-append-le, drop-append-le, sets-eq}
 use Rattle.rules.specs.Lists.{total, every}
 use Rattle.rules.specs.Record.{Figures, figures, Kind, million, layout, kindsOf, section, fieldCount, byteCount, inRange, exposuresIn, incrementsIn, indicesIn, reportingIn, weightIn, ulaeIn}
-use Rattle.rules.specs.Writing.{givenIn, givenFields}
+use Rattle.rules.specs.Writing.{givenAt, givenIn, givenFields}
 use Rattle.laws.proofs.Lists.{both-left, both-right}
 use Rattle.layout.proofs.LayoutSections.{join, Shaped, everyRow, length-join, section-join, every-join}
 use Rattle.layout.proofs.RecordSizes.{fields-count}
@@ -138,7 +138,7 @@ module _ (k : ℕ) (vs : List ℤ) (f : RecordFields k vs) where
 
   -- the fields first in a list with more entries: what is found there is found among the fields
   given-first : (ys : List ℤ) → givenIn (vs ++ ys) ≡ cutBy k vs
-  unfolding givenIn fieldCount exposuresIn incrementsIn indicesIn reportingIn weightIn ulaeIn
+  unfolding givenAt fieldCount exposuresIn incrementsIn indicesIn reportingIn weightIn ulaeIn
   given-first ys =
       let first : getD (vs ++ ys) 0 (pos 0) ≡ pos k = List·getD-append vs ys (pos 0) 0 (omega (arith, f .size, fields-count k)) ∙ f .first in
       let row : (i : ℕ) → section (layout k) i (vs ++ ys) ≡ section (layout k) i vs = λ i. section-append (layout k) i vs ys (f .size) in

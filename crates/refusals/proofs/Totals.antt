@@ -12,8 +12,7 @@ use Rattle.rules.specs.Record.{lastYearOf, figuresOf}
 use Rattle.rules.specs.Triangle.{averageRow, columnTotal, diagonalTotal, ZeroOutside}
 use Rattle.rules.specs.Results.{squareOf}
 use Rattle.laws.proofs.Lists.{getD-upTo}
-use Rattle.triangle.specs.Bounds.{Cells}
-use Rattle.triangle.specs.Columns.{rowsPassing}
+use Rattle.triangle.specs.Columns.{Cells, rowsPassing}
 use Rattle.engine.proofs.Before.{square-is, separable}
 use Rattle.wording.specs.Wording.{refusalText}
 use Rattle.outcomes.proofs.Passed.{Late, cumulatives, sound}

@@ -9,8 +9,7 @@ use lib.ListN.{getD}
 use Rattle.rules.specs.Record.{Figures}
 use Rattle.rules.specs.Triangle.{ZeroOutside, columnTotal, diagonalTotal, paidTo}
 use Rattle.rules.specs.Separation.{shareOf, levelOf, factorsOf, totalsPass, restsPass, runningPass}
-use Rattle.rules.specs.Exact.{Solves}
-use Rattle.rules.specs.Accuracy.{NearExact, fromTo}
+use Rattle.rules.specs.Exact.{Solves, NearExact, fromTo}
 use Rattle.rules.specs.Completion.{futureLevel, futureLevels, provision, provisions}
 use Rattle.rules.specs.Expense.{paidTotal, ulaeTotal, ratioPass}
 use Rattle.rules.specs.Results.{shareSection, levelSection, squareOf, latestOf, factorsIn, paidIn, levelsIn, provisionsIn, ratioIn, resultsOf}
@@ -22,7 +21,7 @@ use Rattle.accuracy.proofs.Near.{near-exact, share-most}
 use Rattle.totals.proofs.Square.{zero-outside}
 use Rattle.allowance.proofs.Carried.{Basis, payment-near, provision-near, provisions-near, reserve-near, reserves-near}
 use Rattle.allowance.proofs.Rates.{Rates, ratio-most, reported-most}
-use Rattle.reading.specs.Sound.{Sound}
+use Rattle.reading.specs.Reading.{Sound}
 use Rattle.results.proofs.Printed.{share-entry, level-entry, provision-entry, provisions-entry, reserve-entry, reserves-entry, ratio-entry, payment-entry, square-entry, nonnegative-entry}
 
 -- the same shares and levels up to year k are as near

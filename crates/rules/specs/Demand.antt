@@ -9,8 +9,7 @@ use Rattle.rules.specs.Lists.{total, upTo, padded}
 use Rattle.rules.specs.Record.{Figures, million}
 use Rattle.rules.specs.Triangle.{rowStart, futureStart, paidTo, sumTo, columnTotal, diagonalTotal}
 use Rattle.rules.specs.Separation.{diagonalOf}
-use Rattle.rules.specs.Exact.{Solves}
-use Rattle.rules.specs.Accuracy.{NearExact}
+use Rattle.rules.specs.Exact.{Solves, NearExact}
 use Rattle.rules.specs.Expense.{reportedAfter}
 use Rattle.rules.specs.Results.{averageSection, shareSection, levelSection, paymentSection, provisionSection, provisionTotalSection, reserveSection, reserveTotalSection, ratioSection, sectionCount, sectionStart}
 

@@ -7,7 +7,6 @@ pub mod Writing
 pub mod Triangle
 pub mod Separation
 pub mod Exact
-pub mod Accuracy
 pub mod Completion
 pub mod Expense
 pub mod Ladder

@@ -1,5 +1,4 @@
--- Bit-packed, most significant bit first (document 01, "The record"): fields one after another are one row of bits, and a row of bits is a number.
--- Assumes nothing.
+-- Bit-packed, most significant bit first (document 01, "The record"): fields one after another are one row of bits, which is a number. Assumes nothing.
 use Prim.Native.Nat.{ℕ, _+_, _*_, _/_, _%_, _^_, _<_}
 use mathlib.Core.List.{List, [], _∷_}
 use lib.ListN.{length, getD, replicate}

@@ -1,5 +1,4 @@
--- A reader that only gives the fields back (document 01, "The record"): questions 1, 2, 4 and 5, with 3 between 2 and 4, for it fills a lent list.
--- Assumes nothing.
+-- A reader that only gives the fields back (document 01, "The record"): questions 1, 2, 4 and 5, with 3 before 4 for its lent list. Assumes nothing.
 use Prim.Native.Nat.{ℕ}
 use mathlib.Core.Bool.{Bool, _&&_}
 use mathlib.Core.List.{List, [], _∷_, _++_}

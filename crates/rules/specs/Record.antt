@@ -180,7 +180,7 @@ weightIn k vs = getD (map natAbs (section (layout k) 5 vs)) 0 0
 unfoldable pub ulaeIn : ℕ → List ℤ → List ℕ
 ulaeIn k vs = map natAbs (section (layout k) 6 vs)
 
--- the figures of one record: k, its lists, the increments by row, and its weight
+-- figures: k, lists, the increments by row, and the weight. A writer is given lists of any lengths; those of a record stand in arrays (`figuresOf`)
 pub record Figures : Type 0 where
   pub k : ℕ
   pub exposures : List ℕ

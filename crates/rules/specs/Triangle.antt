@@ -1,6 +1,5 @@
 -- Averages and sums (document 01): the cumulatives and averages of a triangle of increments, the averages in a square of sixteen rows of sixteen,
--- and the totals over it. Question 6.
--- Assumes nothing.
+-- and the totals over it. Question 6. Assumes nothing.
 use Prim.Native.Nat.{ℕ, zero, suc, _+_, _-_, _*_, _/_, _<_}
 use mathlib.Core.Path.{_≡_}
 use mathlib.Core.Bool.{Bool, true, _&&_, cond}
@@ -39,12 +38,9 @@ cumulativeOf k p i j = sumTo (paidOf k p i) (suc j)
 abbrev pub mostCumulative : ℕ
 mostCumulative = 100000000000
 
--- whether C_ij, and whether every given C of row i, is from 0 to 10^11
-abbrev pub cumulativePasses : ℕ → List ℤ → ℕ → ℕ → Bool
-cumulativePasses k p i j = leZ (pos 0) (cumulativeOf k p i j) && leZ (cumulativeOf k p i j) (pos mostCumulative)
-
+-- whether every given C of row i is from 0 to 10^11
 unfoldable pub rowPasses : ℕ → List ℤ → ℕ → Bool
-rowPasses k p i = every (cumulativePasses k p i) (below (k + 1 - i))
+rowPasses k p i = every (λ j. leZ (pos 0) (cumulativeOf k p i j) && leZ (cumulativeOf k p i j) (pos mostCumulative)) (below (k + 1 - i))
 
 -- 6. Is every given C from 0 to 10^11?
 unfoldable pub cumulativesPass : ℕ → List ℤ → Bool

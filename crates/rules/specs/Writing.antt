@@ -9,11 +9,12 @@ use Rattle.rules.specs.Lists.{total}
 use Rattle.rules.specs.Questions.{firstNo, afterCall}
 use Rattle.rules.specs.Record.{Figures, figures, million, kindsOf, layout, byteCount, everyField, inRange, recordOf, countOf, exposuresIn, incrementsIn, indicesIn, reportingIn, weightIn, ulaeIn}
 
--- what a writer is given, figures whose lists have any lengths, found among the fields vs of a record
-unfoldable pub givenIn : List ℤ → Figures
-givenIn vs =
-    let k = natAbs (getD vs 0 (pos 0)) in
-    figures k (exposuresIn k vs) (incrementsIn k vs) (indicesIn k vs) (reportingIn k vs) (weightIn k vs) (ulaeIn k vs)
+-- what a writer is given, found among the fields vs of a record of the years 0 to k, and of one whose k is the first of them
+unfoldable pub givenAt : ℕ → List ℤ → Figures
+givenAt k vs = figures k (exposuresIn k vs) (incrementsIn k vs) (indicesIn k vs) (reportingIn k vs) (weightIn k vs) (ulaeIn k vs)
+
+abbrev pub givenIn : List ℤ → Figures
+givenIn vs = givenAt (natAbs (getD vs 0 (pos 0))) vs
 
 -- the fields in the record's order
 unfoldable pub givenFields : Figures → List ℤ

@@ -17,7 +17,7 @@ use mir.Facts.{toZ-ofZ}
 use Rattle.rules.specs.Lists.{total, upTo, below, every}
 use Rattle.rules.specs.Triangle.{sumTo}
 use Rattle.rules.specs.Separation.{billion}
-use Rattle.triangle.specs.Bounds.{mostAverage}
+use Rattle.triangle.specs.Columns.{mostAverage}
 use Rattle.laws.proofs.Lists.{every-next, fails-at, every-upTo, stored}
 use Rattle.laws.proofs.Signed.{held}
 use Rattle.laws.proofs.Totals.{total-more, sumTo-pos}

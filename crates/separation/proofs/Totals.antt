@@ -8,7 +8,7 @@ use lib.IntN.{ℤ, natAbs}
 use Rattle.rules.specs.Triangle.{cellOf, columnTotal}
 use Rattle.rules.specs.Separation.{restsPass}
 use Rattle.laws.proofs.Adding.{sumTo-size}
-use Rattle.triangle.specs.Bounds.{mostAverage, Cells}
+use Rattle.triangle.specs.Columns.{mostAverage, Cells}
 use Rattle.totals.proofs.TotalsMost.{diagonal-most, corner-most}
 use Rattle.totals.proofs.Walk.{column-walk}
 use Rattle.totals.proofs.Whole.{totals}

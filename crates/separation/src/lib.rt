@@ -17,7 +17,7 @@ ghost use Rattle.rules.specs.Lists.{below, every, between};
 ghost use Rattle.rules.specs.Triangle.{sumTo, ZeroOutside};
 ghost use Rattle.rules.specs.Questions.{firstNo};
 ghost use Rattle.rules.specs.Separation.{billion, noFactors, separateAnswer, separated};
-ghost use Rattle.triangle.specs.Bounds.{mostAverage, Cells};
+ghost use Rattle.triangle.specs.Columns.{mostAverage, Cells};
 ghost use Rattle.separation.specs.Walk.{SizesOf, CornersFound, Ready, FactorsFound, withYear};
 
 // The number that the separation answers, and the factors: zeros where it is not 0.

@@ -9,11 +9,11 @@ use lib.ListN.{length, getD, set, take, drop, replicate, length-append, length-d
 use lib.Seq.{take-suc, take-at, take-append-le, drop-append-le, length-take-le, getD-drop, drop-drop}
 use Rattle.rules.specs.Lists.{padded, total}
 use Rattle.rules.specs.Record.{Figures, figures, Kind, cells, layout, section, exposuresIn, incrementsIn, indicesIn, reportingIn, weightIn, ulaeIn, mostFields}
-use Rattle.rules.specs.Writing.{writeInto}
+use Rattle.rules.specs.Writing.{givenAt, writeInto}
 use Rattle.laws.proofs.Lists.{padded-more}
 use Rattle.laws.proofs.TriangleRows.{cells-most}
 use Rattle.sheet_fields.specs.declared.Rows.{Rows}
-use Rattle.sheet_fields.specs.FieldRows.{rows, givenAt, rowsOf}
+use Rattle.sheet_fields.specs.FieldRows.{rows, rowsOf}
 
 -- one entry more in the array
 pub sizes-more : (list : List ℤ) (at i v : ℕ) → i < 16 → at + i < length list → v ≡ natAbs (getD list (at + i) (pos 0))

@@ -3,12 +3,8 @@ use Prim.Native.Nat.{ℕ}
 use mathlib.Core.List.{List}
 use lib.IntN.{ℤ}
 use Rattle.rules.specs.Lists.{padded}
-use Rattle.rules.specs.Record.{Figures, figures, exposuresIn, incrementsIn, indicesIn, reportingIn, weightIn, ulaeIn}
+use Rattle.rules.specs.Record.{exposuresIn, indicesIn, reportingIn, weightIn, ulaeIn}
 use Rattle.sheet_fields.specs.declared.Rows.{Rows}
-
--- what the writer is given for the years 0 to k
-unfoldable pub givenAt : ℕ → List ℤ → Figures
-givenAt k vs = figures k (exposuresIn k vs) (incrementsIn k vs) (indicesIn k vs) (reportingIn k vs) (weightIn k vs) (ulaeIn k vs)
 
 -- the rows of natural numbers, each in its array
 abbrev pub rows : List ℕ → List ℕ → List ℕ → ℕ → List ℕ → Rows

@@ -10,8 +10,8 @@ ghost use lib.IntN.{natAbs};
 ghost use lib.ListN.{length, take, drop};
 ghost use Rattle.rules.specs.Lists.{padded};
 ghost use Rattle.rules.specs.Record.{byteCount, mostBytes, mostFields};
-ghost use Rattle.rules.specs.Writing.{writeAnswer, writeInto};
-ghost use Rattle.sheet_fields.specs.FieldRows.{givenAt, rowsOf};
+ghost use Rattle.rules.specs.Writing.{givenAt, writeAnswer, writeInto};
+ghost use Rattle.sheet_fields.specs.FieldRows.{rowsOf};
 
 // The rows of natural numbers of a record.
 pub struct Rows {

@@ -9,7 +9,7 @@ use lib.IntN.{ℤ, pos}
 use lib.ListN.{length, take, drop, replicate, length-replicate, take-append-drop}
 use lib.Seq.{sets, sets-eq, length-sets, take-all, length-take-le}
 use Rattle.rules.specs.Record.{byteCount, mostFields}
-use Rattle.rules.specs.Writing.{givenIn, writeAnswer, writeInto}
+use Rattle.rules.specs.Writing.{givenAt, givenIn, writeAnswer, writeInto}
 use Rattle.laws.proofs.Joined.{sets-append, take-sets}
 use Rattle.composing.specs.Text.{Put}
 use Rattle.composing.proofs.Puts.{put-back, put-length, put-past}
@@ -19,7 +19,6 @@ use Rattle.sheet.specs.Table.{dueAt}
 use Rattle.sheet.specs.Sheet.{Typed, lastYearIn, readSheet, packAnswer, packInto}
 use Rattle.sheet_reading.specs.Reads.{Reads}
 use Rattle.sheet_reading.proofs.Known.{sheet-known}
-use Rattle.sheet_fields.specs.FieldRows.{givenAt}
 use Rattle.sheet_fields.proofs.FieldSections.{given-front}
 use Rattle.sheet_wording.specs.Problem.{problemLine, problemText}
 use Rattle.sheet_packing.specs.Said.{refusedFront, saidOf, sizeOf}
@@ -90,7 +89,7 @@ module _ (text : List ℕ) (f : Found) (list : List ℤ) (word : List ℕ) (h : 
 
     -- what the writer is given
     given-are : givenAt k list ≡ givenIn (t .numbers)
-    unfolding givenIn givenAt
+    unfolding givenAt
     given-are =
         let rest = drop (0 + length (t .numbers)) (replicate mostFields (pos 0)) in
         let list-is : list ≡ t .numbers ++ rest =

@@ -20,8 +20,7 @@ use Rattle.laws.proofs.Adding.{sumTo-read, sumTo-step, step-fits, step-read}
 use Rattle.laws.proofs.Lists.{both-right, every-upTo}
 use Rattle.laws.proofs.Totals.{total-more, total-each}
 use Rattle.laws.proofs.Signed.{held, size-fits}
-use Rattle.triangle.specs.Bounds.{Increments}
-use Rattle.triangle.specs.Columns.{cumulativeIn, columnSum}
+use Rattle.triangle.specs.Columns.{Increments, cumulativeIn, columnSum}
 
 module _ (k : ℕ) (p : List ℤ) (i : ℕ) (amounts : Increments p) where
   -- no increment's size is above 10^10

@@ -14,7 +14,7 @@ use mir.ValLaws.{toZ-pos}
 use mir.Facts.{toZ-ofZ}
 use Rattle.rules.specs.Record.{signedOf, signOf, million, mostAmount}
 use Rattle.rules.specs.Triangle.{nearest, averageOf}
-use Rattle.triangle.specs.Bounds.{mostAverage}
+use Rattle.triangle.specs.Columns.{mostAverage}
 use Rattle.laws.proofs.Signed.{held, size-fits, signed-size, times-size, signed-quotient}
 
 -- the largest average of a whole number

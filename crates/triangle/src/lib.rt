@@ -9,8 +9,7 @@ ghost use lib.Seq.{sets};
 ghost use Rattle.rules.specs.Lists.{upTo, below, every, padded};
 ghost use Rattle.rules.specs.Record.{million, mostAmount};
 ghost use Rattle.rules.specs.Triangle.{rowStart, paidOf, rowPasses, cumulativesPass, paidTo, averageOf, averageRow, ZeroOutside, columnTotal, diagonalTotal};
-ghost use Rattle.triangle.specs.Bounds.{Increments, Exposures, mostAverage, Cells};
-ghost use Rattle.triangle.specs.Columns.{columnSum, rowsPassing, columnTo};
+ghost use Rattle.triangle.specs.Columns.{Increments, Exposures, mostAverage, Cells, columnSum, rowsPassing, columnTo};
 
 // 100 × paid / claims to the nearest whole hundredth, halves away from zero.
 pub fn average(paid: i64, claims: u64) -> i64
@@ -143,7 +142,7 @@ fn diagonal_total(square: &[[i64; 16]; 16], h: usize) -> i64
     sum
 }
 
-// The totals of all diagonals go into a list of zeros; those past diagonal k are zero.
+// The totals of the diagonals 0 to 15 go into a list of zeros.
 pub fn fill_diagonals(square: &[[i64; 16]; 16], totals: &mut [i64; 16])
     requires { ⌜ Cells (now square) × (now totals ≡ replicate 16 (pos 0)) ⌝ }
     ensures { λ _. ⌜ now (totals .exit) ≡ upTo (diagonalTotal (now (square .entry))) 16 ⌝ }

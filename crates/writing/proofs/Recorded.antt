@@ -12,7 +12,7 @@ use Rattle.rules.specs.Lists.{total}
 use Rattle.rules.specs.Record.{Figures, Kind, bitsOf, kindsOf, widths, layout, bitCount, byteCount, fillingCount, codeOf, recordOf}
 use Rattle.rules.specs.Writing.{givenFields}
 use Rattle.packing.specs.declared.Pending.{Pending}
-use Rattle.packing.specs.Pending.{packedSo, placeOf, Packable, PackedOn}
+use Rattle.packing.specs.Field.{packedSo, placeOf, Packable, PackedOn}
 use Rattle.rules.specs.Packing.{Fit}
 use Rattle.packing.proofs.Pack.{bytes-number}
 use Rattle.packing.proofs.Puts.{packed-none, packed-then, ready-then}

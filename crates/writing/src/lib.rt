@@ -22,7 +22,7 @@ ghost use Rattle.rules.specs.Packing.{pack};
 ghost use Rattle.rules.specs.Record.{figures, increment, inRange, codeOf, byteCount, cells, recordOf, million, mostAmount, mostIndex};
 ghost use Rattle.rules.specs.Writing.{givenFields, writeAnswer, writeInto};
 ghost use Rattle.rules.specs.Lists.{every, between};
-ghost use Rattle.packing.specs.Pending.{Packable, PackedOn};
+ghost use Rattle.packing.specs.Field.{Packable, PackedOn};
 ghost use Rattle.writing.specs.Writing.{Writable};
 
 // Question 1.

@@ -1,4 +1,4 @@
--- The loop's invariant: the bytes before place i stand at their new places, and those from place i on where they stood. Assumes nothing.
+-- The loop's invariant: the bytes before place i stand at their new places, and past these all is as it was. Assumes nothing.
 use borrow.Author.Needs.{needs}
 use mathlib.Core.Path.{_≡_, refl, ap, _∙_}
 use native.Mathlib.Omega.{arith}
@@ -15,7 +15,7 @@ Inv-loop s₀ from to i₀ s i =
     × (i ≤ to)
     × (length s ≡ length s₀)
     × ((j : ℕ) → from + j < i → getD s j 0 ≡ getD s₀ (from + j) 0)
-    × ((j : ℕ) → i ≤ j → getD s j 0 ≡ getD s₀ j 0)
+    × ((j : ℕ) → i ≤ from + j → getD s j 0 ≡ getD s₀ j 0)
 
 abbrev μ-loop : tie.MeasureT-loop
 μ-loop s₀ from to i₀ s i = to - i
@@ -42,7 +42,7 @@ same-length : tie.Need-same-length Inv-loop μ-loop
 same-length c = c .before .loop .inv .2
 
 returns : tie.Need-returns Inv-loop μ-loop
-returns c j h = c .before .loop .inv .3 j (omega arith)
+returns c = let l = c .before .loop in ((λ j h. l .inv .3 j (omega arith)), (λ j h. l .inv .4 j (omega arith)))
 
 pub move-down-spec : {M : Type 1} → statement M
 move-down-spec =

@@ -8,7 +8,7 @@ use lib.ListN.{length, take, drop}
 use lib.Seq.{drop-set-lt}
 use lib.Pow.{pow-pos, pow-mono}
 use Rattle.rules.specs.Packing.{numberOf}
-use Rattle.packing.specs.Pending.{packedSo, placeOf}
+use Rattle.packing.specs.Field.{packedSo, placeOf}
 use Rattle.packing.proofs.BitPlaces.{one-shl}
 use Rattle.packing.proofs.Puts.{added-lt, added, written, drop-further}
 use Rattle.packing.proofs.put.Statement.{statement}

@@ -7,7 +7,7 @@ use borrow.Author.Needs.{needs}
 use lib.ListN.{length, take, replicate}
 use lib.Seq.{take-length}
 use Rattle.rules.specs.Packing.{pack}
-use Rattle.packing.specs.Pending.{PackedOn}
+use Rattle.packing.specs.Field.{PackedOn}
 use Rattle.packing.proofs.Pack.{pack-next, room}
 use Rattle.packing.proofs.Puts.{packed-none, packed-then, ready-then}
 use Rattle.packing.proofs.put_row.Statement.{statement}

@@ -11,8 +11,7 @@ use Rattle.rules.specs.Questions.{firstNo, afterCall}
 use Rattle.rules.specs.Record.{million, mostIndex, mostAmount, cells, lastYearOf, figuresOf}
 use Rattle.rules.specs.Reading.{fieldQuestions}
 use Rattle.layout.proofs.RecordSizes.{fields-count}
-use Rattle.reading.specs.Sound.{Sound}
-use Rattle.reading.specs.Reading.{Signable}
+use Rattle.reading.specs.Reading.{Sound, Signable}
 use Rattle.reading.proofs.RowsRead.{whole, opening-yes, years-known}
 use Rattle.reading.proofs.ReadAnswers.{fields-put}
 use Rattle.reading.proofs.FiguresRead.{Filled, filled, sound-figures}

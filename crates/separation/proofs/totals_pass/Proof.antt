@@ -8,7 +8,7 @@ use lib.IntN.{pos, natAbs}
 use lib.ListN.{getD}
 use mir.Syntax.{w64}
 use mir.Facts.{toZ-ofZ}
-use Rattle.triangle.specs.Bounds.{mostAverage}
+use Rattle.triangle.specs.Columns.{mostAverage}
 use Rattle.separation.proofs.Passing.{Done, whole, start, column-fails, diagonal-fails, more, last}
 use Rattle.separation.proofs.totals_pass.Statement.{statement}
 use Rattle.separation.proofs.totals_pass.Tie as tie

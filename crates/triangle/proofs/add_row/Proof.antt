@@ -8,8 +8,7 @@ use Rattle.rules.specs.Lists.{upTo}
 use Rattle.rules.specs.Triangle.{cellOf}
 use Rattle.laws.proofs.Adding.{step-fits, step-read}
 use Rattle.laws.proofs.Lists.{getD-upTo}
-use Rattle.triangle.specs.Bounds.{mostAverage}
-use Rattle.triangle.specs.Columns.{columnTo}
+use Rattle.triangle.specs.Columns.{mostAverage, columnTo}
 use Rattle.triangle.proofs.Added.{mixed, mixed-after, mixed-none, mixed-more, mixed-all}
 use Rattle.triangle.proofs.add_row.Statement.{statement}
 use Rattle.triangle.proofs.add_row.Tie as tie

@@ -6,7 +6,7 @@ use lib.IntN.{ℤ, natAbs}
 use mir.Syntax.{w64}
 use mir.Val.{ofZ}
 use Rattle.rules.specs.Triangle.{cellOf, sumTo}
-use Rattle.triangle.specs.Bounds.{mostAverage}
+use Rattle.triangle.specs.Columns.{mostAverage}
 use Rattle.totals.proofs.Walk.{diagonal-walk}
 use Rattle.laws.proofs.Adding.{sumTo-read, sumTo-step, step-fits}
 use Rattle.triangle.proofs.diagonal_total.Statement.{statement}

@@ -10,7 +10,7 @@ use lib.Seq.{take-length}
 use mir.Facts.{toZ-ofZ}
 use Rattle.rules.specs.Packing.{pack}
 use Rattle.rules.specs.Record.{increment, inRange, codeOf}
-use Rattle.packing.specs.Pending.{PackedOn}
+use Rattle.packing.specs.Field.{PackedOn}
 use Rattle.packing.proofs.Pack.{pack-next}
 use Rattle.packing.proofs.Puts.{packed-none, packed-then, ready-then}
 use Rattle.laws.proofs.Lists.{every-at}
