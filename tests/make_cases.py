@@ -431,6 +431,24 @@ def text_cases():
     yield "tab_in_commas", with_line(3, "paid,60\t40")
     yield "tab_around_a_cell", with_line(3, "paid,60,\t40")
     yield "blank_in_a_cell", with_line(3, "paid;6 0;40")
+    # comments, and a # that begins none
+    yield "comment_after_numbers", with_line(3, "paid 60 40 # note")
+    yield "comment_after_commas", with_line(3, "paid,60,40, # note, typed")
+    yield "comment_after_blanks", '  # two years\n "# as sent"\n' + plain
+    yield "comment_of_cells", '"# two years, as sent",,,\n#,1,2\n' + plain
+    yield "comment_in_place_of_numbers", with_line(4, "paid # 66")
+    yield "comment_in_quotes", with_line(4, 'paid,"66 # note"')
+    yield "comment_in_a_label", with_line(4, '"paid # 66')
+    yield "sharp_in_a_number", with_line(3, "paid,60,4#0")
+    yield "sharp_after_a_number", with_line(3, "paid 60 40#note")
+    yield "sharp_after_a_label", with_line(4, "paid# 66")
+    yield "sharp_after_a_tab", with_line(3, "paid 60 40\t# note")
+    yield "sharp_in_tabs", with_line(3, "paid\t60\t40\t#REF!")
+    yield "tab_before_a_comment_line", "\t# two years\n" + plain
+    yield "comma_before_a_comment_line", ",# two years\n" + plain
+    yield "error_value", with_line(3, "paid,60,#REF!")
+    yield "error_value_at_the_end", with_line(3, "paid,60,40,#REF!")
+    yield "error_value_in_quotes", with_line(3, 'paid;60;40;"#N/A"')
     # empty cells
     yield "empty_cell_between", with_line(4, "paid;580;;97;;677", three_years)
     yield "empty_cell_first", with_line(3, "paid,,60,40")

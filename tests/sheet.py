@@ -17,8 +17,9 @@ def table(k):
 
 
 def content(line):
-    """A line without a carriage return at its very end, up to its first #."""
-    return re.sub(rb"\r\Z", b"", line).partition(b"#")[0]
+    """A line without a carriage return at its very end, up to its first # right after a space; nothing of a line that begins with #."""
+    line = re.sub(rb"\r\Z", b"", line)
+    return b"" if line.lstrip(b' "').startswith(b"#") else re.split(rb"(?<= )#", line, maxsplit=1)[0]
 
 
 def unquoted(cell):

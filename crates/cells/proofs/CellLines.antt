@@ -2,16 +2,17 @@
 use mathlib.Core.Path.{_≡_, refl, _∙_}
 use mathlib.Core.Bool.{Bool, true, false, not, cond, _&&_}
 use mathlib.Core.List.{List, [], _∷_, _++_}
-use Prim.Native.Nat.{ℕ, zero, suc, _-_, _≤_, _<_, compare·suc-suc}
-use native.Mathlib.Numerals.{unary-clauses}
+use Prim.Native.Nat.{ℕ, zero, suc, _+_, _-_, _≤_, _<_, compare·suc-suc}
+use native.Mathlib.Numerals.{unary-clauses, add-one}
 use native.Mathlib.Omega.{arith}
 use borrow.Author.Tests.{eq-eqb, ne-eqb, eqb-true}
 use lib.Dec.{eqb}
 use lib.ListN.{length, getD, drop}
+use lib.Seq.{drop-cons, drop-length}
 use Rattle.rules.specs.Lists.{every}
 use Rattle.composing.specs.Text.{ascii}
 use Rattle.scanning.specs.Parts.{among, fails, before}
-use Rattle.cells.specs.Cells.{unreturned, decides, separators, unspaced, isOver}
+use Rattle.cells.specs.Cells.{unreturned, comments, uncommented, decides, separators, unspaced, isOver}
 
 -- nothing
 pub none-first : (xs : List ℕ) → length xs ≡ 0 → 0 ≡ getD xs 0 0
@@ -26,6 +27,26 @@ pub none-unreturned : (xs : List ℕ) → length xs ≡ 0 → xs ≡ unreturned 
 unfolding unreturned
 none-unreturned [] h = refl
 none-unreturned (b ∷ bs) h = absurd (omega arith)
+
+-- the comment of a line, after i bytes without one: it begins here, or does not, or there is none
+module _ (xs : List ℕ) (i p : ℕ) (e : uncommented 0 xs ≡ i + uncommented p (drop i xs)) where
+  pub comment-here : i < length xs → comments p (getD xs i 0) ≡ true → i ≡ uncommented 0 xs
+  unfolding uncommented
+  comment-here h t =
+      let z : uncommented p (drop i xs) ≡ 0 = rw (drop-cons xs i 0 h, t) in
+      omega arith
+
+  pub comment-later : i < length xs → comments p (getD xs i 0) ≡ false → uncommented 0 xs ≡ i + 1 + uncommented (getD xs i 0) (drop (i + 1) xs)
+  unfolding uncommented
+  comment-later h t =
+      let z : uncommented p (drop i xs) ≡ suc (uncommented (getD xs i 0) (drop (suc i) xs)) = rw (drop-cons xs i 0 h, t) in
+      rw (add-one i) (omega arith)
+
+  pub comment-none : i ≡ length xs → length xs ≡ uncommented 0 xs
+  unfolding uncommented
+  comment-none h =
+      let z : uncommented p (drop i xs) ≡ 0 = rw (h, drop-length xs) in
+      omega arith
 
 -- every entry passes where none is found that does not
 pub every-before : {A : Type 0} (p : A → Bool) (xs : List A) → eqb (before (fails p) xs) (length xs) ≡ every p xs

@@ -19,9 +19,18 @@ lastOf xs = getD xs (length xs - 1) 0
 unfoldable pub unreturned : List ℕ → List ℕ
 unreturned line = cond (eqb (lastOf line) 13) (take (length line - 1) line) line
 
--- its content: that up to the first #, which begins a comment
+-- whether a comment begins with byte b after byte p: a # right after a space
+abbrev pub comments : ℕ → ℕ → Bool
+comments p b = eqb b 35 && eqb p 32
+
+-- how many bytes of a line, after byte p, come before the comment in it
+unfoldable pub uncommented : ℕ → List ℕ → ℕ
+uncommented p [] = 0
+uncommented p (b ∷ bs) = cond (comments p b) 0 (suc (uncommented b bs))
+
+-- its content: that before the comment, and nothing where the line begins with #, after spaces and quotes
 unfoldable pub contentOf : List ℕ → List ℕ
-contentOf line = until (among (ascii "#")) (unreturned line)
+contentOf line = let xs = unreturned line in cond (eqb (getD (from (fails (among (ascii " \""))) xs) 0 0) 35) [] (take (uncommented 0 xs) xs)
 
 -- whether there is nothing in it but spaces, tabs, commas, semicolons and quotes
 unfoldable pub isBare : List ℕ → Bool

@@ -12,7 +12,7 @@ ghost use Prim.Native.Nat.{_≤_, _<_, _^_};
 ghost use Rattle.rules.specs.Lists.{every};
 ghost use lib.ListN.{length, getD, drop};
 ghost use Rattle.scanning.specs.Parts.{fails, before};
-ghost use Rattle.cells.specs.Cells.{unreturned, contentOf, isBare, fromLabel, labelOf, afterLabel, decides, separators, unspaced, trimmed, unquoted, cellFrom, cellsOf, decider, cellsText, isOver, fromCell, firstCell, afterCell, isWithin, passes};
+ghost use Rattle.cells.specs.Cells.{unreturned, comments, uncommented, contentOf, isBare, fromLabel, labelOf, afterLabel, decides, separators, unspaced, trimmed, unquoted, cellFrom, cellsOf, decider, cellsText, isOver, fromCell, firstCell, afterCell, isWithin, passes};
 
 // How many cells pass a test before the first that does not, and whether all do.
 pub struct Run {
@@ -35,11 +35,42 @@ fn without_return(line: &[u8]) -> &[u8]
     line
 }
 
+// Whether a comment begins with byte b after byte p.
+fn does_comment(p: u8, b: u8) -> bool
+    ensures { λ r. ⌜ r ≡ comments p b ⌝ }
+{
+    if b != 35 {
+        return false;
+    }
+    p == 32
+}
+
+// How many bytes of a line come before the comment in it.
+fn comment_start(line: &[u8]) -> usize
+    ensures { λ r. ⌜ (r ≡ uncommented 0 (now (line .entry))) × (r ≤ length (now (line .entry))) ⌝ }
+{
+    let n = line.len();
+    let mut p: u8 = 0;
+    for i in 0..n {
+        let b = line[i];
+        if does_comment(p, b) {
+            return i;
+        }
+        p = b;
+    }
+    n
+}
+
 // The content of a line.
 pub fn content_of(line: &[u8]) -> &[u8]
     ensures { λ r. ⌜ now r ≡ contentOf (now (line .entry)) ⌝ }
 {
-    until(without_return(line), b"#")
+    let text = without_return(line);
+    if first_of(from(text, b" \"", false)) == 35 {
+        return &text[..0];
+    }
+    let e = comment_start(text);
+    &text[..e]
 }
 
 // Whether there is nothing to read in a line.

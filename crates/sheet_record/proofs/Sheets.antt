@@ -14,8 +14,8 @@ use Rattle.rules.specs.Lists.{upTo, every, total}
 use Rattle.laws.proofs.Lists.{upTo-cons, upTo-ext}
 use Rattle.composing.specs.Text.{integer}
 use Rattle.scanning.specs.Numbers.{ceiling, isNumber, wholeOf}
-use Rattle.scanning.specs.Parts.{until, before, pieces}
-use Rattle.cells.specs.Cells.{unreturned, contentOf, isBare, isWithin}
+use Rattle.scanning.specs.Parts.{from, before, pieces}
+use Rattle.cells.specs.Cells.{unreturned, uncommented, contentOf, isBare, isWithin}
 use Rattle.sheet.specs.declared.Due.{Due}
 use Rattle.sheet.specs.Table.{labels, labelDue, lineCount, dueAt, dueLines}
 use Rattle.sheet.specs.Sheet.{spaced, lineOf, linesOf, lastYearIn, sameText, wrong, wrongIn, lines, fine, readLine, readLines}
@@ -110,7 +110,7 @@ one-line m i us xs rest left e o =
 
 -- the end of a text, after its last line feed
 end-line : (k m : ℕ) (us : List ℤ) → lastYearIn us ≡ k → readLines (fine m (lineCount k) us) (lines []) ≡ fine (suc m) (lineCount k) us
-unfolding readLines readLine pieces contentOf unreturned until before isBare every
+unfolding readLines readLine pieces contentOf unreturned uncommented from before isBare every
 end-line k m us e = rw (eq-eqb (lineCount k) (lineCount (lastYearIn us)) (ap lineCount (sym e)))
 
 -- the lines due from place i on

@@ -13,7 +13,7 @@ use Rattle.rules.specs.Lists.{every}
 use Rattle.laws.proofs.Lists.{every-append, every-at, both-left, both-right}
 use Rattle.composing.specs.Text.{ascii, integer}
 use Rattle.scanning.specs.Parts.{among, fails, before, until, from, pieces, onto}
-use Rattle.cells.specs.Cells.{lastOf, unreturned, contentOf, isBare, fromLabel, labelOf, afterLabel, separators, trimmed, unquoted, cellFrom, filled, used, cellsBy, decider, cellsText, cellsOf}
+use Rattle.cells.specs.Cells.{lastOf, unreturned, uncommented, contentOf, isBare, fromLabel, labelOf, afterLabel, separators, trimmed, unquoted, cellFrom, filled, used, cellsBy, decider, cellsText, cellsOf}
 use Rattle.cells.proofs.CellLines.{unspaced-here}
 use Rattle.sheet.specs.Sheet.{spaced, lines}
 use Rattle.sheet_record.proofs.NumbersBack.{plain, tame, every-of, integer-plain, integer-some}
@@ -120,16 +120,20 @@ last-tame (b ∷ bs) h =
     let e : tame x ≡ true = every-at tame (b ∷ bs) (length (b ∷ bs) - 1) 0 (omega arith) h in
     not-true (eqb x 13) (both-left (not (eqb x 13)) _ (both-right (not (eqb x 35)) _ e))
 
+tame-uncommented : (p : ℕ) (xs : List ℕ) → every tame xs ≡ true → uncommented p xs ≡ length xs
+unfolding uncommented every
+tame-uncommented p [] h = refl
+tame-uncommented p (b ∷ bs) h =
+    rw (not-true (eqb b 35) (both-left (not (eqb b 35)) _ (both-left (tame b) (every tame bs) h)), tame-uncommented b bs (both-right (tame b) (every tame bs) h))
+
 pub line-content : (w : List ℕ) (vs : List ℤ) → Word w → contentOf (w ++ spaced vs) ≡ w ++ spaced vs
-unfolding contentOf unreturned until among before
+unfolding contentOf unreturned from before among
 line-content w vs h =
     let text = w ++ spaced vs in
-    let p = among (ascii "#") in
-    let clear : every (fails p) text ≡ true =
-    every-of tame (fails p) (λ x e. rw (not-true (eqb x 35) (both-left (not (eqb x 35)) _ e))) text (line-tame w vs h) in
-    let past : before p text ≡ length text + 0 = rw (append-nil text) at (before-past p text [] clear) in
-    let all : before p text ≡ length text = omega arith in
-    rw (last-tame text (line-tame w vs h), all) (take-length text)
+    let f = first-plain w h in
+    let begins : eqb (getD (from (fails (among (ascii " \""))) text) 0 0) 35 ≡ false =
+    rw (h .is, f .space, f .quote) (not-true (eqb (h .first) 35) (both-left (not (eqb (h .first) 35)) _ (f .within))) in
+    rw (last-tame text (line-tame w vs h), begins, tame-uncommented 0 text (line-tame w vs h)) (take-length text)
 
 -- there is something in it, and its label is the word
 module _ (w : List ℕ) (vs : List ℤ) (h : Word w) where
