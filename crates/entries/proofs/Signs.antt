@@ -1,12 +1,12 @@
 -- A signed number of 64 bits by its sign, and the steps by which `size_of` takes the size of a negative one. Assumes nothing.
 use mathlib.Core.Path.{_≡_, refl, subst, _∙_}
 use mathlib.Core.Bool.{true, false}
-use Prim.Native.Nat.{ℕ, zero, suc, _<_, _^_}
+use Prim.Native.Nat.{ℕ, zero, suc, _<_, _^_, zero-le}
 use native.Mathlib.Omega.{arith}
-use borrow.Author.Tests.{ltb-true}
+use borrow.Author.Tests.{ltb-true, le-leb}
 use lib.Dec.{T}
 use lib.IntN.{ℤ, pos, negsuc, negℤ, sucℤ, _+ℤ_, _-ℤ_, +ℤ-idl, +ℤ-one, negℤ-negℤ}
-use lib.Signed.{ltZ}
+use lib.Signed.{ltZ, leZ}
 use mir.Facts.{toZ-ofZ}
 use mir.Syntax.{w64}
 use mir.Val.{SFits, toZ, ofZ}
@@ -20,6 +20,9 @@ below x f h = go x f (rw (toZ-ofZ f) at h)
     go (pos n) g e = let z : n < 0 = ltb-true n 0 e in absurd (omega arith)
     go (negsuc n) g e = (n, refl, g .sfits)
 
+pub under-zero : (x : ℤ) → SFits w64 x → ltZ (toZ w64 (ofZ w64 x)) (pos 0) ≡ true → leZ (pos 0) x ≡ false
+under-zero x f t = let (n, e, h) = below x f t in rw e
+
 -- a number not below 0 is a natural number
 pub above : (x : ℤ) → SFits w64 x → ltZ (toZ w64 (ofZ w64 x)) (pos 0) ≡ false → (n : ℕ) × (x ≡ pos n) × (n < 2 ^ 63)
 above x f h = go x f (rw (toZ-ofZ f) at h)
@@ -27,6 +30,9 @@ above x f h = go x f (rw (toZ-ofZ f) at h)
     go : (z : ℤ) → SFits w64 z → ltZ z (pos 0) ≡ false → (n : ℕ) × (z ≡ pos n) × (n < 2 ^ 63)
     go (pos n) g e = (n, refl, g .sfits)
     go (negsuc n) g e = absurd (subst T e tt)
+
+pub from-zero : (x : ℤ) → SFits w64 x → ltZ (toZ w64 (ofZ w64 x)) (pos 0) ≡ false → leZ (pos 0) x ≡ true
+from-zero x f t = let (n, e, h) = above x f t in rw e (le-leb 0 n zero-le)
 
 -- −(n + 1) and one more is −n
 suc-neg : (n : ℕ) → sucℤ (negsuc n) ≡ negℤ (pos n)

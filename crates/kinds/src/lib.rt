@@ -36,7 +36,7 @@ fn is_plain(bytes: &[u8]) -> bool
 }
 
 // Whether an input starts with the mark of a text.
-fn is_marked(input: &[u8]) -> bool
+pub fn is_marked(input: &[u8]) -> bool
     ensures { λ r. ⌜ r ≡ marked (now (input .entry)) ⌝ }
 {
     if input.len() < 3 {

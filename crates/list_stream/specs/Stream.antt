@@ -34,12 +34,13 @@ wholeAt s p = leb (p + 2) (length s) && leb (p + 2 + lengthAt s p) (length s)
 abbrev pub mostRow : ℕ
 mostRow = 10758
 
--- the first `count` records of s stand before place `from`, all of their rows are in the buffer and end before place `end`, and no more were taken
--- because no whole record is left or the buffer has no room for one row more
+-- the first `count` records of s stand before place `from`, and all of their rows are in the buffer and end before place `end`. A record is taken where it
+-- is whole and the buffer has room for the longest row after those before it, and the first that is not ends it: so `count` is fixed
 pub record RowsPut (s before after : List ℕ) (count from end : ℕ) : Type 0 where
   pub place : from ≡ recordStart s count
   pub inside : from ≤ length s
   pub put : Put before after 0 end (rowsText s count)
   pub whole : end ≡ length (rowsText s count)
   pub fits : end ≤ length before
+  pub taken : (i : ℕ) → i < count → length (rowsText s i) + mostRow ≤ length before
   pub done : wholeAt s from ≡ true → length before < end + mostRow

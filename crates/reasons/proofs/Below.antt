@@ -7,23 +7,10 @@ use native.Mathlib.Omega.{arith}
 use borrow.Author.Tests.{le-leb, lt-ltb, le-ltb}
 use lib.Dec.{ltb}
 use lib.IntN.{ℤ, pos}
-use lib.Signed.{ltZ, leZ}
-use mir.Syntax.{w64}
-use mir.Val.{SFits}
-use Rattle.laws.proofs.Signed.{held}
+use lib.Signed.{leZ}
 use Rattle.entries.specs.Leading.{leading}
-use Rattle.entries.proofs.Signs as signs
 use Rattle.composing.specs.Text.{ascii}
 use Rattle.reasons.specs.Reasons.{firstBelow, yearReason, totalsReason}
-
-module _ (x : ℤ) (fits : SFits w64 x) where
-  -- below zero
-  pub under-zero : ltZ (held x) (pos 0) ≡ true → leZ (pos 0) x ≡ false
-  under-zero t = let (n, e, h) = signs.below x fits t in rw e
-
-  -- not below zero
-  pub from-zero : ltZ (held x) (pos 0) ≡ false → leZ (pos 0) x ≡ true
-  from-zero t = let (n, e, h) = signs.above x fits t in rw e (le-leb 0 n zero-le)
 
 -- the reason where a column is below zero, where a diagonal is, and where none is
 module _ (v d : ℕ → ℤ) (k : ℕ) where

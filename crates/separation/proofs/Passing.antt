@@ -25,15 +25,7 @@ use Rattle.entries.proofs.Signs as signs
 use Rattle.separation.specs.Walk.{SizesOf}
 
 module _ (x : ℤ) (fits : SFits w64 x) where
-  -- below zero
-  under-zero : ltZ (held x) (pos 0) ≡ true → leZ (pos 0) x ≡ false
-  under-zero t = let (n, e, h) = signs.below x fits t in rw e
-
-  -- not below zero
-  from-zero : ltZ (held x) (pos 0) ≡ false → leZ (pos 0) x ≡ true
-  from-zero t = let (n, e, h) = signs.above x fits t in rw e (le-leb 0 n zero-le)
-
-  -- it is then a whole number of 64 bits
+  -- a total not below zero is a whole number of 64 bits
   pub whole : ltZ (held x) (pos 0) ≡ false → T (nonNeg (held x)) × Fits w64 (natAbs (held x))
   whole t = let (n, e, h) = signs.above x fits t in rw (e, signs.natural n h) (tt, record { fits = omega arith })
 
@@ -76,10 +68,10 @@ module _ (columns diagonals : List ℤ) (n : ℕ) (v d : List ℕ) where
 
   -- a column is below zero, or a diagonal
   pub column-fails : (i : ℕ) → i < n → SFits w64 (getD columns i (pos 0)) → ltZ (held (getD columns i (pos 0))) (pos 0) ≡ true → passes columns diagonals n ≡ false
-  column-fails i l fits t = rw (fails-at (least columns) (λ (j : ℕ). j) n i l (under-zero (getD columns i (pos 0)) fits t))
+  column-fails i l fits t = rw (fails-at (least columns) (λ (j : ℕ). j) n i l (signs.under-zero (getD columns i (pos 0)) fits t))
 
   pub diagonal-fails : (i : ℕ) → i < n → SFits w64 (getD diagonals i (pos 0)) → ltZ (held (getD diagonals i (pos 0))) (pos 0) ≡ true → passes columns diagonals n ≡ false
-  diagonal-fails i l fits t = rw (fails-at (least diagonals) (λ (j : ℕ). j) n i l (under-zero (getD diagonals i (pos 0)) fits t)) (and-false (every (least columns) (below n)))
+  diagonal-fails i l fits t = rw (fails-at (least diagonals) (λ (j : ℕ). j) n i l (signs.under-zero (getD diagonals i (pos 0)) fits t)) (and-false (every (least columns) (below n)))
 
   module _ (sum i : ℕ) (done : Done columns diagonals n v d sum i) where
     -- one total more of each
@@ -93,8 +85,8 @@ module _ (columns diagonals : List ℤ) (n : ℕ) (v d : List ℕ) where
           count = omega arith;
           v-long = length-set v i _ ∙ done .v-long;
           d-long = length-set d i _ ∙ done .d-long;
-          columns-pass = every-next (least columns) (λ (j : ℕ). j) i (done .columns-pass) (from-zero (getD columns i (pos 0)) a s);
-          diagonals-pass = every-next (least diagonals) (λ (j : ℕ). j) i (done .diagonals-pass) (from-zero (getD diagonals i (pos 0)) b t);
+          columns-pass = every-next (least columns) (λ (j : ℕ). j) i (done .columns-pass) (signs.from-zero (getD columns i (pos 0)) a s);
+          diagonals-pass = every-next (least diagonals) (λ (j : ℕ). j) i (done .diagonals-pass) (signs.from-zero (getD diagonals i (pos 0)) b t);
           v-sizes = λ j m. stored v i _ 0 (λ c. natAbs (getD columns c (pos 0))) (omega (arith, done .v-long)) column j (λ ne. done .v-sizes j (omega (arith, ne)));
           d-sizes = λ j m. stored d i _ 0 (λ c. natAbs (getD diagonals c (pos 0))) (omega (arith, done .d-long)) diagonal j (λ ne. done .d-sizes j (omega (arith, ne)));
           sum-is = rw (add-one i) (omega (arith, column, done .sum-is, total-more (λ j. natAbs (getD columns j (pos 0))) i));

@@ -18,7 +18,7 @@ use Rattle.composing.specs.Text.{ascii, Put}
 use Rattle.composing.proofs.Puts.{put-back, put-length}
 use Rattle.scanning.specs.Parts.{among, before, until, from, past, onto, pieces}
 use Rattle.cells.specs.Cells.{fromLabel, afterLabel, separators, unspaced, trimmed, unquoted, cellFrom, filled, used, cellsBy, decider, cellsText, cellsOf}
-use Rattle.sheet.specs.Table.{labels, due, lineCount, dueAt}
+use Rattle.sheet.specs.Table.{labels, due, lineCount, dueAt, startAt}
 
 -- the words of the code's text are the labels: by computing
 pub labels-are : cellsOf (ascii "labels k exposures paid indices reporting weight ulae") ≡ labels
@@ -44,10 +44,6 @@ module _ (row n : ℕ) (b : List ℕ) (p : Put (replicate 9 0) b 0 n (getD label
 
   pub label-back : take n b ≡ getD labels row []
   label-back = put-back p (label-short row)
-
--- how many numbers the lines before a place take
-unfoldable pub startAt : ℕ → ℕ → ℕ
-startAt k place = total (upTo (λ i. dueAt k i .count) place)
 
 pub start-more : (k place : ℕ) → startAt k (suc place) ≡ startAt k place + dueAt k place .count
 unfolding startAt

@@ -9,6 +9,7 @@ use Rattle.rules.specs.Lists.{every}
 use Rattle.rules.specs.Record.{byteCount}
 use Rattle.rules.specs.Writing.{givenIn, writeAnswer, writeInto}
 use Rattle.composing.specs.Text.{ascii, integer}
+use Rattle.kinds.specs.Kinds.{marked}
 use Rattle.scanning.specs.Parts.{among, fails, before, pieces}
 use Rattle.scanning.specs.Numbers.{isNumber, wholeOf}
 use Rattle.cells.specs.Cells.{contentOf, isBare, labelOf, cellsOf, isWithin}
@@ -44,7 +45,7 @@ sheetOf vs = linesOf (dueLines (lastYearIn vs)) vs
 
 -- the lines of a text, which a mark at its very start is no part of
 unfoldable pub unmarked : List ℕ → List ℕ
-unmarked text = cond (eqb (getD text 0 0) 239 && (eqb (getD text 1 0) 187 && eqb (getD text 2 0) 191)) (drop 3 text) text
+unmarked text = cond (marked text) (drop 3 text) text
 
 abbrev pub lines : List ℕ → List (List ℕ)
 lines text = pieces (among (ascii "\n")) text

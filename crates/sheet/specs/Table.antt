@@ -5,7 +5,7 @@ use mathlib.Core.List.{List, [], _∷_}
 use lib.Dec.{eqb, ltb}
 use lib.IntN.{ℤ, pos, negℤ}
 use lib.ListN.{getD}
-use Rattle.rules.specs.Lists.{upTo}
+use Rattle.rules.specs.Lists.{total, upTo}
 use Rattle.rules.specs.Record.{million, mostIndex, mostAmount}
 use Rattle.composing.specs.Text.{ascii}
 use Rattle.sheet.specs.declared.Due.{Due}
@@ -40,3 +40,7 @@ dueAt k place =
 
 unfoldable pub dueLines : ℕ → List Due
 dueLines k = upTo (dueAt k) (lineCount k)
+
+-- how many numbers the lines before a place take
+unfoldable pub startAt : ℕ → ℕ → ℕ
+startAt k place = total (upTo (λ i. dueAt k i .count) place)

@@ -17,9 +17,9 @@ use Rattle.laws.proofs.Totals.{total-part}
 use Rattle.scanning.specs.Numbers.{isNumber, wholeOf}
 use Rattle.cells.specs.Cells.{isBare, labelOf, cellsOf, contentOf, isWithin}
 use Rattle.sheet.specs.declared.Due.{Due}
-use Rattle.sheet.specs.Table.{labelDue, lineCount, dueAt}
+use Rattle.sheet.specs.Table.{labelDue, lineCount, dueAt, startAt}
 use Rattle.sheet.specs.Sheet.{sameText, lastYearIn, wrong, wrongIn, wordIn, Typed, typed, fine, lines, unmarked, readLine, readLines, readSheet}
-use Rattle.sheet.proofs.Table.{startAt, start-more, start-all, start-room}
+use Rattle.sheet.proofs.Table.{start-more, start-all, start-room}
 use Rattle.sheet_reading.specs.Reads.{Good}
 
 -- a line that is as due

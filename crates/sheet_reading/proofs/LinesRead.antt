@@ -5,14 +5,14 @@ use mathlib.Core.List.{List, [], _∷_, _++_, map}
 use Prim.Native.Nat.{ℕ, suc, _+_, _≤_, _<_}
 use native.Mathlib.Numerals.{add-one}
 use native.Mathlib.Omega.{arith}
-use borrow.Author.Tests.{eq-eqb, ne-eqb}
-use lib.Dec.{eqb}
+use borrow.Author.Tests.{eq-eqb, ne-eqb, leb-true}
+use lib.Dec.{eqb, leb}
 use lib.IntN.{ℤ, pos, natAbs}
 use lib.ListN.{length, getD, take, drop, length-append, length-map, length-take, length-drop, take-append-drop}
 use lib.Seq.{sets, sets-eq, getD-take}
 use Rattle.rules.specs.Lists.{upTo, every}
 use Rattle.laws.proofs.Joined.{sets-append}
-use Rattle.laws.proofs.Lists.{map-upTo, upTo-self}
+use Rattle.laws.proofs.Lists.{both-left, map-upTo, upTo-self}
 use Rattle.composing.specs.Text.{Put}
 use Rattle.composing.proofs.Puts.{put-none}
 use Rattle.scanning.specs.Parts.{fails, before}
@@ -22,6 +22,7 @@ use Rattle.cells.proofs.CellLines.{before-all}
 use Rattle.sheet.specs.declared.Due.{Due}
 use Rattle.sheet.specs.declared.Wrong.{Wrong}
 use Rattle.sheet.specs.Table.{labelDue, lineCount, dueAt}
+use Rattle.kinds.specs.Kinds.{marked}
 use Rattle.sheet.specs.Sheet.{sameText, lastYearIn, wrong, wrongIn, wordIn, Typed, typed, fine, unmarked, readLine}
 use Rattle.sheet_reading.specs.Reads.{found, Reads}
 
@@ -116,18 +117,15 @@ reads-fine {t} {word} list list′ n i m c cs e size count stored =
       put = put-none word 0;
     })
 
--- a text too short for a mark
-pub short-unmarked : (xs : List ℕ) → length xs < 3 → xs ≡ unmarked xs
-unfolding unmarked
-short-unmarked [] h = refl
-short-unmarked (a ∷ []) h = rw (and-false (eqb a 239))
-short-unmarked (a ∷ b ∷ []) h = rw (and-false (eqb b 187), and-false (eqb a 239))
-short-unmarked (a ∷ b ∷ c ∷ xs) h = absurd (omega arith)
+-- a text that has the mark has three bytes
+pub marked-long : (xs : List ℕ) → marked xs ≡ true → 3 ≤ length xs
+unfolding marked
+marked-long xs h = leb-true 3 (length xs) (both-left (leb 3 (length xs)) _ h)
 
 -- the mark counts for its own length only
 pub unmarked-most : (xs : List ℕ) → length (unmarked xs) ≤ length xs
 unfolding unmarked
-unmarked-most xs = go (eqb (getD xs 0 0) 239 && (eqb (getD xs 1 0) 187 && eqb (getD xs 2 0) 191))
+unmarked-most xs = go (marked xs)
   where
     go : (b : Bool) → length (cond b (drop 3 xs) xs) ≤ length xs
     go true = omega (arith, length-drop 3 xs)

@@ -7,9 +7,8 @@ use lib.ListN.{length}
 use lib.Seq.{sets}
 use Rattle.composing.specs.Text.{Put}
 use Rattle.sheet.specs.declared.Found.{Found}
-use Rattle.sheet.specs.Table.{lineCount}
+use Rattle.sheet.specs.Table.{lineCount, startAt}
 use Rattle.sheet.specs.Sheet.{lastYearIn, Typed}
-use Rattle.sheet.proofs.Table.{startAt}
 
 abbrev pub found : ℕ → ℕ → ℕ → ℕ → ℕ → ℕ → Found
 found p n i c w m = record { problem = p; line = n; place = i; cell = c; word = w; count = m }

@@ -6,6 +6,7 @@ use cells::label_of;
 use cells::leading;
 use composing::put_bytes;
 use entries::size_of;
+use kinds::is_marked;
 use rules::MOST_FIELDS;
 use scanning::number_of;
 use scanning::past;
@@ -183,19 +184,10 @@ fn read_end(f: Found, list: &[i64]) -> Found
 fn without_mark(text: &[u8]) -> &[u8]
     ensures { λ r. ⌜ now r ≡ unmarked (now (text .entry)) ⌝ }
 {
-    if text.len() < 3 {
-        return text;
+    if is_marked(text) {
+        return &text[3..];
     }
-    if text[0] != 239 {
-        return text;
-    }
-    if text[1] != 187 {
-        return text;
-    }
-    if text[2] != 191 {
-        return text;
-    }
-    &text[3..]
+    text
 }
 
 // Reads the figures of a text into the list, and the word that a problem is about into the lent bytes.

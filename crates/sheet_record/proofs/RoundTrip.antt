@@ -1,9 +1,11 @@
 -- The text of an accepted record, read again, has nothing wrong and gives the record's fields, and packing it makes the record again.
 -- Assumes nothing.
 use mathlib.Core.Path.{_≡_, refl, sym, ap, _∙_}
+use mathlib.Core.Bool.{false, and-false}
 use mathlib.Core.List.{List, [], _∷_, _++_, append-nil}
 use Prim.Native.Nat.{ℕ, suc, _+_, _≤_, _<_}
 use native.Mathlib.Omega.{arith}
+use lib.Dec.{eqb, leb}
 use lib.IntN.{ℤ, pos, natAbs}
 use lib.ListN.{length, getD, take, drop, drop-of-length-le}
 use lib.Seq.{take-add, take-all, sets-eq, length-take-le}
@@ -21,6 +23,7 @@ use Rattle.record.proofs.RoundTrip.{written-again}
 use Rattle.composing.specs.Text.{Put}
 use Rattle.composing.proofs.Puts.{put-back}
 use Rattle.sheet.specs.Table.{labels, lineCount, dueAt}
+use Rattle.kinds.specs.Kinds.{marked}
 use Rattle.sheet.specs.Sheet.{lineOf, linesOf, lastYearIn, sheetOf, unmarked, fine, readSheet, recordSize, packAnswer, packInto}
 use Rattle.sheet_writing.specs.Shown.{shownText}
 use Rattle.sheet_writing.proofs.LinesPut.{countsOf, sheet-counts}
@@ -34,6 +37,11 @@ first-one : (vs : List ℤ) (k : ℕ) → 1 ≤ length vs → getD vs 0 (pos 0) 
 first-one [] k h e = absurd (omega arith)
 first-one (v ∷ vs) k h e = ap (λ (z : ℤ). z ∷ []) e
 
+-- a text with another first byte than the mark's has no mark
+other-first : (text : List ℕ) → eqb (getD text 0 0) 239 ≡ false → unmarked text ≡ text
+unfolding unmarked marked
+other-first text e = rw (e, and-false (leb 3 (length text)))
+
 module _ (k : ℕ) (vs : List ℤ) (f : RecordFields k vs) where
   -- the text begins with k, and so with no mark
   text-is : sheetOf vs ≡ lineOf (dueAt k 0) (take 1 vs) ++ linesOf (upTo (λ j. dueAt k (1 + j)) (k + 6)) (drop 1 vs)
@@ -41,8 +49,8 @@ module _ (k : ℕ) (vs : List ℤ) (f : RecordFields k vs) where
   text-is = rw (ap natAbs (f .first), dues-first k)
 
   no-mark : unmarked (sheetOf vs) ≡ sheetOf vs
-  unfolding unmarked lineOf dueAt labels
-  no-mark = rw (text-is)
+  unfolding lineOf dueAt labels
+  no-mark = rw text-is (other-first (lineOf (dueAt k 0) (take 1 vs) ++ linesOf (upTo (λ j. dueAt k (1 + j)) (k + 6)) (drop 1 vs)) refl)
 
   -- the text of the fields of a record, read: nothing is wrong, every line due was there, and the numbers are the fields
   pub sheet-back : readSheet (sheetOf vs) ≡ fine (k + 8) (lineCount k) vs

@@ -14,9 +14,9 @@ use Rattle.layout.proofs.RecordSizes.{fields-count}
 use Rattle.composing.specs.Text.{Put, integer}
 use Rattle.composing.proofs.Puts.{put-append, put-three, put-same}
 use Rattle.sheet.specs.declared.Due.{Due}
-use Rattle.sheet.specs.Table.{dueAt, dueLines}
+use Rattle.sheet.specs.Table.{dueAt, dueLines, startAt}
 use Rattle.sheet.specs.Sheet.{spaced, lineOf, linesOf}
-use Rattle.sheet.proofs.Table.{startAt, start-all}
+use Rattle.sheet.proofs.Table.{start-all}
 
 -- one number more
 spaced-more : (xs : List ℤ) (v : ℤ) → spaced (xs ++ (v ∷ [])) ≡ spaced xs ++ (32 ∷ integer v)

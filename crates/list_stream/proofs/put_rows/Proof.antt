@@ -3,16 +3,17 @@ use borrow.Author.Tests.{not-true, not-false}
 use mathlib.Core.Path.{_≡_, refl, sym, ap, _∙_}
 use mathlib.Core.Bool.{false≢true}
 use mathlib.Core.List.{List}
+use native.Mathlib.Decide.{ℕ-discrete}
 use native.Mathlib.Numerals.{add-one}
 use native.Mathlib.Omega.{arith}
-use Prim.Native.Nat.{ℕ, _+_, _-_, _≤_}
+use Prim.Native.Nat.{ℕ, _+_, _-_, _≤_, _<_}
 use lib.ListN.{length, take, drop, length-append}
 use Rattle.rules.specs.Lists.{upTo, joined}
 use Rattle.laws.proofs.Joined.{joined-more}
 use Rattle.composing.specs.Text.{Put}
 use Rattle.composing.proofs.Puts.{put-none, put-more, put-same, put-length, put-room}
 use Rattle.list_runs.specs.Runs.{listRow}
-use Rattle.list_stream.specs.Stream.{lengthAt, recordStart, recordAt, rowsText}
+use Rattle.list_stream.specs.Stream.{lengthAt, recordStart, recordAt, rowsText, mostRow}
 use Rattle.list_stream.proofs.RowsTaken.{text-most, whole-inside}
 use Rattle.list_stream.proofs.put_rows.Statement.{statement}
 use Rattle.list_stream.proofs.put_rows.Tie as tie
@@ -30,6 +31,15 @@ rows-length : (s : List ℕ) (n : ℕ) → length (rowsText s (n + 1)) ≡ lengt
 unfolding rowsText
 rows-length s n = rw (add-one n) (ap length (joined-more (λ i. listRow (recordAt s i)) n) ∙ length-append (joined (upTo (λ i. listRow (recordAt s i)) n)) (listRow (recordAt s n)))
 
+-- each of the records taken had room for the longest row, and the next has
+had-room : (s : List ℕ) (room count : ℕ) → ((i : ℕ) → i < count → length (rowsText s i) + mostRow ≤ room) → length (rowsText s count) + mostRow ≤ room
+    → (j : ℕ) → j < count + 1 → length (rowsText s j) + mostRow ≤ room
+had-room s room count before now j h = go (ℕ-discrete j count)
+  where
+    go : Dec (j ≡ count) → length (rowsText s j) + mostRow ≤ room
+    go (yes e) = rw e now
+    go (no n) = before j (omega (arith, n))
+
 pub record Turn (s before after : List ℕ) (room count from end : ℕ) : Type 0 where
   pub long : room ≡ length before
   pub few : count ≤ from
@@ -38,6 +48,7 @@ pub record Turn (s before after : List ℕ) (room count from end : ℕ) : Type 0
   pub put : Put before after 0 end (rowsText s count)
   pub whole : end ≡ length (rowsText s count)
   pub fits : end ≤ length before
+  pub taken : (i : ℕ) → i < count → length (rowsText s i) + mostRow ≤ length before
 
 abbrev Inv-loop : tie.InvT-loop
 Inv-loop s out₀ room count₀ from₀ end₀ out count from end = Turn s out₀ out room count from end
@@ -47,7 +58,7 @@ abbrev μ-loop : tie.MeasureT-loop
 
 loop-holds : tie.Need-loop-holds Inv-loop μ-loop
 unfolding recordStart rowsText upTo joined
-loop-holds c = record { long = refl; few = omega arith; place = refl; inside = omega arith; put = put-none _ _; whole = refl; fits = omega arith }
+loop-holds c = record { long = refl; few = omega arith; place = refl; inside = omega arith; put = put-none _ _; whole = refl; fits = omega arith; taken = λ i h. absurd (omega arith) }
 
 sub-loop : tie.Need-sub-loop Inv-loop μ-loop
 sub-loop c = let i = c .loop .inv in omega (arith, i .long, i .fits)
@@ -63,7 +74,7 @@ returns c =
     let t = c .before in
     let i = t .before .before .loop .inv in
     let none = sym (t .has-whole .ensures) ∙ not-true (t .has-whole .result) (c .if1 .taken) in
-    record { place = i .place; inside = i .inside; put = i .put; whole = i .whole; fits = i .fits; done = λ w. absurd (false≢true (sym none ∙ w)) }
+    record { place = i .place; inside = i .inside; put = i .put; whole = i .whole; fits = i .fits; taken = i .taken; done = λ w. absurd (false≢true (sym none ∙ w)) }
 
 -- the record at hand stands inside
 here : (c : tie.Else1 Inv-loop μ-loop) → c .before .before .before .loop .from + 2 + lengthAt (c .before .before .before .before .before .before .args .s .now) (c .before .before .before .loop .from) ≤ length (c .before .before .before .before .before .before .args .s .now)
@@ -119,6 +130,7 @@ loop-again c =
       put = put-more (λ j. listRow (recordAt s j)) count (i .put) put;
       whole = omega (arith, ended, rows-length s count, i .whole);
       fits = omega (arith, ended, row, i .long);
+      taken = had-room s (length (at .before .before .before .args .out .now)) count (i .taken) (omega (arith, i .long, i .fits, i .whole));
     }
 
 same-length-2 : tie.Need-same-length-2 Inv-loop μ-loop
@@ -127,7 +139,7 @@ same-length-2 c = put-length (c .before .loop .inv .put)
 returns-2 : tie.Need-returns-2 Inv-loop μ-loop
 returns-2 c =
     let i = c .before .loop .inv in
-    record { place = i .place; inside = i .inside; put = i .put; whole = i .whole; fits = i .fits; done = λ w. omega (arith, i .long, i .fits) }
+    record { place = i .place; inside = i .inside; put = i .put; whole = i .whole; fits = i .fits; taken = i .taken; done = λ w. omega (arith, i .long, i .fits) }
 
 pub put-rows-spec : {M : Type 1} → statement M
 put-rows-spec =

@@ -11,7 +11,7 @@ use Rattle.rules.specs.Lists.{upTo, below, every}
 use Rattle.laws.proofs.Lists.{every-next}
 use Rattle.entries.proofs.Leading.{leading-all, leading-stop}
 use Rattle.reasons.specs.Reasons.{firstBelow}
-use Rattle.reasons.proofs.Below.{under-zero, from-zero}
+use Rattle.entries.proofs.Signs.{under-zero, from-zero}
 use borrow.Author.Needs.{needs, sfits-of}
 use Rattle.reasons.proofs.first_below.Statement.{statement}
 use Rattle.reasons.proofs.first_below.Tie as tie

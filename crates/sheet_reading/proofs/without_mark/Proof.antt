@@ -1,50 +1,33 @@
--- Byte by byte. Assumes nothing.
-use borrow.Author.Tests.{eq-eqb, ne-eqb}
-use lib.ListN.{getD}
-use Rattle.scanning.proofs.Parts.{from-place}
-use Rattle.sheet.specs.Sheet.{unmarked}
-use Rattle.sheet_reading.proofs.LinesRead.{short-unmarked}
+-- By whether the text has the mark; a text that has it has three bytes (marked-long). Assumes nothing.
+use mathlib.Core.Path.{_≡_, _∙_, sym}
+use mathlib.Core.Bool.{true}
+use native.Mathlib.Omega.{arith}
 use borrow.Author.Needs.{needs}
+use Rattle.scanning.proofs.Parts.{from-place}
+use Rattle.kinds.specs.Kinds.{marked}
+use Rattle.sheet.specs.Sheet.{unmarked}
+use Rattle.sheet_reading.proofs.LinesRead.{marked-long}
 use Rattle.sheet_reading.proofs.without_mark.Statement.{statement}
 use Rattle.sheet_reading.proofs.without_mark.Tie as tie
 
+has-mark : (c : tie.Then1) → marked (c .before .before .before .args .text .now) ≡ true
+has-mark c = sym (c .before .is-marked .ensures) ∙ c .if1 .taken
+
+sub-result : tie.Need-sub-result
+sub-result c = omega (arith, marked-long (c .before .before .before .args .text .now) (has-mark c))
+
+part-result-start : tie.Need-part-result-start
+part-result-start c = omega (arith, marked-long (c .before .before .before .args .text .now) (has-mark c))
+
 returns : tie.Need-returns
-returns c = short-unmarked (c .before .args .text .now) (c .if1 .taken)
+unfolding unmarked
+returns c = rw (has-mark (c .before)) (from-place (c .before .before .before .before .args .text .now) 3)
 
 returns-2 : tie.Need-returns-2
 unfolding unmarked
-returns-2 c = rw (ne-eqb (getD (c .before .before .before .args .text .now) 0 0) 239 (c .if2 .taken))
-
-returns-3 : tie.Need-returns-3
-unfolding unmarked
-returns-3 c =
-    let t = c .before .before .before .before .before .args .text .now in
-    rw (eq-eqb (getD t 0 0) 239 (c .before .before .if2 .left), ne-eqb (getD t 1 0) 187 (c .if3 .taken))
-
-returns-4 : tie.Need-returns-4
-unfolding unmarked
-returns-4 c =
-    let t = c .before .before .before .before .before .before .before .args .text .now in
-    rw (eq-eqb (getD t 0 0) 239 (c .before .before .before .before .if2 .left), eq-eqb (getD t 1 0) 187 (c .before .before .if3 .left), ne-eqb (getD t 2 0) 191 (c .if4 .taken))
-
-returns-5 : tie.Need-returns-5
-unfolding unmarked
-returns-5 c =
-    let t = c .before .before .before .before .before .before .before .before .args .text .now in
-    rw (eq-eqb (getD t 0 0) 239 (c .before .before .before .before .before .if2 .left), eq-eqb (getD t 1 0) 187 (c .before .before .before .if3 .left), eq-eqb (getD t 2 0) 191 (c .before .if4 .left)) (from-place t 3)
+returns-2 c = rw (sym (c .before .is-marked .ensures) ∙ c .if1 .left)
 
 pub without-mark-spec : {M : Type 1} → statement M
 without-mark-spec =
     tie.close
-    (tie.spec
-    returns
-    (λ c. search needs)
-    returns-2
-    (λ c. search needs)
-    returns-3
-    (λ c. search needs)
-    returns-4
-    (λ c. search needs)
-    (λ c. search needs)
-    (λ c. search needs)
-    returns-5)
+    (tie.spec (λ c κs. search needs) sub-result part-result-start (λ c. search needs) returns returns-2)

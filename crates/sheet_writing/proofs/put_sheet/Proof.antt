@@ -13,9 +13,9 @@ use Rattle.rules.specs.Lists.{upTo, total}
 use Rattle.rules.specs.Record.{mostFields}
 use Rattle.composing.specs.Text.{Put}
 use Rattle.composing.proofs.Puts.{put-none, put-length}
-use Rattle.sheet.specs.Table.{dueAt, dueLines}
+use Rattle.sheet.specs.Table.{dueAt, dueLines, startAt}
 use Rattle.sheet.specs.Sheet.{linesOf, lastYearIn, sheetOf}
-use Rattle.sheet.proofs.Table.{startAt, start-more, start-room}
+use Rattle.sheet.proofs.Table.{start-more, start-room}
 use Rattle.sheet_writing.proofs.LinesPut.{put-next-line}
 use Rattle.sheet_writing.proofs.put_sheet.Statement.{statement}
 use Rattle.sheet_writing.proofs.put_sheet.Tie as tie
