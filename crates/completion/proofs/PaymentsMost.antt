@@ -7,15 +7,15 @@ use lib.ListN.{getD}
 use Rattle.rules.specs.Record.{million}
 use Rattle.rules.specs.Separation.{billion}
 use Rattle.rules.specs.Completion.{paymentOf, payment, paymentRow, provision}
-use Rattle.completion.specs.Asked.{Completable}
+use Rattle.completion.specs.Asked.{Completable, mostPayment}
 use Rattle.laws.proofs.Totals.{total-each}
 
 -- the unit of a payment is at most 5 × 10^9
 pub unit-most : (share level : ℕ) → share ≤ billion → level ≤ 5 * billion → share * level / billion ≤ 5 * billion
 unit-most share level s l = omega (arith, mul-le-mul s l)
 
--- a payment is at most 5 × 10^13
-pub payment-most : (claims share level : ℕ) → claims ≤ million → share ≤ billion → level ≤ 5 * billion → paymentOf claims share level ≤ 50000000000000
+-- a payment is at most the most of one
+pub payment-most : (claims share level : ℕ) → claims ≤ million → share ≤ billion → level ≤ 5 * billion → paymentOf claims share level ≤ mostPayment
 unfolding paymentOf
 payment-most claims share level n s l = omega (arith, mul-le-mul n (unit-most share level s l))
 
@@ -24,12 +24,12 @@ abbrev AtMost : ℕ → ℕ → Type 0
 AtMost most x = x ≤ most
 
 module _ (k : ℕ) (n r l : List ℕ) (c : Completable k n r l) where
-  -- no payment is above 5 × 10^13
-  pub cell-most : (i j : ℕ) → payment k n r l i j ≤ 50000000000000
+  -- no payment is above it
+  pub cell-most : (i j : ℕ) → payment k n r l i j ≤ mostPayment
   unfolding payment
   cell-most i j = payment-most (getD n i 0) (getD r j 0) (getD l (i + j - k - 1) 0) (c .exposures i) (c .shares j) (c .levels (i + j - k - 1))
 
-  -- no provision is above 75 × 10^13
-  pub provision-most : (i : ℕ) → i < 16 → provision k n r l i ≤ 750000000000000
+  -- a provision is of at most fifteen payments
+  pub provision-most : (i : ℕ) → i < 16 → provision k n r l i ≤ 15 * mostPayment
   unfolding provision paymentRow
-  provision-most i h = omega (arith, total-each _ 50000000000000 i (λ m l. cell-most i (k + 1 - i + m)))
+  provision-most i h = omega (arith, total-each _ mostPayment i (λ m l. cell-most i (k + 1 - i + m)))

@@ -11,7 +11,7 @@ ghost use Rattle.rules.specs.Record.{million, mostIndex};
 ghost use Rattle.rules.specs.Triangle.{mostCumulative};
 ghost use Rattle.rules.specs.Separation.{billion};
 ghost use Rattle.rules.specs.Completion.{futureLevels, paymentOf, paymentRow, provision, provisions, ultimatesPass};
-ghost use Rattle.completion.specs.Asked.{Completable, rowsAsked};
+ghost use Rattle.completion.specs.Asked.{Completable, mostPayment, rowsAsked};
 
 // L_1 to L_k go into the list, L_t at place t - 1.
 pub fn fill_levels(latest: u64, indices: &[u64; 16], k: usize, levels: &mut [u64; 16])
@@ -26,7 +26,7 @@ pub fn fill_levels(latest: u64, indices: &[u64; 16], k: usize, levels: &mut [u64
 // The payment of a cell: its unit is rounded first, in hundredths a claim.
 fn payment(claims: u64, share: u64, level: u64) -> u64
     requires { ⌜ (claims ≤ million) × ((share ≤ billion) × (level ≤ 5 * billion)) ⌝ }
-    ensures { λ r. ⌜ (r ≡ paymentOf claims share level) × (r ≤ 50000000000000) ⌝ }
+    ensures { λ r. ⌜ (r ≡ paymentOf claims share level) × (r ≤ mostPayment) ⌝ }
 {
     let unit = share * level / BILLION;
     claims * unit / 100
@@ -44,7 +44,7 @@ fn put_row(
 ) -> u64
     requires { ⌜ Completable k (now exposures) (now shares) (now levels) × ((i ≤ k) × (at + i ≤ 120)) ⌝ }
     ensures { λ r. ⌜ (r ≡ provision k (now (exposures .entry)) (now (shares .entry)) (now (levels .entry)) i)
-        × ((r ≤ 750000000000000)
+        × ((r ≤ 15 * mostPayment)
         × (now (all .exit) ≡ sets (now (all .entry)) at (paymentRow k (now (exposures .entry)) (now (shares .entry)) (now (levels .entry)) i))) ⌝ }
 {
     let mut sum: u64 = 0;

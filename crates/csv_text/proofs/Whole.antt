@@ -16,7 +16,7 @@ use Rattle.csv_rows.specs.declared.Shape.{Shape}
 abbrev pub endOf : ℕ → ℕ → Shape → ℕ
 endOf k i s = sectionStart k i + entriesIn (s .n) (s .rows)
 
-pub record Whole (k : ℕ) : Type 0 where
+pub record WholeList (k : ℕ) : Type 0 where
   pub first : sectionStart k averageSection ≡ 0
   pub averages : endOf k averageSection (givenCells k) ≡ sectionStart k shareSection
   pub shares : endOf k shareSection (byYear 0 (k + 1)) ≡ sectionStart k levelSection
@@ -32,8 +32,8 @@ pub record Whole (k : ℕ) : Type 0 where
   pub factors : endOf k factorSection (byYear 0 k) ≡ sectionStart k completedSection
   pub last : endOf k completedSection (futureCells k) ≡ resultCount k
 
-pub whole : (k : ℕ) → Whole k
-whole k =
+pub whole-list : (k : ℕ) → WholeList k
+whole-list k =
     let at = known k in
     let cells = future-cells k in
     let given = entries-falling (k + 1) in

@@ -1,5 +1,5 @@
 -- What each stage after the separation requires, and that it leaves the figures' own arrays and answers. Assumes nothing.
-use Prim.Native.Nat.{ℕ, _+_, _-_, _≤_, _<_}
+use Prim.Native.Nat.{ℕ, _+_, _-_, _*_, _≤_, _<_}
 use native.Mathlib.Nat.{le-trans}
 use native.Mathlib.Omega.{arith}
 use borrow.Author.Tests.{leb-true}
@@ -110,7 +110,7 @@ module _ (f : Figures) (s : List (List ℤ)) (v c r l : List ℕ) (h : Separated
           p ∙ rw (all-rows, h .shares, ahead-is) (sets-filled 16 0 (upTo one (k + 1)) (omega (arith, length-upTo one (k + 1), h .sound .few)))
 
   -- question 12
-  pub spent-fits : ulaeTotal (f .k) (f .ulae) ≤ 160000000000
+  pub spent-fits : ulaeTotal (f .k) (f .ulae) ≤ 16 * mostAmount
   unfolding ulaeTotal
   spent-fits = omega (arith, total-most mostAmount (f .ulae) (h .sound .ulae) (k + 1), h .sound .few)
 

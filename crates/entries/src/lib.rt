@@ -7,6 +7,7 @@ ghost use lib.IntN.{pos, natAbs};
 ghost use lib.ListN.{length, getD, set, take};
 ghost use lib.Seq.{sets};
 ghost use Rattle.rules.specs.Lists.{total, every, between};
+ghost use Rattle.rules.specs.Completion.{mostUltimate};
 
 // The first n of vs go into out from place `at` on.
 pub fn put_naturals(out: &mut [i64], at: usize, vs: &[u64], n: usize) -> usize
@@ -56,9 +57,9 @@ pub fn within(vs: &[u64], n: usize, least: u64, most: u64) -> bool
     true
 }
 
-// The sum of the first n of vs, at most sixteen numbers up to 10^12.
+// The sum of the first n of vs, at most sixteen numbers up to the most of an ultimate.
 pub fn sum_of(vs: &[u64], n: usize) -> u64
-    requires { ⌜ (n ≤ length (now vs)) × ((n ≤ 16) × ((i : ℕ) → i < n → getD (now vs) i 0 ≤ 1000000000000)) ⌝ }
+    requires { ⌜ (n ≤ length (now vs)) × ((n ≤ 16) × ((i : ℕ) → i < n → getD (now vs) i 0 ≤ mostUltimate)) ⌝ }
     ensures { λ r. ⌜ r ≡ total (take n (now (vs .entry))) ⌝ }
 {
     let mut sum: u64 = 0;

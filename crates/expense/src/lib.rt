@@ -7,7 +7,7 @@ ghost use lib.IntN.{pos};
 ghost use lib.ListN.{length};
 ghost use lib.Seq.{sets};
 ghost use Rattle.rules.specs.Lists.{upTo, joined};
-ghost use Rattle.rules.specs.Record.{million};
+ghost use Rattle.rules.specs.Record.{million, mostAmount};
 ghost use Rattle.rules.specs.Completion.{mostUltimate};
 ghost use Rattle.rules.specs.Expense.{ratioPass, ratioOf, notReported, reserveOf, reserve};
 ghost use Rattle.rules.specs.Results.{reserveSections};
@@ -25,7 +25,7 @@ pub fn ratio_passes(paid: u64, spent: u64) -> bool
 
 // The ratio p: the ULAE totals over the paid total, in millionths.
 pub fn ratio_of(paid: u64, spent: u64) -> u64
-    requires { ⌜ (1 ≤ paid) × (spent ≤ 160000000000) ⌝ }
+    requires { ⌜ (1 ≤ paid) × (spent ≤ 16 * mostAmount) ⌝ }
     ensures { λ r. ⌜ r ≡ ratioOf (pos paid) spent ⌝ }
 {
     MILLION * spent / paid

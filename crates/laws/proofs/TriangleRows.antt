@@ -41,13 +41,13 @@ pub row-within : (k i : ℕ) → i ≤ k → rowStart k i + (k + 1 - i) ≤ cell
 row-within k i h = omega (arith, rows-from k i h, cells-least (k - i))
 
 -- where the row after row i starts
-pub start-more : (k i : ℕ) → rowStart k (i + 1) ≡ rowStart k i + (k + 1 - i)
+pub row-start-more : (k i : ℕ) → rowStart k (i + 1) ≡ rowStart k i + (k + 1 - i)
 unfolding rowStart
-start-more k i = rw (add-one i)
+row-start-more k i = rw (add-one i)
 
 -- the rows 0 to k are the triangle
 pub rows-all : (k : ℕ) → rowStart k (k + 1) ≡ cells k
 unfolding cells
 rows-all k =
     let e : k - k ≡ 0 = omega arith in
-    omega (arith, start-more k k, rows-from k k (omega arith), ap cells e)
+    omega (arith, row-start-more k k, rows-from k k (omega arith), ap cells e)

@@ -9,7 +9,7 @@ use Rattle.rules.specs.Packing.{pack, unpack, numberOf}
 use Rattle.rules.specs.Lists.{total}
 use Rattle.rules.specs.Record.{Kind, bitsOf, kindsOf}
 use Rattle.packing.specs.Field.{rowAt}
-use Rattle.packing.proofs.Pack.{unpack-append, pack-append, rows-are, length-row}
+use Rattle.packing.proofs.Pack.{unpack-append, pack-append, row-fields-are, length-row}
 use Rattle.layout.proofs.LayoutSections.{join, Shaped}
 use Rattle.layout.proofs.RecordSizes.{bits-of-row}
 
@@ -51,7 +51,7 @@ unpack-rows s (r ∷ rs) at after h =
     let e : at + (w * r .0 + t) + after ≡ 8 * length s = rw (total-row r rs) at h in
     rw (widths-row r rs, unpack-append (replicate (r .0) w) (widthsOf rs) (numberOf s / 2 ^ after), shr-shr (numberOf s) after t)
     (ap₂ (λ (xs ys : List ℕ). xs ++ ys)
-    (rows-are s at w (r .0) (after + t) (omega arith))
+    (row-fields-are s at w (r .0) (after + t) (omega arith))
     (unpack-rows s rs (at + w * r .0) after (omega arith)))
 
 -- a number with the rows packed after it, one row after another

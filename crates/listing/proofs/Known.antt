@@ -12,7 +12,7 @@ use Rattle.listing.specs.declared.Starts.{Starts}
 use Rattle.listing.specs.Starts.{startsOf}
 
 -- each start, with the cells past the diagonal as c − (k + 1)
-pub record Known (k : ℕ) : Type 0 where
+pub record SectionsKnown (k : ℕ) : Type 0 where
   pub averages : sectionStart k averageSection ≡ 0
   pub shares : sectionStart k shareSection ≡ cells k
   pub levels : sectionStart k levelSection ≡ cells k + (k + 1)
@@ -27,7 +27,7 @@ pub record Known (k : ℕ) : Type 0 where
   pub factors : sectionStart k factorSection ≡ 2 * cells k + 4 * (k + 1) + k + 3
   pub completed : sectionStart k completedSection ≡ 2 * cells k + 4 * (k + 1) + 2 * k + 3
 
-pub known : (k : ℕ) → Known k
+pub known : (k : ℕ) → SectionsKnown k
 unfolding sectionStart total sectionCounts
 known k =
     let m = cells-least k in
@@ -81,9 +81,9 @@ at-starts s k e =
     }
 
 -- the cells past the diagonal of the rows before i
-pub start-more : (i : ℕ) → futureStart (i + 1) ≡ futureStart i + i
+pub future-start-more : (i : ℕ) → futureStart (i + 1) ≡ futureStart i + i
 unfolding futureStart
-start-more i = ap futureStart (add-one i)
+future-start-more i = ap futureStart (add-one i)
 
 -- no row ends after the last
 pub start-least : (k i : ℕ) → i ≤ k → futureStart i + i ≤ futureStart (k + 1)
@@ -92,5 +92,5 @@ start-least k i h = go i (k - i) (omega arith)
     go : (i n : ℕ) → i + n ≡ k → futureStart i + i ≤ futureStart (k + 1)
     go i zero e =
         let same : i ≡ k = omega arith in
-        rw same (omega (arith, start-more k))
-    go i (suc n) e = omega (arith, start-more i, go (i + 1) n (omega arith))
+        rw same (omega (arith, future-start-more k))
+    go i (suc n) e = omega (arith, future-start-more i, go (i + 1) n (omega arith))

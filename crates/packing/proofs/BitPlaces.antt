@@ -11,7 +11,7 @@ use Rattle.rules.specs.Packing.{numberOf, bytesOf}
 use Rattle.packing.specs.Field.{fieldAt, rowAt}
 use Rattle.rules.specs.Packing.{Fit}
 use Rattle.laws.proofs.Lists.{getD-upTo}
-use Rattle.packing.proofs.Pack.{bytes-number, rows-are}
+use Rattle.packing.proofs.Pack.{bytes-number, row-fields-are}
 
 -- `1 << n` of the code
 pub one-shl : (n : ℕ) → n < 64 → 1 * 2 ^ n % 2 ^ 64 ≡ 2 ^ n
@@ -32,7 +32,7 @@ unfolding rowAt bytesOf
 field-byte s i b h =
     rw zero-add at (sym (getD-upTo (λ i. fieldAt s (0 + 8 * i) 8) (length s) i 0 h)
     ∙ ap (λ (l : List ℕ). getD l i 0)
-    (sym (rw div-one at (rows-are s 0 8 (length s) 0 (omega arith))) ∙ bytes-number s b))
+    (sym (rw div-one at (row-fields-are s 0 8 (length s) 0 (omega arith))) ∙ bytes-number s b))
 
 -- one byte more
 pub byte-more : (s : List ℕ) (i n : ℕ) → Fit 8 s → i + n < length s → fieldAt s (8 * i) (8 * n + 8) ≡ fieldAt s (8 * i) (8 * n) * 256 + getD s (i + n) 0

@@ -161,10 +161,10 @@ unpack-row w (suc n) N =
     ∙ sym (upTo-cons f n)
 
 -- the fields of a row whose bits end before the last ones are the fields found by their places
-pub rows-are : (s : List ℕ) (at w n after : ℕ) → at + w * n + after ≡ 8 * length s
+pub row-fields-are : (s : List ℕ) (at w n after : ℕ) → at + w * n + after ≡ 8 * length s
     → unpack (replicate n w) (numberOf s / 2 ^ after) ≡ rowAt s at w n
 unfolding rowAt fieldAt
-rows-are s at w n after e =
+row-fields-are s at w n after e =
     unpack-row w n (numberOf s / 2 ^ after)
     ∙ upTo-ext (λ i. numberOf s / 2 ^ after / 2 ^ (w * (n - suc i)) % 2 ^ w) (λ i. fieldAt s (at + w * i) w) n
     (λ i h. rw (shr-shr (numberOf s) after (w * (n - suc i)), place at w n after (8 * length s) i e h))

@@ -27,11 +27,11 @@ module _ {s : List ℕ} {p : Pending} {w x : ℕ} (ready : Packable s p w) (narr
   unfolding packedSo
   added = rw (shl-exact (p .count) w 64 (ready .small) (omega arith), pow-add 2 (p .count) w) (omega arith)
 
--- the first 8 of the pending bits, written at their place
-pub written : (s : List ℕ) (at count bits : ℕ) → at < length s → 8 ≤ count → bits < 2 ^ count
+-- the first 8 of the pending bits, byte-written at their place
+pub byte-written : (s : List ℕ) (at count bits : ℕ) → at < length s → 8 ≤ count → bits < 2 ^ count
     → numberOf (take (at + 1) (set s at (bits / 2 ^ (count - 8) % 256))) * 2 ^ (count - 8) + bits % 2 ^ (count - 8)
     ≡ numberOf (take at s) * 2 ^ count + bits
-written s at count bits h k small =
+byte-written s at count bits h k small =
     let m = count - 8 in
     let e : count ≡ 8 + m = omega arith in
     let p : 2 ^ count ≡ 256 * 2 ^ m = ap (λ (z : ℕ). 2 ^ z) e ∙ pow-add 2 8 m in

@@ -24,7 +24,7 @@ pub running-suc : (list : List ℤ) (p n : ℕ) → runningShare list p n + shar
 unfolding runningShare
 running-suc list p n = refl
 
-pub running-most : (list : List ℤ) (p n : ℕ) → runningShare list p n ≤ billion * n
+pub running-share-most : (list : List ℤ) (p n : ℕ) → runningShare list p n ≤ billion * n
 unfolding runningShare
-running-most list p zero = omega arith
-running-most list p (suc n) = omega (arith, running-most list p n)
+running-share-most list p zero = omega arith
+running-share-most list p (suc n) = omega (arith, running-share-most list p n)

@@ -23,9 +23,9 @@ use Rattle.packing.proofs.Pack.{length-row}
 use Rattle.packing.specs.Field.{rowAt}
 use Rattle.layout.specs.Places.{startOf, placesOf}
 use Rattle.reading.specs.Reading.{rowRead, Sound}
-use Rattle.reading.proofs.RowsRead.{Whole, whole}
+use Rattle.reading.proofs.RowsRead.{WholeRecord, whole-record}
 use Rattle.reading.proofs.ListsRead.{lists, one-row}
-use Rattle.reading.proofs.Ranges.{Passed, Tested, Found, found, ranges-pass}
+use Rattle.reading.proofs.Ranges.{Passed, Tested, PlacesFound, places-found, ranges-pass}
 use Rattle.reading.proofs.ReadAnswers.{fields-yes}
 
 -- arrays of zeros into which the record was read hold its figures
@@ -65,7 +65,7 @@ module _ (least most : ℕ) (xs : List ℕ) (h : every (between least most) xs �
       rw (List·getD-append xs (replicate (16 - length xs) 0) 0 i l)
       (leb-true least x (both-left (leb least x) (leb x most) (every-at (between least most) xs i 0 l h)))
 
--- a row that is in range is read whole
+-- a row that is in range is read whole-record
 module _ (s : List ℕ) (p : Passed s 7) {i : ℕ} {test : ℕ → Bool} {row : List ℕ} (t : Tested s i test row) where
   in-range : i < 7 → every test row ≡ true
   in-range l = sym (t .same) ∙ p i l
@@ -73,21 +73,21 @@ module _ (s : List ℕ) (p : Passed s 7) {i : ℕ} {test : ℕ → Bool} {row : 
   read-whole : i < 7 → rowRead s i ≡ row
   read-whole l = t .read (λ j m. p j (omega arith)) ∙ passing-all test row (in-range l)
 
-module _ (s : List ℕ) (h : Whole s) (p : Passed s 7) where
+module _ (s : List ℕ) (h : WholeRecord s) (p : Passed s 7) where
   abbrev k : ℕ
   k = lastYearOf s
 
-  rows-found : Found s (lastYearOf s) (placesOf (lastYearOf s))
-  rows-found = found h (lastYearOf s) (placesOf (lastYearOf s)) refl refl
+  rows-found : PlacesFound s (lastYearOf s) (placesOf (lastYearOf s))
+  rows-found = places-found h (lastYearOf s) (placesOf (lastYearOf s)) refl refl
 
   fill : (i w n at : ℕ) (test : ℕ → Bool) (xs : List ℕ) → i < 7 → n ≤ 16 → Tested s i test (rowAt s at w n) → xs ≡ rowAt s at w n
       → sets (replicate 16 0) 0 (rowRead s i) ≡ padded 16 0 xs
   fill i w n at test xs l few t e =
       rw (read-whole s p t l, e) (sets-filled 16 0 (rowAt s at w n) (omega (arith, length-row s at w n)))
 
-  figures-filled : Filled s
+  whole-filled : Filled s
   unfolding figuresOf placesOf
-  figures-filled =
+  whole-filled =
       let f = rows-found in
       let l = lists s h in
       let few = h .few in
@@ -131,13 +131,13 @@ module _ (s : List ℕ) (h : Whole s) (p : Passed s 7) where
       }
 
 -- what is read of an accepted record
-pub filled : (s : List ℕ) → Fit 8 s → firstNo (openingQuestions s) ≡ 0 → firstNo (fieldQuestions s) ≡ 0 → Filled s
-filled s b o e =
-    let h = whole s b o in
-    figures-filled s h (ranges-pass s h (fields-yes s e .0))
+pub figures-filled : (s : List ℕ) → Fit 8 s → firstNo (openingQuestions s) ≡ 0 → firstNo (fieldQuestions s) ≡ 0 → Filled s
+figures-filled s b o e =
+    let h = whole-record s b o in
+    whole-filled s h (ranges-pass s h (fields-yes s e .0))
 
 -- its figures are sound
 pub sound-figures : (s : List ℕ) → Fit 8 s → firstNo (openingQuestions s) ≡ 0 → firstNo (fieldQuestions s) ≡ 0 → Sound (figuresOf s)
 sound-figures s b o e =
-    let h = whole s b o in
+    let h = whole-record s b o in
     figures-sound s h (ranges-pass s h (fields-yes s e .0)) (fields-yes s e .1)

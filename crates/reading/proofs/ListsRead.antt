@@ -11,7 +11,7 @@ use Rattle.packing.specs.Field.{fieldAt, rowAt}
 use Rattle.rules.specs.Lists.{upTo}
 use Rattle.layout.specs.Places.{startOf}
 use Rattle.layout.proofs.RecordSizes.{starts}
-use Rattle.reading.proofs.RowsRead.{Whole, codes-row, fields-row}
+use Rattle.reading.proofs.RowsRead.{WholeRecord, codes-row, fields-row}
 
 naturals : (xs : List ℕ) → map natAbs (map pos xs) ≡ xs
 naturals [] = refl
@@ -57,7 +57,7 @@ pub record Lists (s : List ℕ) (k : ℕ) : Type 0 where
 same-place : (s : List ℕ) {a b : ℕ} (w n : ℕ) → a ≡ b → rowAt s a w n ≡ rowAt s b w n
 same-place s w n e = rw e
 
-module _ (s : List ℕ) (h : Whole s) where
+module _ (s : List ℕ) (h : WholeRecord s) where
   pub codes : Codes s (lastYearOf s)
   unfolding layout
   codes =

@@ -18,7 +18,7 @@ use Rattle.layout.specs.declared.Places.{Places}
 use Rattle.layout.proofs.RecordSizes.{bytes-room, bytes-least, bits-most, starts}
 use Rattle.laws.proofs.TriangleRows.{cells-most}
 use Rattle.reading.specs.Reading.{RowInside, rowRead}
-use Rattle.reading.proofs.RowsRead.{Whole, ranges-are, codes-row, rows, years-field}
+use Rattle.reading.proofs.RowsRead.{WholeRecord, ranges-are, codes-row, rows, years-field}
 use Rattle.reading.proofs.ListsRead.{codes, one-row}
 use Rattle.reading.proofs.Reached.{kindAt, rowFits, reached, unreached, rows-pass, row-fails, row-passes}
 
@@ -84,7 +84,7 @@ module _ (s : List ℕ) where
     read = λ p. reached (layout (lastYearOf s)) (codesOf s) 2 (omega arith) p ∙ ap (passing (bitsInRange increment)) e;
   }
 
-module _ (s : List ℕ) (h : Whole s) where
+module _ (s : List ℕ) (h : WholeRecord s) where
   -- question 4
   pub in-ranges : Passed s 7 → inRanges s ≡ true
   unfolding layout rowFits
@@ -130,7 +130,7 @@ pub record RowsInside (s : List ℕ) (k : ℕ) (p : Places) : Type 0 where
   pub ulae : RowInside s (p .ulae) 34 (k + 1)
   pub few : p .cells ≤ 136
 
-pub within : {s : List ℕ} → Whole s → (k : ℕ) (p : Places) → k ≡ lastYearOf s → p ≡ placesOf k → RowsInside s k p
+pub within : {s : List ℕ} → WholeRecord s → (k : ℕ) (p : Places) → k ≡ lastYearOf s → p ≡ placesOf k → RowsInside s k p
 unfolding placesOf
 within {s} h k p e q =
     let y = lastYearOf s in
@@ -147,7 +147,7 @@ within {s} h k p e q =
     })
 
 -- and each is tested by its range
-pub record Found (s : List ℕ) (k : ℕ) (p : Places) : Type 0 where
+pub record PlacesFound (s : List ℕ) (k : ℕ) (p : Places) : Type 0 where
   pub exposures : Tested s 1 (between 1 million) (rowAt s 4 20 (k + 1))
   pub increments : Tested s 2 (bitsInRange increment) (rowAt s (p .increments) 35 (p .cells))
   pub indices : Tested s 3 (between 1 mostIndex) (rowAt s (p .indices) 23 k)
@@ -155,9 +155,9 @@ pub record Found (s : List ℕ) (k : ℕ) (p : Places) : Type 0 where
   pub weight : Tested s 5 (between 0 million) (rowAt s (p .weight) 20 1)
   pub ulae : Tested s 6 (between 0 mostAmount) (rowAt s (p .ulae) 34 (k + 1))
 
-pub found : {s : List ℕ} → Whole s → (k : ℕ) (p : Places) → k ≡ lastYearOf s → p ≡ placesOf k → Found s k p
+pub places-found : {s : List ℕ} → WholeRecord s → (k : ℕ) (p : Places) → k ≡ lastYearOf s → p ≡ placesOf k → PlacesFound s k p
 unfolding layout placesOf
-found {s} h k p e q =
+places-found {s} h k p e q =
     let at = codes s h in
     rw (q, e) (record {
       exposures = tested-plain s 1 20 1 million _ (omega arith) refl (at .exposures);

@@ -25,7 +25,7 @@ use Rattle.layout.specs.Places.{startOf, placesOf}
 use Rattle.layout.specs.declared.Places.{Places}
 use Rattle.layout.proofs.RecordSizes.{starts}
 use Rattle.reading.specs.Reading.{triangleFields, assumptionFields}
-use Rattle.reading.proofs.RowsRead.{Whole, fields-are, years-field}
+use Rattle.reading.proofs.RowsRead.{WholeRecord, fields-are, years-field}
 use Rattle.reading.proofs.ListsRead.{lists, values, one-row}
 
 -- questions 4 and 5
@@ -73,7 +73,7 @@ pub stored-most : (least most n : ℕ) (l row : List ℕ) → take n l ≡ row �
 stored-most least most n l row e a i h = rw (sym (getD-take n l i 0 h) ∙ ap (λ (xs : List ℕ). getD xs i 0) e) (at-most least most row a i)
 
 -- question 5 by the reporting shares' place
-pub sum-at : {s : List ℕ} → Whole s → (k : ℕ) (p : Places) → k ≡ lastYearOf s → p ≡ placesOf k → sharesSum s ≡ eqb (total (rowAt s (p .reporting) 20 (k + 1))) million
+pub sum-at : {s : List ℕ} → WholeRecord s → (k : ℕ) (p : Places) → k ≡ lastYearOf s → p ≡ placesOf k → sharesSum s ≡ eqb (total (rowAt s (p .reporting) 20 (k + 1))) million
 unfolding sharesSum placesOf
 sum-at {s} h k p e q = rw (q, e, lists s h .reporting)
 
@@ -87,7 +87,7 @@ row-list : (s : List ℕ) (w l m n : ℕ) {a b : ℕ} → a ≡ b
 row-list s w l m n {a} {b} e =
     rw (e, take-padded 16 n 0 (rowAt s b w n) (length-row s b w n)) (sym (values (record { signed = false; width = w; least = l; most = m }) refl (rowAt s b w n)))
 
-module _ (s : List ℕ) (h : Whole s) where
+module _ (s : List ℕ) (h : WholeRecord s) where
   years-list : map (valueOf lastYear) (rowAt s 0 4 1) ≡ pos (lastYearOf s) ∷ []
   years-list = rw (values lastYear refl (rowAt s 0 4 1), one-row s 0 4, years-field s h)
 

@@ -22,7 +22,7 @@ use Rattle.layout.proofs.Codes.{rowsFrom, rows-shaped, unpack-rows}
 use Rattle.layout.proofs.RecordSizes.{bytes-room, bytes-least, years-lt}
 
 -- bytes that have passed questions 1 and 2
-pub record Whole (s : List ℕ) : Type 0 where
+pub record WholeRecord (s : List ℕ) : Type 0 where
   pub small : Fit 8 s
   pub some : 1 ≤ lastYearOf s
   pub few : lastYearOf s < 16
@@ -41,9 +41,9 @@ pub opening-yes : (s : List ℕ) → firstNo (openingQuestions s) ≡ 0 → (has
 unfolding openingQuestions every
 opening-yes s e = (yes-said 1 (openingQuestions s) refl e, yes-said 2 (openingQuestions s) refl e)
 
-pub whole : (s : List ℕ) → Fit 8 s → firstNo (openingQuestions s) ≡ 0 → Whole s
+pub whole-record : (s : List ℕ) → Fit 8 s → firstNo (openingQuestions s) ≡ 0 → WholeRecord s
 unfolding hasLength
-whole s h e =
+whole-record s h e =
     let both = opening-yes s e in
     record {
       small = h;
@@ -52,7 +52,7 @@ whole s h e =
       long = eqb-true (length s) (byteCount (lastYearOf s)) (both-left (eqb (length s) (byteCount (lastYearOf s))) (eqb (fillingOf s) 0) (both .1));
     }
 
-module _ (s : List ℕ) (h : Whole s) where
+module _ (s : List ℕ) (h : WholeRecord s) where
   -- the rows of the record
   abbrev pub rows : List (List ℕ)
   rows = rowsFrom s 0 (layout (lastYearOf s))

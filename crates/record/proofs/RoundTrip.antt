@@ -16,7 +16,7 @@ use Rattle.rules.specs.Lists.{every}
 use Rattle.rules.specs.Engine.{figureQuestions, holdsList, questions, runAnswer}
 use Rattle.packing.proofs.Pack.{bytes-small}
 use Rattle.layout.proofs.RecordSizes.{years-lt}
-use Rattle.reading.proofs.RowsRead.{Whole}
+use Rattle.reading.proofs.RowsRead.{WholeRecord}
 use Rattle.reading.proofs.ReadAnswers.{listOf, list-same}
 use Rattle.laws.proofs.Questions.{both-zero, later-answer}
 use borrow.Author.Tests.{le-leb}
@@ -103,7 +103,7 @@ same-list s t out out′ hs ht rs rt e =
     same-record s t (length out) (length out′) hs ht rs rt fields
 
 -- an accepted record has passed questions 1 and 2
-accepted-whole : (s : List ℕ) (m : ℕ) → Fit 8 s → Accepted s m → Whole s
+accepted-whole : (s : List ℕ) (m : ℕ) → Fit 8 s → Accepted s m → WholeRecord s
 accepted-whole s m h a = record { small = h; some = a .years; few = years-lt s h; long = a .size }
 
 -- two accepted records with the same figures are the same record

@@ -7,12 +7,12 @@ use Rattle.laws.proofs.TriangleRows.{cells-most}
 use Rattle.laws.proofs.Joined.{future-cells}
 use Rattle.listing.specs.Starts.{startsOf}
 use Rattle.listing.specs.declared.Starts.{Starts}
-use Rattle.listing.proofs.Known.{Known, known, At, at-starts}
+use Rattle.listing.proofs.Known.{SectionsKnown, known, At, at-starts}
 
 -- what is known of the starts of the sections
 pub record Placed (s : Starts) (k : ℕ) : Type 0 where
   pub at : At s k
-  pub known : Known k
+  pub known : SectionsKnown k
   pub most : cells k ≤ 136
   pub future : cells k ≡ futureStart (k + 1) + (k + 1)
 

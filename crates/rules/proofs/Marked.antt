@@ -1,4 +1,4 @@
--- The marked triangles and edges of document 01: one or more rows for each starred item, what the rules give and what the paper prints, and one theorem.
+-- The markedTable triangles and edges of document 01: one or more rows for each starred item, what the rules give and what the paper prints, and one theorem.
 -- Assumes nothing.
 use Prim.Native.Nat.{ℕ}
 use mathlib.Core.Path.{_≡_, refl}
@@ -39,8 +39,8 @@ motor =
     pos 504 ∷ pos 282 ∷ pos 90 ∷ pos 48 ∷ pos 580 ∷ pos 292 ∷ pos 97 ∷ pos 595 ∷ pos 332 ∷ pos 662 ∷ []
     )
 
-abbrev pub marked : List (List ℤ × List ℤ)
-marked = (
+abbrev pub markedTable : List (List ℤ × List ℤ)
+markedTable = (
   list (pos 60 ∷ pos 40 ∷ pos 66 ∷ []) (6 ∷ 10 ∷ []),
   pos 6000 ∷ pos 4000 ∷ pos 6600 ∷ pos 622641509 ∷ pos 377358491 ∷ pos 9636 ∷ pos 10600 ∷ pos 11660 ∷ pos 44 ∷ pos 0 ∷ pos 44 ∷ pos 44 ∷ pos 0 ∷ pos 22 ∷ pos 0 ∷ pos 3 ∷ pos 3 ∷ pos 96385 ∷ pos 1666666 ∷ pos 109 ∷ [],
 )
@@ -61,7 +61,7 @@ marked = (
     ∷ []
 
 -- the rules give what is printed, in every row
-pub marked-hold : map (λ row. row .0) marked ≡ map (λ row. row .1) marked
+pub marked-hold : map (λ row. row .0) markedTable ≡ map (λ row. row .1) markedTable
 unfolding total upTo padded every pack unpack numberOf bytesOf firstNo afterCall cells layout kindsOf section widths bitCount byteCount fillingCount valueOf codeOf inRange negativeZero bitsInRange everyField lastYearOf codesOf fillingOf fieldsOf recordOf exposuresIn incrementsIn indicesIn reportingIn weightIn ulaeIn figuresOf hasLastYear hasLength inRanges sharesSum givenFields rowStart paidOf sumTo cumulativeOf cumulativesPass nearest averageOf averageRow averagesOf cellOf cellsTotal columnTotal diagonalTotal cornerTotal allTotal columnOf diagonalOf cornerOf runningDown runningOf shareOf levelOf totalsPass restsPass runningPass levelsPass factorsOf separateAnswer separated futureLevel payment paymentRow provision paidTo ultimate ultimatesPass paidTotal ulaeTotal ratioPass ratioOf reportedAfter notReported weighted reserve givenCumulative developed base developmentFactor completed completedRow factorsPass completedPass squareOf latestOf factorsIn joined sections resultsOf sectionCounts resultCount figureQuestions holdsList questions runAnswer runInto zipWith rowPasses futureLevels paymentOf payments provisions reserveOf developmentFactors factorPasses completedAll paidIn levelsIn provisionsIn developmentIn ratioIn separationSections completionSections reserveSections ladderSections openingQuestions fieldQuestions separationQuestions completionQuestions ratioQuestions ladderQuestions sectionStart laterQuestions
 marked-hold = refl
 

@@ -50,7 +50,7 @@ pub record From (s : List (List ℤ)) (k : ℕ) (totals : List ℕ) (t h : ℕ) 
   pub passed : (i : ℕ) → h < i → i ≤ k → restPasses s i ≡ true
 
 -- what the loop has done when T_h is t
-pub record Done (v d : List ℕ) (k : ℕ) (totals : List ℕ) (t h : ℕ) : Type 0 where
+pub record CornersDone (v d : List ℕ) (k : ℕ) (totals : List ℕ) (t h : ℕ) : Type 0 where
   pub years : h ≤ k
   pub small : t ≤ billion * (k - h + 1)
   pub long : length totals ≡ 16
@@ -64,7 +64,7 @@ module _ (v d : List ℕ) (k : ℕ) (few : k < 16) (totals : List ℕ) where
   placed s t h l e above i p q = stored totals h t 0 (cornerOf s) l (sym (ap natAbs e)) i (λ ne. above i (omega (arith, ne)) q)
 
   -- the first T is the last diagonal
-  pub start : getD d k 0 ≤ billion → length totals ≡ 16 → Done v d k (set totals k (getD d k 0)) (getD d k 0) k
+  pub start : getD d k 0 ≤ billion → length totals ≡ 16 → CornersDone v d k (set totals k (getD d k 0)) (getD d k 0) k
   start most long = record {
     years = le-refl k;
     small = omega arith;
@@ -74,7 +74,7 @@ module _ (v d : List ℕ) (k : ℕ) (few : k < 16) (totals : List ℕ) where
         record { value = value; filled = placed s (getD d k 0) k (omega arith) value (λ i p q. absurd (omega arith)); passed = λ i p q. absurd (omega arith) };
   }
 
-  module _ (t h : ℕ) (done : Done v d k totals t h) where
+  module _ (t h : ℕ) (done : CornersDone v d k totals t h) where
     -- question 8 of year h
     year : (s : List (List ℤ)) → TotalsOf s k v d → restPasses s h ≡ ltb (getD v h 0) t
     year s of =
@@ -91,7 +91,7 @@ module _ (v d : List ℕ) (k : ℕ) (few : k < 16) (totals : List ℕ) where
 
     -- T is above its column: the next T
     pub goes-on : 1 ≤ h → getD v h 0 < t → getD d (h - 1) 0 ≤ billion
-        → Done v d k (set totals (h - 1) (t - getD v h 0 + getD d (h - 1) 0)) (t - getD v h 0 + getD d (h - 1) 0) (h - 1)
+        → CornersDone v d k (set totals (h - 1) (t - getD v h 0 + getD d (h - 1) 0)) (t - getD v h 0 + getD d (h - 1) 0) (h - 1)
     goes-on some l most = record {
       years = omega (arith, done .years);
       small = omega (arith, done .years, done .small);
@@ -121,7 +121,7 @@ module _ (v d : List ℕ) (k : ℕ) (few : k < 16) (totals : List ℕ) where
             go (no a) = let e : i ≡ h = omega arith in rw e (year s of ∙ lt-ltb (getD v h 0) t l)
 
   -- every T is in its place
-  pub all : (t : ℕ) → Done v d k totals t 0 → (s : List (List ℤ)) → TotalsOf s k v d → (restsPass s k ≡ true) × CornersOf s k totals
+  pub all : (t : ℕ) → CornersDone v d k totals t 0 → (s : List (List ℤ)) → TotalsOf s k v d → (restsPass s k ≡ true) × CornersOf s k totals
   unfolding restsPass
   all t done s of = (
     every-yes (restPasses s) (λ h. h + 1) k (λ i l. done .found s of .passed (i + 1) (omega arith) (omega arith)),

@@ -27,7 +27,7 @@ use Rattle.separation.specs.Walk.{SizesOf}
 module _ (x : ℤ) (fits : SFits w64 x) where
   -- a total not below zero is a whole number of 64 bits
   pub whole : ltZ (held x) (pos 0) ≡ false → T (nonNeg (held x)) × Fits w64 (natAbs (held x))
-  whole t = let (n, e, h) = signs.above x fits t in rw (e, signs.natural n h) (tt, record { fits = omega arith })
+  whole t = let (n, e, h) = signs.above x fits t in rw (e, signs.natural-held n h) (tt, record { fits = omega arith })
 
 -- whether total i is not below zero
 abbrev least : List ℤ → ℕ → Bool
@@ -39,7 +39,7 @@ passes columns diagonals n =
     every (least columns) (below n) && (every (least diagonals) (below n) && leZ (sumTo (λ i. getD columns i (pos 0)) n) (pos billion))
 
 -- what the loop has done
-pub record Done (columns diagonals : List ℤ) (n : ℕ) (v d : List ℕ) (sum i : ℕ) : Type 0 where
+pub record TotalsDone (columns diagonals : List ℤ) (n : ℕ) (v d : List ℕ) (sum i : ℕ) : Type 0 where
   pub count : i ≤ n
   pub v-long : length v ≡ 16
   pub d-long : length d ≡ 16
@@ -52,7 +52,7 @@ pub record Done (columns diagonals : List ℤ) (n : ℕ) (v d : List ℕ) (sum i
 
 module _ (columns diagonals : List ℤ) (n : ℕ) (v d : List ℕ) where
   -- before the first total
-  pub start : length v ≡ 16 → length d ≡ 16 → Done columns diagonals n v d 0 0
+  pub start : length v ≡ 16 → length d ≡ 16 → TotalsDone columns diagonals n v d 0 0
   unfolding upTo every total
   start a b = record {
     count = zero-le;
@@ -73,11 +73,11 @@ module _ (columns diagonals : List ℤ) (n : ℕ) (v d : List ℕ) where
   pub diagonal-fails : (i : ℕ) → i < n → SFits w64 (getD diagonals i (pos 0)) → ltZ (held (getD diagonals i (pos 0))) (pos 0) ≡ true → passes columns diagonals n ≡ false
   diagonal-fails i l fits t = rw (fails-at (least diagonals) (λ (j : ℕ). j) n i l (signs.under-zero (getD diagonals i (pos 0)) fits t)) (and-false (every (least columns) (below n)))
 
-  module _ (sum i : ℕ) (done : Done columns diagonals n v d sum i) where
+  module _ (sum i : ℕ) (done : TotalsDone columns diagonals n v d sum i) where
     -- one total more of each
     pub more : i < n → n ≤ 16 → SFits w64 (getD columns i (pos 0)) → ltZ (held (getD columns i (pos 0))) (pos 0) ≡ false
         → SFits w64 (getD diagonals i (pos 0)) → ltZ (held (getD diagonals i (pos 0))) (pos 0) ≡ false → natAbs (getD columns i (pos 0)) ≤ 16 * mostAverage
-        → Done columns diagonals n (set v i (natAbs (held (getD columns i (pos 0))))) (set d i (natAbs (held (getD diagonals i (pos 0))))) (sum + natAbs (held (getD columns i (pos 0)))) (i + 1)
+        → TotalsDone columns diagonals n (set v i (natAbs (held (getD columns i (pos 0))))) (set d i (natAbs (held (getD diagonals i (pos 0))))) (sum + natAbs (held (getD columns i (pos 0)))) (i + 1)
     more l few a s b t small =
         let column = ap natAbs (toZ-ofZ a) in
         let diagonal = ap natAbs (toZ-ofZ b) in
@@ -94,7 +94,7 @@ module _ (columns diagonals : List ℤ) (n : ℕ) (v d : List ℕ) where
         }
 
   -- all of them
-  pub last : (sum : ℕ) → Done columns diagonals n v d sum n → leb sum billion ≡ passes columns diagonals n
+  pub last : (sum : ℕ) → TotalsDone columns diagonals n v d sum n → leb sum billion ≡ passes columns diagonals n
   last sum done =
       let whole : (i : ℕ) → i < n → getD columns i (pos 0) ≡ pos (natAbs (getD columns i (pos 0)))
       = λ i l. positive (getD columns i (pos 0)) (every-upTo (least columns) (λ j. j) n i (done .columns-pass) l) in

@@ -13,8 +13,8 @@ use Rattle.laws.proofs.Padded.{filled-more}
 use Rattle.separation.specs.Walk.{TotalsOf, Ready, withYear, factorsTo, FactorsFound}
 
 -- a part of a number is at most the number
-pub part-most : (a t v : ℕ) → a * (t - v) / t ≤ a
-part-most a t v = div-le-of-le-mul t (rw (mul-comm t a) (mul-le-mul-left a (omega arith)))
+pub below-part-most : (a t v : ℕ) → a * (t - v) / t ≤ a
+below-part-most a t v = div-le-of-le-mul t (rw (mul-comm t a) (mul-le-mul-left a (omega arith)))
 
 -- what the walk asks up to a year, it asks up to the year below
 pub ready-below : (v d t : List ℕ) (h n : ℕ) → n ≤ h → Ready v d t h → Ready v d t n
@@ -44,7 +44,7 @@ module _ (s : List (List ℤ)) (k : ℕ) where
   running-least (suc h) l =
       let e : suc h - 1 ≡ h = omega arith in
       let down = rw e at (running-below (suc h) (omega arith) l) in
-      omega (arith, running-least h (omega arith), part-most (runningOf s k (suc h)) (cornerOf s (suc h)) (columnOf s (suc h)))
+      omega (arith, running-least h (omega arith), below-part-most (runningOf s k (suc h)) (cornerOf s (suc h)) (columnOf s (suc h)))
 
   -- the share of a year above 0
   pub share-at : (h : ℕ) → 1 ≤ h → shareOf s k h ≡ runningOf s k h - runningOf s k (h - 1)

@@ -45,9 +45,9 @@ module _ (row n : ℕ) (b : List ℕ) (p : Put (replicate 9 0) b 0 n (getD label
   pub label-back : take n b ≡ getD labels row []
   label-back = put-back p (label-short row)
 
-pub start-more : (k place : ℕ) → startAt k (suc place) ≡ startAt k place + dueAt k place .count
+pub line-start-more : (k place : ℕ) → startAt k (suc place) ≡ startAt k place + dueAt k place .count
 unfolding startAt
-start-more k place = total-more (λ i. dueAt k i .count) place
+line-start-more k place = total-more (λ i. dueAt k i .count) place
 
 -- the lines of the increments, and those after them
 pub due-paid : (k i : ℕ) → i ≤ k → dueAt k (suc (suc i)) ≡ due 2 (k + 1 - i) (negℤ (pos mostAmount)) (pos mostAmount)
@@ -84,7 +84,7 @@ unfolding startAt dueAt rowStart upTo total
 start-paid k zero h = omega arith
 start-paid k (suc i) h =
     let e : k + 2 + rowStart k i + (k + 1 - i) ≡ k + 2 + (rowStart k i + (k + 1 - i)) = omega arith in
-    start-more k (suc (suc i)) ∙ rw (start-paid k i (omega arith), due-paid k i (omega arith), e)
+    line-start-more k (suc (suc i)) ∙ rw (start-paid k i (omega arith), due-paid k i (omega arith), e)
 
 pub start-all : (k : ℕ) → startAt k (lineCount k) ≡ cells k + 4 * k + 5
 start-all k =
@@ -92,10 +92,10 @@ start-all k =
     let n : ℕ = suc (suc (k + 1)) in
     rw (
       place,
-      start-more k (suc (suc (suc n))),
-      start-more k (suc (suc n)),
-      start-more k (suc n),
-      start-more k n,
+      line-start-more k (suc (suc (suc n))),
+      line-start-more k (suc (suc n)),
+      line-start-more k (suc n),
+      line-start-more k n,
       start-paid k (k + 1) (omega arith),
       rows-all k,
       due-indices k n (omega arith),
@@ -109,4 +109,4 @@ start-all k =
 pub start-room : (k place : ℕ) → k < 16 → place < lineCount k → startAt k place + dueAt k place .count ≤ mostFields
 unfolding startAt
 start-room k place h l =
-    omega (arith, start-more k place, total-part (λ i. dueAt k i .count) (suc place) (lineCount k) l, start-all k, cells-most k h)
+    omega (arith, line-start-more k place, total-part (λ i. dueAt k i .count) (suc place) (lineCount k) l, start-all k, cells-most k h)

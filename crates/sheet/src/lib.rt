@@ -1,6 +1,9 @@
 // The lines of a sheet of figures: one table, by which they are written, read and named.
 use cells::cell_at;
 use composing::put_bytes;
+use rules::MILLION;
+use rules::MOST_AMOUNT;
+use rules::MOST_INDEX;
 ghost use mathlib.Core.Path.{_≡_};
 ghost use mathlib.Core.List.{[]};
 ghost use Prim.Native.Nat.{_<_};
@@ -52,15 +55,15 @@ pub fn due_at(k: usize, place: usize) -> Due
             row: 1,
             count: k + 1,
             least: 1,
-            most: 1_000_000,
+            most: MILLION as i64,
         };
     }
     if place < k + 3 {
         return Due {
             row: 2,
             count: k + 3 - place,
-            least: -10_000_000_000,
-            most: 10_000_000_000,
+            least: 0 - (MOST_AMOUNT as i64),
+            most: MOST_AMOUNT as i64,
         };
     }
     if place == k + 3 {
@@ -68,7 +71,7 @@ pub fn due_at(k: usize, place: usize) -> Due
             row: 3,
             count: k,
             least: 1,
-            most: 5_000_000,
+            most: MOST_INDEX as i64,
         };
     }
     if place == k + 4 {
@@ -76,7 +79,7 @@ pub fn due_at(k: usize, place: usize) -> Due
             row: 4,
             count: k + 1,
             least: 0,
-            most: 1_000_000,
+            most: MILLION as i64,
         };
     }
     if place == k + 5 {
@@ -84,14 +87,14 @@ pub fn due_at(k: usize, place: usize) -> Due
             row: 5,
             count: 1,
             least: 0,
-            most: 1_000_000,
+            most: MILLION as i64,
         };
     }
     Due {
         row: 6,
         count: k + 1,
         least: 0,
-        most: 10_000_000_000,
+        most: MOST_AMOUNT as i64,
     }
 }
 

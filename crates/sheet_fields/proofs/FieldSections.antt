@@ -76,7 +76,7 @@ module _ (k : ℕ) (vs : List ℤ) where
   ulae-at = rw (last, from 1 (k + 2 + cells k + k + (k + 1)) (k + 2 + cells k + k + (k + 1) + 1) refl)
 
 -- the rows as the code finds them
-pub rows-are : (k n : ℕ) (vs : List ℤ) (exposures indices reporting : List ℕ) (weight : ℕ) (ulae : List ℕ) → n ≡ cells k
+pub rows-of-are : (k n : ℕ) (vs : List ℤ) (exposures indices reporting : List ℕ) (weight : ℕ) (ulae : List ℕ) → n ≡ cells k
     → exposures ≡ padded 16 0 (map natAbs (take (k + 1) (drop 1 vs)))
     → indices ≡ padded 16 0 (map natAbs (take k (drop (k + 2 + n) vs)))
     → reporting ≡ padded 16 0 (map natAbs (take (k + 1) (drop (k + 2 + n + k) vs)))
@@ -84,7 +84,7 @@ pub rows-are : (k n : ℕ) (vs : List ℤ) (exposures indices reporting : List �
     → ulae ≡ padded 16 0 (map natAbs (take (k + 1) (drop (k + 2 + n + k + (k + 1) + 1) vs)))
     → rows exposures indices reporting weight ulae ≡ rowsOf k vs
 unfolding rowsOf
-rows-are k n vs exposures indices reporting weight ulae e a b c d f =
+rows-of-are k n vs exposures indices reporting weight ulae e a b c d f =
     rw (a, b, c, d, f, e, exposures-at k vs, indices-at k vs, reporting-at k vs, weight-at k vs, ulae-at k vs)
 
 -- as many entries as a row has
@@ -181,9 +181,9 @@ module _ (k : ℕ) (vs : List ℤ) (h : k < 16) (l : length vs ≡ mostFields) w
         )
 
 -- the buffer, its front being l
-pub written : (g h : Figures) (m n : ℕ) (buffer l : List ℕ) → g ≡ h → m ≡ n → l ≡ writeInto g (take m buffer)
+pub same-written : (g h : Figures) (m n : ℕ) (buffer l : List ℕ) → g ≡ h → m ≡ n → l ≡ writeInto g (take m buffer)
     → l ++ drop m buffer ≡ writeInto h (take n buffer) ++ drop n buffer
-written g h m n buffer l p q e = rw (e, p, q)
+same-written g h m n buffer l p q e = rw (e, p, q)
 
 -- entries past the fields do not count
 section-front : (rs : List (ℕ × Kind)) (i : ℕ) (xs ys : List ℤ) → total (map (λ r. r .0) rs) ≤ length xs → section rs i (xs ++ ys) ≡ section rs i xs

@@ -19,7 +19,7 @@ use Rattle.cells.specs.Cells.{isBare, labelOf, cellsOf, contentOf, isWithin}
 use Rattle.sheet.specs.declared.Due.{Due}
 use Rattle.sheet.specs.Table.{labelDue, lineCount, dueAt, startAt}
 use Rattle.sheet.specs.Sheet.{sameText, lastYearIn, wrong, wrongIn, wordIn, Typed, typed, fine, lines, unmarked, readLine, readLines, readSheet}
-use Rattle.sheet.proofs.Table.{start-more, start-all, start-room}
+use Rattle.sheet.proofs.Table.{line-start-more, start-all, start-room}
 use Rattle.sheet_reading.specs.Reads.{Good}
 
 -- a line that is as due
@@ -79,7 +79,7 @@ good-more [] (suc i) m line g left a =
 good-more (v ∷ vs) (suc i) m line g left a =
     record {
       size = omega (arith, g .size, length-append vs (map wholeOf (cellsOf line)), length-map (cellsOf line) wholeOf, a .count);
-      start = omega (arith, g .start, start-more (natAbs v) (suc i));
+      start = omega (arith, g .start, line-start-more (natAbs v) (suc i));
       within = omega (arith, g .within);
       few = g .few;
       some = λ h. g .some (omega arith);
@@ -96,7 +96,7 @@ good-most vs i m g =
     omega (arith, g .start, total-part (λ j. dueAt k j .count) i (lineCount k) (g .within), start-all k, cells-most k (g .few))
 
 -- what is known of a reading: k is below 16, there are at most 201 numbers, and where nothing is wrong it is from 1, and there are as many numbers as it calls for
-pub record Known (t : Typed) : Type 0 where
+pub record LinesKnown (t : Typed) : Type 0 where
   pub few : lastYearIn (t .numbers) < 16
   pub most : length (t .numbers) ≤ mostFields
   pub some : t .problem ≡ 0 → 1 ≤ lastYearIn (t .numbers)
@@ -143,11 +143,11 @@ line-step n i vs line g =
     go false false e false f = step-none _ n i _ _ vs g (eqb-false _ 0 f)
 
 -- after all of them
-lines-known : (t : Typed) (ls : List (List ℕ)) → t .problem ≡ 0 → Good (t .numbers) (t .place) (length (t .numbers)) → Known (readLines t ls)
+lines-known : (t : Typed) (ls : List (List ℕ)) → t .problem ≡ 0 → Good (t .numbers) (t .place) (length (t .numbers)) → LinesKnown (readLines t ls)
 unfolding readLines
 lines-known t [] h g = go (eqb (t .place) (lineCount (lastYearIn (t .numbers)))) refl
   where
-    go : (b : Bool) → eqb (t .place) (lineCount (lastYearIn (t .numbers))) ≡ b → Known (cond b t (typed 5 (t .line) (t .place) 0 [] (t .numbers)))
+    go : (b : Bool) → eqb (t .place) (lineCount (lastYearIn (t .numbers))) ≡ b → LinesKnown (cond b t (typed 5 (t .line) (t .place) 0 [] (t .numbers)))
     go true e =
         let last = eqb-true (t .place) (lineCount (lastYearIn (t .numbers))) e in
         record {
@@ -162,13 +162,13 @@ lines-known t (l ∷ ls) h g =
     let s = line-step (suc (t .line)) (t .place) (t .numbers) (contentOf l) g in
     go u s (eqb (u .problem) 0) refl (λ z. lines-known u ls z (s .good z))
   where
-    go : (u : Typed) → Step (suc (t .line)) (t .numbers) u → (b : Bool) → eqb (u .problem) 0 ≡ b → (u .problem ≡ 0 → Known (readLines u ls))
-        → Known (cond b (readLines u ls) u)
+    go : (u : Typed) → Step (suc (t .line)) (t .numbers) u → (b : Bool) → eqb (u .problem) 0 ≡ b → (u .problem ≡ 0 → LinesKnown (readLines u ls))
+        → LinesKnown (cond b (readLines u ls) u)
     go u s true e f = f (eqb-true (u .problem) 0 e)
     go u s false e f =
         let no = eqb-false (u .problem) 0 e in
         record { few = s .few; most = s .most; some = λ z. absurd (no z); count = λ z. absurd (no z) }
 
-pub sheet-known : (text : List ℕ) → Known (readSheet text)
+pub sheet-known : (text : List ℕ) → LinesKnown (readSheet text)
 unfolding readSheet
 sheet-known text = lines-known (fine 0 0 []) (lines (unmarked text)) refl good-none

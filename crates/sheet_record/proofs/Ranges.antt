@@ -20,16 +20,16 @@ use Rattle.scanning.specs.Numbers.{ceiling}
 use Rattle.sheet.specs.declared.Due.{Due}
 use Rattle.sheet.specs.Table.{lineCount, dueAt, dueLines}
 use Rattle.sheet.proofs.Table.{due-paid, due-indices, due-reporting, due-weight, due-ulae}
-use Rattle.sheet_record.proofs.Sheets.{rangesOf, Sound}
+use Rattle.sheet_record.proofs.Sheets.{dueRanges, EachWithin}
 
 -- the range of a kind of field
 abbrev rangeOf : Kind → ℤ × ℤ
 rangeOf κ = (cond (κ .signed) (negℤ (pos (κ .most))) (pos (κ .least)), pos (κ .most))
 
 -- the ranges of lines and further lines
-ranges-more : (ds : List Due) (d : Due) → rangesOf (ds ++ (d ∷ [])) ≡ rangesOf ds ++ replicate (d .count) (d .least, d .most)
+ranges-more : (ds : List Due) (d : Due) → dueRanges (ds ++ (d ∷ [])) ≡ dueRanges ds ++ replicate (d .count) (d .least, d .most)
 ranges-more [] d = append-nil (replicate (d .count) (d .least, d .most))
-ranges-more (e ∷ ds) d = rw (ranges-more ds d) (sym (append-assoc (replicate (e .count) (e .least, e .most)) (rangesOf ds) _))
+ranges-more (e ∷ ds) d = rw (ranges-more ds d) (sym (append-assoc (replicate (e .count) (e .least, e .most)) (dueRanges ds) _))
 
 abbrev paidRange : ℤ × ℤ
 paidRange = (negℤ (pos mostAmount), pos mostAmount)
@@ -38,7 +38,7 @@ abbrev first : ℕ → List (ℤ × ℤ)
 first k = (pos 1, pos 15) ∷ replicate (k + 1) (pos 1, pos million)
 
 -- up to the increments of an origin year
-paid-ranges : (k i : ℕ) → i ≤ k + 1 → rangesOf (upTo (dueAt k) (suc (suc i))) ≡ first k ++ replicate (rowStart k i) paidRange
+paid-ranges : (k i : ℕ) → i ≤ k + 1 → dueRanges (upTo (dueAt k) (suc (suc i))) ≡ first k ++ replicate (rowStart k i) paidRange
 unfolding upTo dueAt rowStart
 paid-ranges k zero h = refl
 paid-ranges k (suc i) h =
@@ -66,7 +66,7 @@ regroup : (a b c d e f : List (ℤ × ℤ)) → ((((a ++ b) ++ c) ++ d) ++ e) ++
 regroup a b c d e f = simp append-assoc
 
 -- the range of a line is that of its fields
-sheet-ranges : (k : ℕ) → rangesOf (dueLines k) ≡ map rangeOf (kindsOf (layout k))
+sheet-ranges : (k : ℕ) → dueRanges (dueLines k) ≡ map rangeOf (kindsOf (layout k))
 unfolding dueLines upTo layout
 sheet-ranges k =
     let place : lineCount k ≡ suc (suc (suc (suc (suc (suc (k + 1)))))) = omega arith in
@@ -120,7 +120,7 @@ layout-small : (k : ℕ) → AllSmall (kindsOf (layout k))
 unfolding layout
 layout-small k = spread-small (layout k) (lit< tt, (lit< tt, (lit< tt, (lit< tt, (lit< tt, (lit< tt, (lit< tt, tt)))))))
 
-fields-okay : (κs : List Kind) (vs : List ℤ) → AllSmall κs → everyField inRange κs vs ≡ true → Sound (map rangeOf κs) vs
+fields-okay : (κs : List Kind) (vs : List ℤ) → AllSmall κs → everyField inRange κs vs ≡ true → EachWithin (map rangeOf κs) vs
 unfolding everyField inRange
 fields-okay [] vs a h = tt
 fields-okay (κ ∷ κs) [] a h = absurd (false≢true h)
@@ -133,5 +133,5 @@ fields-okay (κ ∷ κs) (v ∷ vs) a h =
     )
 
 -- the fields of a record may stand in the lines of its sheet
-pub fields-sound : (k : ℕ) (vs : List ℤ) → RecordFields k vs → Sound (rangesOf (dueLines k)) vs
+pub fields-sound : (k : ℕ) (vs : List ℤ) → RecordFields k vs → EachWithin (dueRanges (dueLines k)) vs
 fields-sound k vs f = rw (sheet-ranges k) (fields-okay (kindsOf (layout k)) vs (layout-small k) (f .ranges))

@@ -30,7 +30,7 @@ use Rattle.sheet_writing.proofs.LinesPut.{countsOf, sheet-counts}
 use Rattle.sheet_writing.proofs.Unpacked.{accepted-fields}
 use Rattle.sheet_record.proofs.Length.{sheet-length}
 use Rattle.sheet_record.proofs.Ranges.{fields-sound}
-use Rattle.sheet_record.proofs.Sheets.{dues-first, dues-others, rangesOf, Sound, split, one-line, lines-sound}
+use Rattle.sheet_record.proofs.Sheets.{dues-first, dues-others, dueRanges, EachWithin, split, one-line, lines-sound}
 
 -- the first of some fields
 first-one : (vs : List ℤ) (k : ℕ) → 1 ≤ length vs → getD vs 0 (pos 0) ≡ pos k → take 1 vs ≡ pos k ∷ []
@@ -58,8 +58,8 @@ module _ (k : ℕ) (vs : List ℤ) (f : RecordFields k vs) where
   sheet-back =
       let ds = upTo (λ j. dueAt k (1 + j)) (k + 6) in
       let one : take 1 vs ≡ pos k ∷ [] = first-one vs k (omega (arith, f .size, fields-count k)) (f .first) in
-      let sound : Sound (rangesOf (dueAt k 0 ∷ ds)) vs = rw (dues-first k) at (fields-sound k vs f) in
-      let parts = split 1 (pos 1, pos 15) (rangesOf ds) vs sound in
+      let sound : EachWithin (dueRanges (dueAt k 0 ∷ ds)) vs = rw (dues-first k) at (fields-sound k vs f) in
+      let parts = split 1 (pos 1, pos 15) (dueRanges ds) vs sound in
       let counts : 1 + countsOf ds ≡ length vs = sym (ap countsOf (dues-first k)) ∙ sheet-counts k ∙ sym (f .size) in
       let number : suc (1 + length ds) ≡ k + 8 = omega (arith, length-upTo (λ j. dueAt k (1 + j)) (k + 6)) in
       let all : take 1 vs ++ take (countsOf ds) (drop 1 vs) ≡ vs = sym (take-add 1 (countsOf ds) vs) ∙ take-all (1 + countsOf ds) vs (omega arith) in

@@ -143,23 +143,23 @@ pub dues-others : (k : ℕ) → Dues k 1 (upTo (λ j. dueAt k (1 + j)) (k + 6))
 dues-others k = dues-from k (k + 6) 1 (omega arith)
 
 -- the range of each number, line by line
-abbrev pub rangesOf : List Due → List (ℤ × ℤ)
-rangesOf [] = []
-rangesOf (d ∷ ds) = replicate (d .count) (d .least, d .most) ++ rangesOf ds
+abbrev pub dueRanges : List Due → List (ℤ × ℤ)
+dueRanges [] = []
+dueRanges (d ∷ ds) = replicate (d .count) (d .least, d .most) ++ dueRanges ds
 
 -- numbers that may stand where these ranges are
-abbrev pub Sound : List (ℤ × ℤ) → List ℤ → Type 0
-Sound [] vs = Unit {0}
-Sound (r ∷ rs) [] = ⊥
-Sound (r ∷ rs) (v ∷ vs) = Okay r v × Sound rs vs
+abbrev pub EachWithin : List (ℤ × ℤ) → List ℤ → Type 0
+EachWithin [] vs = Unit {0}
+EachWithin (r ∷ rs) [] = ⊥
+EachWithin (r ∷ rs) (v ∷ vs) = Okay r v × EachWithin rs vs
 
 -- those of the first line, and those of the others
 pub record Split (n : ℕ) (r : ℤ × ℤ) (rs : List (ℤ × ℤ)) (vs : List ℤ) : Type 0 where
   pub size : length (take n vs) ≡ n
   pub first : AllOkay r (take n vs)
-  pub others : Sound rs (drop n vs)
+  pub others : EachWithin rs (drop n vs)
 
-pub split : (n : ℕ) (r : ℤ × ℤ) (rs : List (ℤ × ℤ)) (vs : List ℤ) → Sound (replicate n r ++ rs) vs → Split n r rs vs
+pub split : (n : ℕ) (r : ℤ × ℤ) (rs : List (ℤ × ℤ)) (vs : List ℤ) → EachWithin (replicate n r ++ rs) vs → Split n r rs vs
 split zero r rs vs s = record { size = refl; first = tt; others = s }
 split (suc n) r rs [] s = absurd s
 split (suc n) r rs (v ∷ vs) s =
@@ -167,14 +167,14 @@ split (suc n) r rs (v ∷ vs) s =
     record { size = ap suc (rest .size); first = (s .0, rest .first); others = rest .others }
 
 -- the lines as they were written give the numbers back
-pub lines-sound : (k m i : ℕ) (us : List ℤ) (ds : List Due) (vs : List ℤ) → 1 ≤ length us → lastYearIn us ≡ k → Dues k i ds → Sound (rangesOf ds) vs
+pub lines-sound : (k m i : ℕ) (us : List ℤ) (ds : List Due) (vs : List ℤ) → 1 ≤ length us → lastYearIn us ≡ k → Dues k i ds → EachWithin (dueRanges ds) vs
     → readLines (fine m i us) (lines (linesOf ds vs)) ≡ fine (suc (m + length ds)) (lineCount k) (us ++ take (countsOf ds) vs)
 unfolding linesOf total
 lines-sound k m i us [] vs some e h s =
     let f : m + 0 ≡ m = omega arith in
     rw (f, h, append-nil us) (end-line k m us e)
 lines-sound k m i us (d ∷ ds) vs some e h s =
-    let parts = split (d .count) (d .least, d .most) (rangesOf ds) vs s in
+    let parts = split (d .count) (d .least, d .most) (dueRanges ds) vs s in
     let xs = take (d .count) vs in
     let f : suc m + length ds ≡ m + suc (length ds) = omega arith in
     let same : dueAt (lastYearIn us) i ≡ d = rw e (h .0) in

@@ -8,27 +8,27 @@ use Rattle.rules.specs.Triangle.{cellOf, sumTo, cellsTotal}
 use Rattle.laws.proofs.Sums.{sumTo-same, sumTo-add, sumTo-zero}
 
 -- what a cell adds to a total
-abbrev pub passing : List (List ℤ) → (ℕ → ℕ → Bool) → ℕ → ℕ → ℤ
-passing s p i j = cond (p i j) (cellOf s i j) (pos 0)
+abbrev pub cellsPassing : List (List ℤ) → (ℕ → ℕ → Bool) → ℕ → ℕ → ℤ
+cellsPassing s p i j = cond (p i j) (cellOf s i j) (pos 0)
 
 module _ (s : List (List ℤ)) where
   -- tests that agree on every cell
-  pub cells-same : (p q : ℕ → ℕ → Bool) → ((i j : ℕ) → passing s p i j ≡ passing s q i j) → cellsTotal p s ≡ cellsTotal q s
+  pub cells-same : (p q : ℕ → ℕ → Bool) → ((i j : ℕ) → cellsPassing s p i j ≡ cellsPassing s q i j) → cellsTotal p s ≡ cellsTotal q s
   unfolding cellsTotal
   cells-same p q e = sumTo-same _ _ 16 (λ i l. sumTo-same _ _ 16 (λ j m. e i j))
 
   -- a test that leaves nothing
-  pub cells-zero : (p : ℕ → ℕ → Bool) → ((i j : ℕ) → passing s p i j ≡ pos 0) → cellsTotal p s ≡ pos 0
+  pub cells-zero : (p : ℕ → ℕ → Bool) → ((i j : ℕ) → cellsPassing s p i j ≡ pos 0) → cellsTotal p s ≡ pos 0
   unfolding cellsTotal
   cells-zero p e = sumTo-zero _ 16 (λ i l. sumTo-zero _ 16 (λ j m. e i j))
 
   -- the total of two tests
-  cells-add : (p q : ℕ → ℕ → Bool) → cellsTotal p s +ℤ cellsTotal q s ≡ sumTo (λ i. sumTo (λ j. passing s p i j +ℤ passing s q i j) 16) 16
+  cells-add : (p q : ℕ → ℕ → Bool) → cellsTotal p s +ℤ cellsTotal q s ≡ sumTo (λ i. sumTo (λ j. cellsPassing s p i j +ℤ cellsPassing s q i j) 16) 16
   unfolding cellsTotal
-  cells-add p q = sym (sumTo-same _ _ 16 (λ i l. sumTo-add (passing s p i) (passing s q i) 16) ∙ sumTo-add _ _ 16)
+  cells-add p q = sym (sumTo-same _ _ 16 (λ i l. sumTo-add (cellsPassing s p i) (cellsPassing s q i) 16) ∙ sumTo-add _ _ 16)
 
   -- two pairs of tests that pass each cell equally often
   pub cells-pairs : (p q p′ q′ : ℕ → ℕ → Bool) →
-      ((i j : ℕ) → passing s p i j +ℤ passing s q i j ≡ passing s p′ i j +ℤ passing s q′ i j) →
+      ((i j : ℕ) → cellsPassing s p i j +ℤ cellsPassing s q i j ≡ cellsPassing s p′ i j +ℤ cellsPassing s q′ i j) →
       cellsTotal p s +ℤ cellsTotal q s ≡ cellsTotal p′ s +ℤ cellsTotal q′ s
   cells-pairs p q p′ q′ e = cells-add p q ∙ sumTo-same _ _ 16 (λ i l. sumTo-same _ _ 16 (λ j m. e i j)) ∙ sym (cells-add p′ q′)

@@ -10,7 +10,7 @@ use lib.Dec.{eqb}
 use lib.IntN.{ℤ, pos, _+ℤ_, +ℤ-idl, +ℤ-idr, +ℤ-assoc, +ℤ-comm}
 use Rattle.rules.specs.Triangle.{cellOf, sumTo, cellsTotal, columnTotal, diagonalTotal, cornerTotal, allTotal}
 use Rattle.laws.proofs.Sums.{sumTo-same, sumTo-zero, sumTo-one, sumTo-cut, sumTo-turn, zero-term, passed-eq, left-out-eq}
-use Rattle.totals.proofs.Cells.{passing, cells-zero}
+use Rattle.totals.proofs.Cells.{cellsPassing, cells-zero}
 use Rattle.rules.specs.Triangle.{ZeroOutside}
 use Rattle.totals.proofs.Corners.{corner-down, corner-first, corner-last}
 
@@ -27,11 +27,11 @@ on h i j = eqb (i + j) h
 pub diagonal-walk : (s : List (List ℤ)) (h : ℕ) → h < 16 → diagonalTotal s h ≡ sumTo (λ i. cellOf s i (h - i)) (suc h)
 unfolding diagonalTotal cellsTotal
 diagonal-walk s h lt =
-    sumTo-cut (λ i. sumTo (passing s (on h) i) 16) (suc h) 16 lt
-    (λ i l. sumTo-zero (passing s (on h) i) 16 (λ j m. left-out-eq (i + j) h (cellOf s i j) (λ q. omega arith)))
-    ∙ sumTo-same (λ i. sumTo (passing s (on h) i) 16) (λ i. cellOf s i (h - i)) (suc h)
+    sumTo-cut (λ i. sumTo (cellsPassing s (on h) i) 16) (suc h) 16 lt
+    (λ i l. sumTo-zero (cellsPassing s (on h) i) 16 (λ j m. left-out-eq (i + j) h (cellOf s i j) (λ q. omega arith)))
+    ∙ sumTo-same (λ i. sumTo (cellsPassing s (on h) i) 16) (λ i. cellOf s i (h - i)) (suc h)
     (λ i l.
-    sumTo-same (passing s (on h) i) (λ j. cond (eqb j (h - i)) (cellOf s i j) (pos 0)) 16 (λ j m. same i j l (ℕ-discrete (i + j) h))
+    sumTo-same (cellsPassing s (on h) i) (λ j. cond (eqb j (h - i)) (cellOf s i j) (pos 0)) 16 (λ j m. same i j l (ℕ-discrete (i + j) h))
     ∙ sumTo-one (cellOf s i) (h - i) 16 (omega arith))
   where
     same : (i j : ℕ) → i < suc h → Dec (i + j ≡ h) → cond (eqb (i + j) h) (cellOf s i j) (pos 0) ≡ cond (eqb j (h - i)) (cellOf s i j) (pos 0)

@@ -1,6 +1,6 @@
 -- What question 4 has shown of the increments and exposures, how large a cell of a square may be, the sums of the columns of the given cumulatives and
 -- of the averages, row by row, and how many rows pass question 6. Assumes nothing.
-use Prim.Native.Nat.{ℕ, _+_, _≤_}
+use Prim.Native.Nat.{ℕ, _+_, _*_, _≤_}
 use mathlib.Core.Bool.{cond}
 use mathlib.Core.List.{List}
 use lib.Dec.{leb}
@@ -37,7 +37,7 @@ Exposures k n = (i : ℕ) → i ≤ k → (1 ≤ getD n i 0) × (getD n i 0 ≤ 
 
 -- the most of an average's size: 100 × 10^10 over one claim
 abbrev pub mostAverage : ℕ
-mostAverage = 1000000000000
+mostAverage = 100 * mostAmount
 
 -- no cell's size is above it
 abbrev pub Cells : List (List ℤ) → Type 0

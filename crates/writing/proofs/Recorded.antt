@@ -19,7 +19,7 @@ use Rattle.packing.proofs.Puts.{packed-none, packed-then, ready-then}
 use Rattle.layout.proofs.RecordSizes.{bytes-room, bits-most}
 use Rattle.layout.proofs.Codes.{widthsOf, total-row, packRows, pack-rows}
 use Rattle.writing.specs.Writing.{Writable}
-use Rattle.writing.proofs.RowsGiven.{few-years, rowsOf, rowCodes, codes-shaped, Lengths, lengths-are, rows-layout, codes-join}
+use Rattle.writing.proofs.RowsGiven.{few-years, givenLayout, rowCodes, codes-shaped, Lengths, lengths-are, rows-layout, codes-join}
 
 -- nothing is pending
 abbrev pub none : Pending
@@ -53,7 +53,7 @@ packed-one {w} {x} f = rw (mul-one w, one-field w x) f
 -- the first i rows of g are packed into the buffer, which was s
 pub record FirstRows (g : Figures) (i : ℕ) (s t : List ℕ) (q : Pending) : Type 0 where
   pub long : length t ≡ length s
-  pub packed : PackedOn s t none q (bitsRows 0 (take i (rowsOf g))) (packRows 0 (take i (rowsOf g)) (take i (rowCodes g)))
+  pub packed : PackedOn s t none q (bitsRows 0 (take i (givenLayout g))) (packRows 0 (take i (givenLayout g)) (take i (rowCodes g)))
 
 -- where nothing is packed the number is 0
 nothing-packed : (s : List ℕ) → packedSo s none ≡ 0
@@ -82,11 +82,11 @@ module _ (g : Figures) (s : List ℕ) (w : Writable g (length s)) where
   lengths = lengths-are g (length s) (w .lengths)
 
   -- all rows have the record's bits
-  all-bits : bitsRows 0 (rowsOf g) ≡ bitCount (g .k)
+  all-bits : bitsRows 0 (givenLayout g) ≡ bitCount (g .k)
   unfolding bitCount widths
   all-bits =
       let e = ap (λ (rs : List (ℕ × Kind)). total (widthsOf rs)) (rows-layout g (length s) lengths) in
-      omega (arith, bits-rows 0 (rowsOf g))
+      omega (arith, bits-rows 0 (givenLayout g))
 
   -- the buffer has room for all rows
   whole-room : Packable s none (8 * length s)
@@ -100,10 +100,10 @@ module _ (g : Figures) (s : List ℕ) (w : Writable g (length s)) where
 
   -- and after the first rows for the next
   pub ready : {t : List ℕ} {q : Pending} (i v : ℕ) → FirstRows g i s t q
-      → bitsRows 0 (take (suc i) (rowsOf g)) ≡ bitsRows 0 (take i (rowsOf g)) + v → Packable t q v
+      → bitsRows 0 (take (suc i) (givenLayout g)) ≡ bitsRows 0 (take i (givenLayout g)) + v → Packable t q v
   ready i v f e =
       ready-then v whole-room (f .packed) (f .long)
-      (omega (arith, first-bits 0 (suc i) (rowsOf g), all-bits, lengths .buffer, bytes-room (g .k)))
+      (omega (arith, first-bits 0 (suc i) (givenLayout g), all-bits, lengths .buffer, bytes-room (g .k)))
 
   -- after all rows it has room for the filling bits
   filling-bits : {t : List ℕ} {q : Pending} → FirstRows g 7 s t q → 8 * length t - bitCount (g .k) ≡ fillingCount (g .k)
@@ -119,10 +119,10 @@ module _ (g : Figures) (s : List ℕ) (w : Writable g (length s)) where
       record { short = omega (arith, r .short); room = omega (arith, b); few = omega (arith, b); ready = r }
 
   -- the number packed is that of the record's fields
-  all-packed : packRows 0 (rowsOf g) (rowCodes g) ≡ pack (widths (g .k)) (zipWith codeOf (kindsOf (layout (g .k))) (givenFields g))
+  all-packed : packRows 0 (givenLayout g) (rowCodes g) ≡ pack (widths (g .k)) (zipWith codeOf (kindsOf (layout (g .k))) (givenFields g))
   unfolding widths
   all-packed =
-      rw (codes-join g (length s) lengths, ← rows-layout g (length s) lengths) (omega (arith, pack-rows 0 (rowsOf g) (rowCodes g) (codes-shaped g)))
+      rw (codes-join g (length s) lengths, ← rows-layout g (length s) lengths) (omega (arith, pack-rows 0 (givenLayout g) (rowCodes g) (codes-shaped g)))
 
   -- with the filling bits the buffer holds the record
   pub recorded : {t u : List ℕ} {q r : Pending} → FirstRows g 7 s t q → PackedOn t u q r (8 * length t - bitCount (g .k)) 0 → length u ≡ length t → Fit 8 u
@@ -130,7 +130,7 @@ module _ (g : Figures) (s : List ℕ) (w : Writable g (length s)) where
   unfolding recordOf
   recorded {t} {u} f h e fit =
       let b : length u ≡ byteCount (g .k) = omega (arith, f .long, lengths .buffer) in
-      let n : numberOf u ≡ packRows 0 (rowsOf g) (rowCodes g) * 2 ^ (8 * length t - bitCount (g .k)) + 0 =
+      let n : numberOf u ≡ packRows 0 (givenLayout g) (rowCodes g) * 2 ^ (8 * length t - bitCount (g .k)) + 0 =
       whole-number (packed-then (f .packed) h) (omega (arith, all-bits, bytes-room (g .k), f .long, lengths .buffer)) in
       sym (bytes-number u fit)
-      ∙ rw (b, n, add-zero (packRows 0 (rowsOf g) (rowCodes g) * 2 ^ (8 * length t - bitCount (g .k))), filling-bits f, all-packed)
+      ∙ rw (b, n, add-zero (packRows 0 (givenLayout g) (rowCodes g) * 2 ^ (8 * length t - bitCount (g .k))), filling-bits f, all-packed)

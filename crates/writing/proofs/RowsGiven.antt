@@ -39,8 +39,8 @@ rowCodes g =
     ∷ []
 
 -- how many fields each row has, and of which kind
-abbrev pub rowsOf : Figures → List (ℕ × Kind)
-rowsOf g =
+abbrev pub givenLayout : Figures → List (ℕ × Kind)
+givenLayout g =
     (1, lastYear)
     ∷ (length (g .exposures), exposure)
     ∷ (length (g .increments), increment)
@@ -103,11 +103,11 @@ lengths-are g m h =
     }
 
 -- the rows' own lengths
-values-shaped : (g : Figures) → Shaped (rowsOf g) (valuesOf g)
+values-shaped : (g : Figures) → Shaped (givenLayout g) (valuesOf g)
 values-shaped g =
     (refl, (length-map (g .exposures) pos, (refl, (length-map (g .indices) pos, (length-map (g .reporting) pos, (refl, (length-map (g .ulae) pos, tt)))))))
 
-pub codes-shaped : (g : Figures) → Shaped (rowsOf g) (rowCodes g)
+pub codes-shaped : (g : Figures) → Shaped (givenLayout g) (rowCodes g)
 codes-shaped g = (refl, (refl, (length-map (g .increments) (codeOf increment), (refl, (refl, (refl, (refl, tt)))))))
 
 -- the bits of a row whose kind has no sign bit are its sizes, and its range is between two limits
@@ -123,7 +123,7 @@ module _ (κ : Kind) (e : κ .signed ≡ false) where
   plain-range (x ∷ xs) = rw (plain-range xs, e)
 
 -- the bits of all fields, row by row
-codes-rows : (g : Figures) → mapRows codeOf (rowsOf g) (valuesOf g) ≡ rowCodes g
+codes-rows : (g : Figures) → mapRows codeOf (givenLayout g) (valuesOf g) ≡ rowCodes g
 unfolding codeOf
 codes-rows g =
     rw (
@@ -135,13 +135,13 @@ codes-rows g =
 
 module _ (g : Figures) (m : ℕ) (l : Lengths g m) where
   -- the rows have the lengths that the layout gives
-  pub rows-layout : rowsOf g ≡ layout (g .k)
+  pub rows-layout : givenLayout g ≡ layout (g .k)
   unfolding layout
   rows-layout = rw (l .exposures, l .increments, l .indices, l .reporting, l .ulae)
 
   -- the bits of the fields are those of the rows, one row after another
   pub codes-join : zipWith codeOf (kindsOf (layout (g .k))) (givenFields g) ≡ join (rowCodes g)
-  codes-join = rw (fields-join g, ← rows-layout, zip-join codeOf (rowsOf g) (valuesOf g) (values-shaped g)) (ap join (codes-rows g))
+  codes-join = rw (fields-join g, ← rows-layout, zip-join codeOf (givenLayout g) (valuesOf g) (values-shaped g)) (ap join (codes-rows g))
 
   -- question 4 row by row, where question 1 says yes
   pub ranges-are : givenLastYear g ≡ true → givenRanges g ≡ rangesOf g
@@ -150,7 +150,7 @@ module _ (g : Figures) (m : ℕ) (l : Lengths g m) where
       rw (
         fields-join g,
         ← rows-layout,
-        every-join inRange (rowsOf g) (valuesOf g) (values-shaped g),
+        every-join inRange (givenLayout g) (valuesOf g) (values-shaped g),
         plain-range lastYear refl (g .k ∷ []),
         y,
         plain-range exposure refl (g .exposures),

@@ -1,4 +1,5 @@
 // The writer: a record from its fields, or the number of the first question that says no.
+use entries::size_of;
 use entries::sum_of;
 use entries::within;
 use layout::bytes_of;
@@ -71,10 +72,7 @@ fn given_lengths(
 fn in_range(p: i64) -> bool
     ensures { λ r. ⌜ r ≡ inRange increment p ⌝ }
 {
-    if p < 0 {
-        return -10_000_000_000 <= p;
-    }
-    p <= 10_000_000_000
+    size_of(p) <= MOST_AMOUNT
 }
 
 // Whether every increment is in its range.

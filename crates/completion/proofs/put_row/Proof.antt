@@ -10,6 +10,7 @@ use Rattle.rules.specs.Lists.{total, upTo}
 use Rattle.rules.specs.Completion.{paymentOf, payment, paymentRow, provision}
 use Rattle.laws.proofs.Totals.{total-more}
 use Rattle.laws.proofs.Joined.{sets-more}
+use Rattle.completion.specs.Asked.{mostPayment}
 use Rattle.completion.proofs.put_row.Statement.{statement}
 use Rattle.completion.proofs.put_row.Tie as tie
 
@@ -27,7 +28,7 @@ cell-is k n r l i m h =
 abbrev Inv-loop : tie.InvT-loop
 Inv-loop all₀ at exposures shares levels k i sum₀ claims first m₀ all sum m =
     (m ≤ i)
-    × ((sum ≤ m * 50000000000000)
+    × ((sum ≤ m * mostPayment)
     × ((sum ≡ total (upTo (cell k exposures shares levels i) m)) × (all ≡ sets all₀ at (upTo (cell k exposures shares levels i) m))))
 
 abbrev μ-loop : tie.MeasureT-loop

@@ -1,5 +1,5 @@
 -- By the sign of the number. Assumes nothing.
-use Rattle.entries.proofs.Signs.{below, above}
+use Rattle.entries.proofs.Signs.{below-zero, above}
 use Rattle.composing.specs.Text.{sign}
 use Rattle.composing.proofs.Puts.{put-none}
 use borrow.Author.Needs.{needs}
@@ -16,7 +16,7 @@ returns : tie.Need-returns
 unfolding sign
 returns c =
     let s = c .before .before .before .before .before .before in
-    let (n, e, h) = below (s .args .z) (s .fits .z) (c .before .before .before .before .if1 .taken) in
+    let (n, e, h) = below-zero (s .args .z) (s .fits .z) (c .before .before .before .before .if1 .taken) in
     rw e (c .before .before .put-byte .ensures)
 
 returns-2 : tie.Need-returns-2

@@ -1,12 +1,12 @@
 -- By the sign of the number. Assumes nothing.
-use Rattle.entries.proofs.Signs.{below, above}
+use Rattle.entries.proofs.Signs.{below-zero, above}
 use Rattle.composing.specs.Text.{sign}
 use Rattle.composing.proofs.sign_length.Statement.{statement}
 use Rattle.composing.proofs.sign_length.Tie as tie
 
 returns : tie.Need-returns
 unfolding sign
-returns c = let (n, e, h) = below (c .before .args .z) (c .before .fits .z) (c .if1 .taken) in rw e
+returns c = let (n, e, h) = below-zero (c .before .args .z) (c .before .fits .z) (c .if1 .taken) in rw e
 
 returns-2 : tie.Need-returns-2
 unfolding sign

@@ -1,4 +1,4 @@
--- Questions 4 and 5 are asked by the reading, and the arrays that it fills are the figures' own (filled). Assumes nothing.
+-- Questions 4 and 5 are asked by the reading, and the arrays that it fills are the figures' own (figures-filled). Assumes nothing.
 use borrow.Author.Needs.{needs}
 use native.Mathlib.Omega.{arith}
 use mathlib.Core.Path.{_≡_, refl, sym, _∙_}
@@ -8,7 +8,7 @@ use Rattle.rules.specs.Questions.{firstNo}
 use Rattle.rules.specs.Record.{figures, figuresOf}
 use Rattle.rules.specs.Reading.{fieldQuestions}
 use Rattle.reading.proofs.RowsRead.{years-known, opening-yes}
-use Rattle.reading.proofs.FiguresRead.{filled, sound-figures}
+use Rattle.reading.proofs.FiguresRead.{figures-filled, sound-figures}
 use Rattle.engine.proofs.RunQuestions.{first-refused, later}
 use Rattle.engine.proofs.Before.{figures-are}
 use Rattle.engine.proofs.run_record.Statement.{statement}
@@ -49,7 +49,7 @@ figures-read c =
     let s = start at in
     let packed = s .args .packed .now in
     let e = at .read .ensures .1 in
-    figures-are packed (filled packed (bytes at) (s .pre .0) (yes-fields (c .before))) _ _ _ _ _ _ _ (c .last-year-of .ensures .0) (e .1 .0) (e .1 .1 .0) (e .1 .1 .1 .0) (e .1 .1 .1 .1 .0) (e .0) (e .1 .1 .1 .1 .1)
+    figures-are packed (figures-filled packed (bytes at) (s .pre .0) (yes-fields (c .before))) _ _ _ _ _ _ _ (c .last-year-of .ensures .0) (e .1 .0) (e .1 .1 .0) (e .1 .1 .1 .0) (e .1 .1 .1 .1 .0) (e .0) (e .1 .1 .1 .1 .1)
 
 run-figures-requires : tie.Need-run-figures-requires
 run-figures-requires c κs =

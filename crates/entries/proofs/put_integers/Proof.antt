@@ -9,7 +9,7 @@ use lib.ListN.{length, getD, take, length-set}
 use lib.Seq.{sets}
 use mir.Syntax.{w64}
 use mir.Facts.{toZ-ofZ}
-use Rattle.entries.proofs.Runs.{sets-more}
+use Rattle.entries.proofs.Runs.{sets-map-more}
 use Rattle.entries.proofs.put_integers.Statement.{statement}
 use Rattle.entries.proofs.put_integers.Tie as tie
 
@@ -50,7 +50,7 @@ loop-again c =
     let vs = s .args .vs .now in
     let kept = toZ-ofZ {w = w64} {z = getD vs (l .i) (pos 0)} (sfits-of (c .out .given)) in (
       omega arith,
-      rw (kept, l .inv .1) (sets-more (λ (z : ℤ). z) vs (s .args .out .now) (s .args .at) (l .i) (pos 0) (omega arith)),
+      rw (kept, l .inv .1) (sets-map-more (λ (z : ℤ). z) vs (s .args .out .now) (s .args .at) (l .i) (pos 0) (omega arith)),
       simp length-set (l .inv .2),
     )
 

@@ -9,7 +9,7 @@ use lib.ListN.{length, getD, take, length-set}
 use lib.Seq.{sets}
 use mir.Syntax.{w64}
 use mir.ValLaws.{toZ-pos}
-use Rattle.entries.proofs.Runs.{sets-more}
+use Rattle.entries.proofs.Runs.{sets-map-more}
 use Rattle.entries.proofs.put_naturals.Statement.{statement}
 use Rattle.entries.proofs.put_naturals.Tie as tie
 
@@ -52,7 +52,7 @@ loop-again c =
     let l = c .before .before .loop in
     let vs = s .args .vs .now in (
       omega arith,
-      rw (toZ-pos w64 (getD vs (l .i) 0) (s .pre .1 .1 (l .i) (omega arith)), l .inv .1) (sets-more pos vs (s .args .out .now) (s .args .at) (l .i) 0 (omega arith)),
+      rw (toZ-pos w64 (getD vs (l .i) 0) (s .pre .1 .1 (l .i) (omega arith)), l .inv .1) (sets-map-more pos vs (s .args .out .now) (s .args .at) (l .i) 0 (omega arith)),
       simp length-set (l .inv .2),
     )
 

@@ -5,12 +5,13 @@ use Prim.Native.Nat.{_-_, _*_, _≤_}
 use native.Mathlib.Omega.{arith}
 use lib.ListN.{take}
 use Rattle.rules.specs.Lists.{total}
+use Rattle.rules.specs.Completion.{mostUltimate}
 use Rattle.laws.proofs.Lists.{total-take}
 use Rattle.entries.proofs.sum_of.Statement.{statement}
 use Rattle.entries.proofs.sum_of.Tie as tie
 
 abbrev Inv-loop : tie.InvT-loop
-Inv-loop vs n sum₀ i₀ sum i = (i ≤ n) × (sum ≡ total (take i vs)) × (sum ≤ 1000000000000 * i)
+Inv-loop vs n sum₀ i₀ sum i = (i ≤ n) × (sum ≡ total (take i vs)) × (sum ≤ mostUltimate * i)
 
 abbrev μ-loop : tie.MeasureT-loop
 μ-loop vs n sum₀ i₀ sum i = n - i

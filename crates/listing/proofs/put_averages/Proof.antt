@@ -9,7 +9,7 @@ use lib.Seq.{sets, length-sets}
 use Rattle.rules.specs.Lists.{upTo, joined}
 use Rattle.rules.specs.Triangle.{rowStart}
 use Rattle.listing.specs.Starts.{averageRowOf}
-use Rattle.laws.proofs.TriangleRows.{start-more, rows-all, row-within}
+use Rattle.laws.proofs.TriangleRows.{row-start-more, rows-all, row-within}
 use Rattle.listing.proofs.Sections.{rows-more}
 use Rattle.listing.proofs.put_averages.Statement.{statement}
 use Rattle.listing.proofs.put_averages.Tie as tie
@@ -59,7 +59,7 @@ loop-again c =
     let long : length (getD square (l .i) []) ≡ 16 = c .before .before .put-integers-arg3 .given .0 in
     let stored : put .last .0 ≡ sets (l .out) (l .at) (take (s .args .k + 1 - l .i) (getD square (l .i) [])) = put .ensures .1 in (
       omega arith,
-      omega (arith, start-more (s .args .k) (l .i)),
+      omega (arith, row-start-more (s .args .k) (l .i)),
       stored ∙ rw (l .inv .2) (rows-more (s .args .k) square (s .args .out .now) (l .i) (l .at) (l .inv .1) (omega arith)),
       ap length stored ∙ simp length-sets (l .inv .3),
     )

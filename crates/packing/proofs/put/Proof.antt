@@ -10,7 +10,7 @@ use lib.Pow.{pow-pos, pow-mono}
 use Rattle.rules.specs.Packing.{numberOf}
 use Rattle.packing.specs.Field.{packedSo, placeOf}
 use Rattle.packing.proofs.BitPlaces.{one-shl}
-use Rattle.packing.proofs.Puts.{added-lt, added, written, drop-further}
+use Rattle.packing.proofs.Puts.{added-lt, added, byte-written, drop-further}
 use Rattle.packing.proofs.put.Statement.{statement}
 use Rattle.packing.proofs.put.Tie as tie
 
@@ -79,7 +79,7 @@ loop-again c =
     let at = c .before .before .loop .at in
     let count = c .before .before .loop .count in
     let bits = c .before .before .loop .bits in (
-      rw (one-shl (count - 8) (omega arith), c .low .ensures) (written s at count bits (omega arith) (omega arith) (inv .1)) ∙ inv .0,
+      rw (one-shl (count - 8) (omega arith), c .low .ensures) (byte-written s at count bits (omega arith) (omega arith) (inv .1)) ∙ inv .0,
       rw (one-shl (count - 8) (omega arith)) (mod-lt bits (pow-pos (count - 8))),
       omega arith,
       omega arith,

@@ -12,7 +12,7 @@ use Rattle.composing.specs.Text.{Put}
 use Rattle.composing.proofs.Puts.{put-first, put-more, put-length}
 use Rattle.rows.specs.Rows.{entry}
 use Rattle.plots.specs.Plots.{shareDrawn, runningShare, shareBar}
-use Rattle.plots.proofs.Running.{running-none, running-suc, running-most}
+use Rattle.plots.proofs.Running.{running-none, running-suc, running-share-most}
 use borrow.Author.Needs.{needs, sfits-of}
 use Rattle.plots.proofs.put_shares.Statement.{statement}
 use Rattle.plots.proofs.put_shares.Tie as tie
@@ -33,13 +33,13 @@ add-running : tie.Need-add-running Inv-loop μ-loop
 add-running c =
     let s = c .before .before .before .before .before in
     let l = c .before .before .before .loop in
-    omega (arith, l .inv .1, c .share-of .ensures, running-most (s .args .list .now) (s .args .p) (l .h))
+    omega (arith, l .inv .1, c .share-of .ensures, running-share-most (s .args .list .now) (s .args .p) (l .h))
 
 put-share-requires : tie.Need-put-share-requires Inv-loop μ-loop
 put-share-requires c κs =
     let s = c .before .before .before .before .before .before in
     let l = c .before .before .before .before .loop in
-    (omega arith, omega (arith, l .inv .1, c .before .share-of .ensures, running-most (s .args .list .now) (s .args .p) (l .h)))
+    (omega arith, omega (arith, l .inv .1, c .before .share-of .ensures, running-share-most (s .args .list .now) (s .args .p) (l .h)))
 
 loop-again : tie.Need-loop-again Inv-loop μ-loop
 unfolding shareBar

@@ -1,4 +1,4 @@
--- Each row lies within the record (within) and is tested by its range (found); the first row out of range ends the reading (not-read). Assumes nothing.
+-- Each row lies within the record (within) and is tested by its range (places-found); the first row out of range ends the reading (not-read). Assumes nothing.
 use borrow.Author.Needs.{needs}
 use borrow.Author.Tests.{not-true, not-false, eq-eqb, ne-eqb}
 use native.Mathlib.Omega.{arith}
@@ -15,8 +15,8 @@ use Rattle.rules.specs.Reading.{sharesSum}
 use Rattle.packing.specs.Field.{rowAt}
 use Rattle.layout.specs.declared.Places.{Places}
 use Rattle.reading.specs.Reading.{rowRead}
-use Rattle.reading.proofs.RowsRead.{Whole, whole, opening-yes, years-known}
-use Rattle.reading.proofs.Ranges.{fits, Passed, passed-more, passed-first, not-read, in-ranges, out-of-range, RowsInside, within, Found, found}
+use Rattle.reading.proofs.RowsRead.{WholeRecord, whole-record, opening-yes, years-known}
+use Rattle.reading.proofs.Ranges.{fits, Passed, passed-more, passed-first, not-read, in-ranges, out-of-range, RowsInside, within, PlacesFound, places-found}
 use Rattle.reading.proofs.ReadAnswers.{answer-4, answer-5, answer-0, one-in, one-out, row-stored, stored-most, sum-at}
 use Rattle.reading.proofs.read.Statement.{statement}
 use Rattle.reading.proofs.read.Tie as tie
@@ -66,15 +66,15 @@ abbrev at-6 : tie.Else6 → tie.After-places-of
 at-6 c = at-5 (else-5 c)
 
 -- the record has passed questions 1 and 2
-is-whole : (c : tie.After-places-of) → Whole (bytes c)
-is-whole c = whole (bytes c) (λ i. omega (arith, c .before .before .shared-slice-known .given i)) (c .before .before .before .pre)
+is-whole : (c : tie.After-places-of) → WholeRecord (bytes c)
+is-whole c = whole-record (bytes c) (λ i. omega (arith, c .before .before .shared-slice-known .given i)) (c .before .before .before .pre)
 
 -- each row lies within it, and is tested by its range
 rows-within : (c : tie.After-places-of) → RowsInside (bytes c) (last-year c) (places c)
 rows-within c = within (is-whole c) (last-year c) (places c) (c .before .last-year-of .ensures .0) (c .places-of .ensures)
 
-rows-found : (c : tie.After-places-of) → Found (bytes c) (last-year c) (places c)
-rows-found c = found (is-whole c) (last-year c) (places c) (c .before .last-year-of .ensures .0) (c .places-of .ensures)
+rows-found : (c : tie.After-places-of) → PlacesFound (bytes c) (last-year c) (places c)
+rows-found c = places-found (is-whole c) (last-year c) (places c) (c .before .last-year-of .ensures .0) (c .places-of .ensures)
 
 -- the exposures: whether they are in range, and their array
 fits-1 : (c : tie.After-fill-row) → fits (bytes (c .before .before)) 1 ≡ c .fill-row .result

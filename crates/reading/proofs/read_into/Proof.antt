@@ -1,4 +1,4 @@
--- On an answer of 0 the arrays hold the record's figures (filled), whose fields are the record's (fields-put). Assumes nothing.
+-- On an answer of 0 the arrays hold the record's figures (figures-filled), whose fields are the record's (fields-put). Assumes nothing.
 use borrow.Author.Needs.{needs}
 use native.Mathlib.Omega.{arith}
 use mathlib.Core.Path.{_≡_, sym, ap, _∙_}
@@ -12,9 +12,9 @@ use Rattle.rules.specs.Record.{million, mostIndex, mostAmount, cells, lastYearO
 use Rattle.rules.specs.Reading.{fieldQuestions}
 use Rattle.layout.proofs.RecordSizes.{fields-count}
 use Rattle.reading.specs.Reading.{Sound, Signable}
-use Rattle.reading.proofs.RowsRead.{whole, opening-yes, years-known}
+use Rattle.reading.proofs.RowsRead.{whole-record, opening-yes, years-known}
 use Rattle.reading.proofs.ReadAnswers.{fields-put}
-use Rattle.reading.proofs.FiguresRead.{Filled, filled, sound-figures}
+use Rattle.reading.proofs.FiguresRead.{Filled, figures-filled, sound-figures}
 use Rattle.laws.proofs.Questions.{after-refusal}
 use Rattle.reading.proofs.read_into.Statement.{statement}
 use Rattle.reading.proofs.read_into.Tie as tie
@@ -38,7 +38,7 @@ accepted c = sym (c .before .before .read .ensures .0) ∙ c .if1 .left
 
 -- the arrays hold the record's figures, which are sound
 full : (c : tie.Else1) → Filled (bytes c)
-full c = filled (bytes c) (small c) (start c .pre .0) (accepted c)
+full c = figures-filled (bytes c) (small c) (start c .pre .0) (accepted c)
 
 passed : (c : tie.Else1) → Sound (figuresOf (bytes c))
 passed c = sound-figures (bytes c) (small c) (start c .pre .0) (accepted c)
@@ -100,7 +100,7 @@ returns-2 c =
     let triangle = c .before .before .before .before .before .before .before .put-triangle .ensures in
     let f = full e in
     let put =
-    fields-put (bytes e) (whole (bytes e) (small e) (start e .pre .0)) (start e .args .list .now) (c .before .before .before .before .before .before .before .before .before .before .before .last-year-of .ensures .0)
+    fields-put (bytes e) (whole-record (bytes e) (small e) (start e .pre .0)) (start e .args .list .now) (c .before .before .before .before .before .before .before .before .before .before .before .last-year-of .ensures .0)
     (read .1 .1 .0 ∙ f .exposures) (read .1 .1 .1 .0 ∙ f .increments) (read .1 .1 .1 .1 .0 ∙ f .indices) (read .1 .1 .1 .1 .1 .0 ∙ f .reporting)
     (read .1 .0 ∙ f .weight) (read .1 .1 .1 .1 .1 .1 ∙ f .ulae) (triangle .0) in
     (sym (accepted e), rw (accepted e, c .before .put-assumptions .ensures, triangle .1) put)

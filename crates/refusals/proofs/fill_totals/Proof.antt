@@ -1,4 +1,4 @@
--- The arrays that are read again are those of the record's figures (filled), and so is the square (square-filled). Assumes nothing.
+-- The arrays that are read again are those of the record's figures (figures-filled), and so is the square (square-filled). Assumes nothing.
 use native.Mathlib.Omega.{arith}
 use mathlib.Core.Path.{_≡_, refl, ap, _∙_}
 use mathlib.Core.List.{List}
@@ -8,7 +8,7 @@ use Rattle.rules.specs.Packing.{Fit}
 use Rattle.rules.specs.Record.{figuresOf}
 use Rattle.rules.specs.Triangle.{columnTotal, diagonalTotal}
 use Rattle.rules.specs.Results.{squareOf}
-use Rattle.reading.proofs.FiguresRead.{Filled, filled}
+use Rattle.reading.proofs.FiguresRead.{Filled, figures-filled}
 use Rattle.outcomes.proofs.Passed.{Late, seventh, opening, fields, some, rows-ready}
 use Rattle.refusals.proofs.Totals.{square-filled, square-ready}
 use Rattle.refusals.proofs.fill_totals.Statement.{statement}
@@ -28,7 +28,7 @@ arrays : (c : tie.After-read) → Filled (start c .args .packed .now)
 arrays c =
     let s = start c in
     let packed = s .args .packed .now in
-    filled packed (bytes c) (opening packed (run s)) (fields packed (run s))
+    figures-filled packed (bytes c) (opening packed (run s)) (fields packed (run s))
 
 exposures-are : (c : tie.After-read) → c .read .last .1 .0 ≡ figuresOf (start c .args .packed .now) .exposures
 exposures-are c = c .read .ensures .1 .1 .0 ∙ arrays c .exposures

@@ -1,9 +1,9 @@
--- The arrays that are read again are those of the record's figures (filled), and every row has passed question 6. Assumes nothing.
+-- The arrays that are read again are those of the record's figures (figures-filled), and every row has passed question 6. Assumes nothing.
 use native.Mathlib.Omega.{arith}
 use mathlib.Core.Path.{_≡_, refl, _∙_}
 use Rattle.rules.specs.Packing.{Fit}
 use Rattle.rules.specs.Record.{figuresOf}
-use Rattle.reading.proofs.FiguresRead.{Filled, filled}
+use Rattle.reading.proofs.FiguresRead.{Filled, figures-filled}
 use Rattle.outcomes.proofs.Passed.{Late, accepted, opening, fields, some, rows-ready}
 use Rattle.reports.proofs.PagesAccepted.{paid-is, paid-small}
 use Rattle.reports.proofs.fill_paid.Statement.{statement}
@@ -25,7 +25,7 @@ arrays : (c : tie.After-read) → Filled (start c .args .packed .now)
 arrays c =
     let s = start c in
     let packed = s .args .packed .now in
-    filled packed (bytes c) (opening packed (run s)) (fields packed (run s))
+    figures-filled packed (bytes c) (opening packed (run s)) (fields packed (run s))
 
 exposures-are : (c : tie.After-read) → c .read .last .1 .0 ≡ figuresOf (start c .args .packed .now) .exposures
 exposures-are c = c .read .ensures .1 .1 .0 ∙ arrays c .exposures

@@ -12,7 +12,7 @@ use Rattle.rules.specs.Triangle.{futureStart}
 use Rattle.rules.specs.Lists.{upTo, padded}
 use Rattle.laws.proofs.Padded.{filled-none, filled-more}
 use Rattle.page.specs.Page.{ladderUltimate}
-use Rattle.listing.proofs.Known.{start-more}
+use Rattle.listing.proofs.Known.{future-start-more}
 use Rattle.reports.proofs.PagesAccepted.{ladder-room, ladder-entry}
 use Rattle.reports.proofs.ladder_of.Statement.{statement}
 use Rattle.reports.proofs.ladder_of.Tie as tie
@@ -96,7 +96,7 @@ loop-again c =
     let kept = toZ-ofZ {w = w64} {z = getD list (l .from + l .i) (pos 0)} (sfits-of (c .before .size-of-arg .given)) in
     let size : c .size-of .result ≡ f (l .i + 1) = c .size-of .ensures ∙ ap natAbs kept ∙ ladder-entry (s .args .k) list (s .args .paid .now) (s .args .p) (l .from) (l .i) (s .pre .1) (l .inv .1) in (
       omega arith,
-      omega (arith, l .inv .1, start-more (l .i)),
+      omega (arith, l .inv .1, future-start-more (l .i)),
       rw (size, l .inv .2) (filled-more 16 0 f (l .i + 1) (omega arith)),
     )
 

@@ -3,12 +3,12 @@ use mathlib.Core.Path.{_≡_, sym}
 use mathlib.Core.Bool.{false≢true}
 use native.Mathlib.Omega.{arith}
 use Prim.Native.Nat.{_-_}
-use Rattle.separation.proofs.Corners.{Done, start, fails, goes-on, all}
+use Rattle.separation.proofs.Corners.{CornersDone, start, fails, goes-on, all}
 use Rattle.separation.proofs.fill_corners.Statement.{statement}
 use Rattle.separation.proofs.fill_corners.Tie as tie
 
 abbrev Inv-loop : tie.InvT-loop
-Inv-loop columns diagonals k totals₀ t₀ h₀ totals t h = Done columns diagonals k totals t h
+Inv-loop columns diagonals k totals₀ t₀ h₀ totals t h = CornersDone columns diagonals k totals t h
 
 abbrev μ-loop : tie.MeasureT-loop
 μ-loop columns diagonals k totals₀ t₀ h₀ totals t h = h
@@ -89,7 +89,7 @@ returns-2 : tie.Need-returns-2 Inv-loop μ-loop
 returns-2 c s of =
     let l = c .before .loop in
     let a = c .before .before .before in
-    let done : Done (a .args .columns .now) (a .args .diagonals .now) (a .args .k) (l .totals) (l .t) 0 = let e : l .h ≡ 0 = omega arith in rw e at (l .inv) in
+    let done : CornersDone (a .args .columns .now) (a .args .diagonals .now) (a .args .k) (l .totals) (l .t) 0 = let e : l .h ≡ 0 = omega arith in rw e at (l .inv) in
     let found = all (a .args .columns .now) (a .args .diagonals .now) (a .args .k) (a .pre .0) (l .totals) (l .t) done s of in
     (sym (found .0), λ e. found .1)
 

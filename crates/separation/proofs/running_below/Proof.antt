@@ -6,7 +6,7 @@ use native.Mathlib.Nat.{mul-le-mul}
 use native.Mathlib.Omega.{arith}
 use lib.ListN.{getD}
 use Rattle.rules.specs.Separation.{billion}
-use Rattle.separation.proofs.Steps.{part-most}
+use Rattle.separation.proofs.Steps.{below-part-most}
 use Rattle.separation.proofs.running_below.Statement.{statement}
 use Rattle.separation.proofs.running_below.Tie as tie
 
@@ -38,7 +38,7 @@ div-result c = search needs
 returns : tie.Need-returns
 returns c =
     let s = c .before .before in
-    (refl, part-most (s .args .a) (getD (s .args .corners .now) (s .args .h) 0) (getD (s .args .columns .now) (s .args .h) 0))
+    (refl, below-part-most (s .args .a) (getD (s .args .corners .now) (s .args .h) 0) (getD (s .args .columns .now) (s .args .h) 0))
 
 pub running-below-spec : {M : Type 1} → statement M
 running-below-spec =

@@ -9,12 +9,12 @@ use lib.ListN.{getD}
 use mir.Syntax.{w64}
 use mir.Facts.{toZ-ofZ}
 use Rattle.triangle.specs.Columns.{mostAverage}
-use Rattle.separation.proofs.Passing.{Done, whole, start, column-fails, diagonal-fails, more, last}
+use Rattle.separation.proofs.Passing.{TotalsDone, whole, start, column-fails, diagonal-fails, more, last}
 use Rattle.separation.proofs.totals_pass.Statement.{statement}
 use Rattle.separation.proofs.totals_pass.Tie as tie
 
 abbrev Inv-loop : tie.InvT-loop
-Inv-loop columns diagonals n v₀ d₀ sum₀ i₀ v d sum i = Done columns diagonals n v d sum i
+Inv-loop columns diagonals n v₀ d₀ sum₀ i₀ v d sum i = TotalsDone columns diagonals n v d sum i
 
 abbrev μ-loop : tie.MeasureT-loop
 μ-loop columns diagonals n v₀ d₀ sum₀ i₀ v d sum i = n - i
@@ -96,7 +96,7 @@ returns-3 : tie.Need-returns-3 Inv-loop μ-loop
 returns-3 c =
     let l = c .before .loop in
     let s = c .before .before in
-    let done : Done (s .args .columns .now) (s .args .diagonals .now) (s .args .n) (l .v) (l .d) (l .sum) (s .args .n)
+    let done : TotalsDone (s .args .columns .now) (s .args .diagonals .now) (s .args .n) (l .v) (l .d) (l .sum) (s .args .n)
     = let e : l .i ≡ s .args .n = omega arith in rw e at (l .inv) in
     (last (s .args .columns .now) (s .args .diagonals .now) (s .args .n) (l .v) (l .d) (l .sum) done, λ e. (done .v-sizes, done .d-sizes))
 

@@ -5,7 +5,7 @@ use Prim.Native.Nat.{_+_, _-_, _≤_}
 use Rattle.rules.specs.Lists.{upTo, joined}
 use Rattle.rules.specs.Triangle.{rowStart}
 use Rattle.rules.specs.Results.{averageSection, sectionStart}
-use Rattle.laws.proofs.TriangleRows.{row-room, start-more}
+use Rattle.laws.proofs.TriangleRows.{row-room, row-start-more}
 use Rattle.composing.specs.Text.{Put}
 use Rattle.composing.proofs.Puts.{put-first, put-more, put-length}
 use Rattle.listing.proofs.Known.{known}
@@ -46,7 +46,7 @@ loop-again c =
     let k = s .args .k in
     let row = rw (l .inv .1) at (c .before .before .put-row .ensures) in (
       omega arith,
-      omega (arith, l .inv .1, start-more k (l .i)),
+      omega (arith, l .inv .1, row-start-more k (l .i)),
       put-more (shadedRow k (s .args .list .now) (s .args .largest)) (l .i) (l .inv .2) row,
     )
 

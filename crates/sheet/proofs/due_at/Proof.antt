@@ -71,17 +71,25 @@ due-at-spec =
     (tie.spec
     returns
     (λ c. search needs)
+    (λ c. search needs)
     returns-2
+    (λ c. search needs)
+    (λ c. search needs)
+    (λ c. search needs)
     (λ c. search needs)
     (λ c. search needs)
     (λ c. search needs)
     returns-3
     (λ c. search needs)
+    (λ c. search needs)
     returns-4
+    (λ c. search needs)
     (λ c. search needs)
     (λ c. search needs)
     returns-5
     (λ c. search needs)
+    (λ c. search needs)
     returns-6
+    (λ c. search needs)
     (λ c. search needs)
     returns-7)

@@ -6,7 +6,7 @@ use lib.IntN.{pos, natAbs}
 use lib.ListN.{getD}
 use mir.Facts.{toZ-ofZ}
 use mir.Syntax.{w64}
-use Rattle.sheet_fields.proofs.FieldSections.{rows-are}
+use Rattle.sheet_fields.proofs.FieldSections.{rows-of-are}
 use borrow.Author.Needs.{needs}
 use Rattle.sheet_fields.proofs.rows_of.Statement.{statement}
 use Rattle.sheet_fields.proofs.rows_of.Tie as tie
@@ -22,7 +22,7 @@ returns c =
     let a = m .before .args in
     let v = getD (a .list .now) (a .k + 2 + m .cells-of .result + a .k + (a .k + 1)) (pos 0) in
     let kept = toZ-ofZ {w = w64} {z = v} (sfits-of (g .size-of-arg .given)) in
-    rows-are (a .k) (m .cells-of .result) (a .list .now) (x .sizes-of .result) (i .sizes-of2 .result) (r .sizes-of3 .result) (z .size-of .result) (c .sizes-of4 .result)
+    rows-of-are (a .k) (m .cells-of .result) (a .list .now) (x .sizes-of .result) (i .sizes-of2 .result) (r .sizes-of3 .result) (z .size-of .result) (c .sizes-of4 .result)
     (m .cells-of .ensures .0)
     (x .sizes-of .ensures) (i .sizes-of2 .ensures) (r .sizes-of3 .ensures) (z .size-of .ensures ∙ ap natAbs kept) (c .sizes-of4 .ensures)
 

@@ -15,7 +15,7 @@ use Rattle.composing.specs.Text.{Put}
 use Rattle.composing.proofs.Puts.{put-none, put-length}
 use Rattle.sheet.specs.Table.{dueAt, dueLines, startAt}
 use Rattle.sheet.specs.Sheet.{linesOf, lastYearIn, sheetOf}
-use Rattle.sheet.proofs.Table.{start-more, start-room}
+use Rattle.sheet.proofs.Table.{line-start-more, start-room}
 use Rattle.sheet_writing.proofs.LinesPut.{put-next-line}
 use Rattle.sheet_writing.proofs.put_sheet.Statement.{statement}
 use Rattle.sheet_writing.proofs.put_sheet.Tie as tie
@@ -62,7 +62,7 @@ loop-again c =
     let l = c .before .before .before .before .before .before .before .before .loop in
     let k = c .before .before .before .before .before .before .before .before .before .size-of .result in
     let d = c .before .before .before .before .before .before .due-at in
-    let from : l .from + d .result .count ≡ startAt k (l .i + 1) = rw (add-one, d .ensures, start-more k (l .i)) (omega (arith, l .inv .1 .1 .1 .0)) in
+    let from : l .from + d .result .count ≡ startAt k (l .i + 1) = rw (add-one, d .ensures, line-start-more k (l .i)) (omega (arith, l .inv .1 .1 .1 .0)) in
     (l .inv .0, (refl, (omega arith, (from, put-next-line k (l .i) (l .from) (now (c .before .before .before .before .before .before .before .before .before .before .before .before .args .list)) (l .inv .1 .1 .1 .0) (l .inv .1 .1 .1 .1) (rw (d .ensures) at (c .before .before .before .put-line .ensures))))))
 
 same-length : tie.Need-same-length Inv-loop μ-loop

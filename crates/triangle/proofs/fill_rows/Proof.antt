@@ -14,7 +14,7 @@ use Rattle.rules.specs.Triangle.{rowStart, paidOf, averageOf, rowPasses, cumula
 use Rattle.laws.proofs.Lists.{every-next, fails-at, length-upTo}
 use Rattle.laws.proofs.Joined.{sets-filled}
 use Rattle.laws.proofs.Padded.{filled-none, filled-more, rest-at}
-use Rattle.laws.proofs.TriangleRows.{row-room, start-more}
+use Rattle.laws.proofs.TriangleRows.{row-room, row-start-more}
 use Rattle.entries.proofs.Leading.{leading-stop}
 use Rattle.triangle.specs.Columns.{columnSum, rowsPassing}
 use Rattle.triangle.proofs.Passed.{rows-all}
@@ -129,7 +129,7 @@ loop-again c =
     let n = s .args .exposures .now in
     let p = s .args .increments .now in (
       omega arith,
-      rw (l .inv .1) (sym (start-more k (l .i))),
+      rw (l .inv .1) (sym (row-start-more k (l .i))),
       every-next (rowPasses k p) (λ (j : ℕ). j) (l .i) (l .inv .2) (passed e),
       more-rows k n p (l .i) (omega arith) (omega arith) (l .square) _ (l .inv .3) (c .fill-row .ensures .1 .0),
       c .fill-row .ensures .1 .1,

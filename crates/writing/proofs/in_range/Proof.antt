@@ -1,18 +1,15 @@
--- `writing::in_range` meets its contract, by the sign of the number. Assumes nothing.
+-- `writing::in_range` meets its contract: only its size limits an increment. Assumes nothing.
+use borrow.Author.Needs.{needs}
 use mir.Facts.{toZ-ofZ}
-use Rattle.writing.proofs.WrittenSigns.{range-below, range-above}
+use lib.Dec.{leb·zero}
+use lib.IntN.{natAbs}
+use Rattle.rules.specs.Record.{inRange}
 use Rattle.writing.proofs.in_range.Statement.{statement}
 use Rattle.writing.proofs.in_range.Tie as tie
 
 returns : tie.Need-returns
-returns c =
-    let held = toZ-ofZ (c .before .fits .p) in
-    rw held (range-below (c .before .args .p) (rw held at (c .if1 .taken)))
-
-returns-2 : tie.Need-returns-2
-returns-2 c =
-    let held = toZ-ofZ (c .before .fits .p) in
-    rw held (range-above (c .before .args .p) (rw held at (c .if1 .left)))
+unfolding inRange
+returns c = rw (c .size-of .ensures, toZ-ofZ (c .before .fits .p), leb·zero (natAbs (c .before .args .p)))
 
 pub in-range-spec : {M : Type 1} → statement M
-in-range-spec = tie.close (tie.spec returns returns-2)
+in-range-spec = tie.close (tie.spec (λ c κs. search needs) returns)
