@@ -190,7 +190,8 @@ def accepted():
     yield fields_of(n, rows, [1] * 15)
     # a column and a diagonal of zero
     yield fields_of([1, 1, 1], [[0, 5, 0], [5, 5], [7]])
-    for _, within, _ in edges():
+    yield from halves()
+    for _, within, _ in (*edges(), *half_edges()):
         yield within
 
 
@@ -205,7 +206,7 @@ def edges():
     # T_1 - v_1 of 1
     yield 8, *(fields_of([100, 100], [[10, 3], [latest]]) for latest in (1, 0))
     # A_0 of 1
-    yield 9, *(fields_of([1, million, million], [[0, 200, last], [4999, 0], [5000]]) for last in (400, 600))
+    yield 9, *(fields_of([1, million, million], [[0, 200, last], [5000, 0], [5001]]) for last in (400, 600))
     # a level of S
     yield 10, *(fields_of([100, 100], [[first, 200000], [1]]) for first in (4999, 5000))
     # an ultimate of 10^12
@@ -216,6 +217,40 @@ def edges():
     yield 13, *(fields_of([1000, 1000], [[million, 49 * million + more], [million]]) for more in (0, 1))
     # a completed cumulative of 10^11; a factor that is a millionth larger
     yield 14, *(fields_of([million, million], [[10**9, 9 * 10**9 + more], [most]]) for more in (0, 1000))
+
+
+def halves():
+    """Fields whose averages are halves, or next to them, in size and sign."""
+    million = 10**6
+    # 12.5, 37.5, 62.5 and 87.5 hundredths of either sign, and sums of them
+    yield fields_of([8] * 4, [[401, -1, 3, 5], [403, 7, -3], [405, 9], [407]])
+    yield fields_of([40] * 4, [[2001, -1, 3, 1], [2003, 7, -3], [2005, 9], [2007]])
+    # a half and just below and above it, up to the most of an exposure
+    for claims, halves_ in ((199, (1, 3)), (200, (1, 2, 3, 5)), (201, (1, 3)), (million, (4999, 5000, 5001, 14999, 15000, 15001))):
+        for paid in halves_:
+            yield fields_of([claims, claims], [[9 * claims, paid], [10 * claims]])
+            yield fields_of([claims, claims], [[9 * claims, claims + paid], [10 * claims - paid]])
+    # negative halves in a column that is positive together
+    for paid in (4999, 5000, 5001, 14999, 15000, 15001):
+        yield fields_of([million] * 3, [[9 * million, -paid, 1], [9 * million, million], [9 * million]])
+    # the largest halves
+    yield fields_of([8, 8], [[39999999, 3], [39999997]])
+    yield fields_of([million, million], [[10**10 - 5000, 5000], [10**10 - 15000]])
+
+
+def half_edges():
+    """The number of a question, fields at its limit and fields just past it, all by a half."""
+    million = 10**6
+    # averages that total S by a half that goes down, and S + 1 by one that goes up
+    yield 7, *(fields_of([100, 8], [[500000000, 200000000 - whole], [24000000 + half]]) for half, whole in ((1, 12), (3, 37)))
+    # a column of minus a half, which is 0, and of a little more than that
+    yield 7, *(fields_of([claims, 100], [[9000, -1], [66]]) for claims in (200, 199))
+    # a diagonal of minus a half, and of minus one and a half, which is -2
+    yield 7, *(fields_of([200, 100, 100], [[60, late, 3], [0, 90], [90]]) for late in (-1, -3))
+    # T_1 - v_1 of one and a half, which is 2, and of a half, which is 0
+    yield 8, *(fields_of([100, 200], [[10, 3], [latest]]) for latest in (3, 1))
+    # A_0 of 1 by a half that goes up to 2, and of 0 by one that goes down
+    yield 9, *(fields_of([1, million, million], [[0, 200, last], [5000, 0], [latest]]) for last, latest in ((400, 15000), (600, 5001)))
 
 
 def refused():
@@ -229,8 +264,12 @@ def refused():
         yield 5, changed(fields, at["b"] + k, fields[at["b"] + k] + 1)
         yield 6, changed(fields, at["P"], -1)
         yield 12, changed(fields, at["U"], 10**10)
-    for number_, _, past in edges():
+    for number_, _, past in (*edges(), *half_edges()):
         yield number_, past
+    # by halves T_1 - v_1 is 0 and a column is below 0 too; the chain ladder's base is zero too
+    yield 7, fields_of([100, 200], [[10, -1], [1]])
+    yield 7, fields_of([200, 200], [[9, -3], [1]])
+    yield 8, fields_of([100, 200], [[0, 3], [1]])
     yield 6, fields_of([1, 1], [[60, -61], [66]])
     yield 7, fields_of([1, 1], [[60, -1], [66]])
     yield 7, fields_of([1, 1000, 1000], [[60, -5, 5], [70, 0], [70]])

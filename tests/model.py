@@ -2,6 +2,7 @@
 
 Used to make the stored inputs and expected outputs of the test programs (make_cases.py), and timed beside the engine by tests/benchmark.
 """
+from fractions import Fraction
 
 S = 10**9
 M = 10**6
@@ -120,9 +121,8 @@ def result_count(k):
 
 
 def average(paid, claims):
-    """Hundredths a claim, to the nearest whole, halves away from zero."""
-    size = (2 * 100 * abs(paid) + claims) // (2 * claims)
-    return -size if paid < 0 else size
+    """Hundredths a claim, to the nearest whole, halves to the even neighbour: Python rounds a fraction so."""
+    return round(Fraction(100 * paid, claims))
 
 
 def separate(s):
@@ -219,7 +219,8 @@ def marked():
     number, out = run(pack(MOTOR_ACCOUNT), result_count(3))
     assert number == 0 and out[10:14] == [583475514, 287767456, 86614799, 42142231]
     assert out[14:18] == [86378, 98939, 101998, 113900]
-    assert [average(*a) for a in ((1, 8), (-1, 8), (1, 3), (1, 200), (1, 201))] == [13, -13, 33, 1, 0]
+    assert [average(*a) for a in ((1, 8), (-1, 8), (1, 3), (1, 200), (1, 201))] == [12, -12, 33, 0, 0]
+    assert [average(*a) for a in ((3, 8), (-3, 8), (5, 8), (3, 200), (-1, 200))] == [38, -38, 62, 2, 0]
     assert put(5, 0) == (8, None)
     assert put(3, 0) == (13, None)
     assert put(11, 161) == (12, None)

@@ -97,6 +97,20 @@ static void two_years(void)
     check(memcmp(results, printed, sizeof printed) == 0, "the two years have the printed list");
 }
 
+/* Averages that lie halfway between two hundredths go to the even one, negative ones too. */
+static void halves(void)
+{
+    static const int64_t averages[] = {5012, -12, 38, 62, 5038, 88, -38, 5062, 112, 5088};
+    const uint64_t exposures[] = {8, 8, 8, 8}, indices[] = {1000000, 1000000, 1000000}, reporting[] = {1000000, 0, 0, 0}, ulae[] = {0, 0, 0, 0};
+    const int64_t increments[] = {401, -1, 3, 5, 403, 7, -3, 405, 9, 407};
+    uint8_t record[DOONAMURK_RECORD_MAX];
+    int64_t results[DOONAMURK_RESULTS_MAX];
+    size_t bytes = doonamurk_record_bytes(3);
+    check(doonamurk_write(3, exposures, 4, increments, 10, indices, 3, reporting, 4, 0, ulae, 4, record, bytes) == 0, "halves are written");
+    check(doonamurk_run(record, bytes, results, DOONAMURK_RESULTS_MAX) == 0, "halves are accepted");
+    check(memcmp(results, averages, sizeof averages) == 0, "halves go to the even hundredth");
+}
+
 static void motor_account(void)
 {
     static const int64_t shares[] = {583475514, 287767456, 86614799, 42142231};
@@ -243,6 +257,7 @@ int main(void)
     places();
     named_sections();
     two_years();
+    halves();
     motor_account();
     refusals();
     refused_writes();

@@ -66,6 +66,10 @@ class Calls(unittest.TestCase):
     def test_two_years(self):
         self.assertEqual(doonamurk.run(doonamurk.write(**TWO_YEARS)), TWO_YEARS_PRINTED)
 
+    def test_halves_go_to_the_even_hundredth(self):
+        record = doonamurk.write(3, [8] * 4, [401, -1, 3, 5, 403, 7, -3, 405, 9, 407], [1000000] * 3, [1000000, 0, 0, 0], 0, [0] * 4)
+        self.assertEqual(doonamurk.run(record)[:10], [5012, -12, 38, 62, 5038, 88, -38, 5062, 112, 5088])
+
     def test_round_trip(self):
         record = doonamurk.write(**MOTOR)
         fields = doonamurk.read(record)

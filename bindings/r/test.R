@@ -86,6 +86,10 @@ paid <- rbind(c(504, 282, 90, 48), c(580, 292, 97, NA), c(595, 332, NA, NA), c(6
 write_motor <- function(exposures = rep(1, 4), paid_ = paid, indices = c(1100000, 1210000, 1331000), reporting = c(700000, 200000, 80000, 20000),
                         weight = 500000, ulae = c(20, 25, 30, 35)) doonamurk_write(exposures, paid_, indices, reporting, weight, ulae)
 stopifnot(identical(write_motor(), motor))
+
+# Averages that lie halfway between two hundredths go to the even one, negative ones too.
+halves <- write_motor(exposures = rep(8, 4), paid_ = rbind(c(401, -1, 3, 5), c(403, 7, -3, NA), c(405, 9, NA, NA), c(407, NA, NA, NA)))
+stopifnot(doonamurk_run(halves)[1:10] == c(5012, -12, 38, 62, 5038, 88, -38, 5062, 112, 5088))
 stopifnot(
   refused(write_motor(paid_ = matrix(5, 1, 1))) == 1,
   refused(write_motor(paid_ = replace(matrix(NA_real_, 17, 17), outer(0:16, 0:16, `+`) <= 16, 1))) == 1,

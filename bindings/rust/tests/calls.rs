@@ -98,6 +98,22 @@ fn two_years_have_the_printed_list() {
 }
 
 #[test]
+fn halves_go_to_the_even_hundredth() {
+    let record = write_to_vec(&Fields {
+        k: 3,
+        exposures: &[8; 4],
+        increments: &[401, -1, 3, 5, 403, 7, -3, 405, 9, 407],
+        indices: &[1_000_000; 3],
+        reporting: &[1_000_000, 0, 0, 0],
+        weight: 0,
+        ulae: &[0; 4],
+    })
+    .expect("written");
+    let averages = [5012, -12, 38, 62, 5038, 88, -38, 5062, 112, 5088];
+    assert_eq!(run_to_vec(&record).expect("accepted")[..10], averages);
+}
+
+#[test]
 fn entries_past_the_list_keep_what_they_held() {
     let mut results = [-7; RESULTS_MAX];
     run(&motor(), &mut results).expect("accepted");

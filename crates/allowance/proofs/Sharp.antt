@@ -9,7 +9,7 @@ use lib.IntN.{ℤ, pos, natAbs, _-ℤ_, _*ℤ_}
 use Rattle.rules.specs.Lists.{total, upTo, padded, joined, every}
 use Rattle.rules.specs.Questions.{firstNo}
 use Rattle.rules.specs.Record.{Figures, cells}
-use Rattle.rules.specs.Triangle.{rowStart, futureStart, paidOf, sumTo, cumulativeOf, rowPasses, cumulativesPass, givenCumulative, paidTo, nearest, averageOf, averageRow, averagesOf, cellOf, cellsTotal, columnTotal, diagonalTotal, cornerTotal, allTotal}
+use Rattle.rules.specs.Triangle.{rowStart, futureStart, paidOf, sumTo, cumulativeOf, rowPasses, cumulativesPass, givenCumulative, paidTo, evenly, nearest, averageOf, averageRow, averagesOf, cellOf, cellsTotal, columnTotal, diagonalTotal, cornerTotal, allTotal}
 use Rattle.rules.specs.Separation.{billion, columnOf, diagonalOf, cornerOf, runningDown, runningOf, shareOf, levelOf, totalsPass, restsPass, runningPass, levelsPass, factorsOf, separationQuestions}
 use Rattle.rules.specs.Completion.{futureLevel, futureLevels, paymentOf, payment, paymentRow, payments, provision, provisions, ultimate, ultimatesPass}
 use Rattle.rules.specs.Expense.{paidTotal, ulaeTotal, ratioPass, ratioOf, reportedAfter, notReported, weighted, reserveOf, reserve}
@@ -44,5 +44,5 @@ pub limits-bite :
     ∷ within low paymentSection 0 (exactPayment low (latestOf low) (exactShares low) 1 1) (paymentOver (latestOf low)) (paymentAllowance low 1 1 - 100)
     ∷ within low reserveSection 1 (exactReserve low (latestOf low) (latestOf low) (exactShares low) (ratioIn low) 1) (reserveOver (latestOf low)) (reserveAllowance low 1 - 100)
     ∷ [] ≡ false ∷ false ∷ false ∷ []))
-unfolding firstNo figureQuestions laterQuestions completionQuestions ratioQuestions ladderQuestions separationQuestions total upTo padded joined every cells rowStart futureStart paidOf sumTo cumulativeOf rowPasses cumulativesPass givenCumulative paidTo nearest averageOf averageRow averagesOf cellOf cellsTotal columnTotal diagonalTotal cornerTotal allTotal columnOf diagonalOf cornerOf runningDown runningOf shareOf levelOf totalsPass restsPass runningPass levelsPass factorsOf futureLevel futureLevels paymentOf payment paymentRow payments provision provisions ultimate ultimatesPass paidTotal ulaeTotal ratioPass ratioOf reportedAfter notReported weighted reserveOf reserve developed base developmentFactor developmentFactors factorPasses factorsPass completed completedRow completedAll completedPass sectionCounts sectionStart separationSections completionSections reserveSections ladderSections squareOf latestOf factorsIn paidIn levelsIn provisionsIn developmentIn ratioIn sections resultsOf entryOf printed exactPayment exactProvision exactNotReported exactWeighted exactReserve paymentAllowance provisionAllowance reserveAllowance
+unfolding firstNo figureQuestions laterQuestions completionQuestions ratioQuestions ladderQuestions separationQuestions total upTo padded joined every cells rowStart futureStart paidOf sumTo cumulativeOf rowPasses cumulativesPass givenCumulative paidTo evenly nearest averageOf averageRow averagesOf cellOf cellsTotal columnTotal diagonalTotal cornerTotal allTotal columnOf diagonalOf cornerOf runningDown runningOf shareOf levelOf totalsPass restsPass runningPass levelsPass factorsOf futureLevel futureLevels paymentOf payment paymentRow payments provision provisions ultimate ultimatesPass paidTotal ulaeTotal ratioPass ratioOf reportedAfter notReported weighted reserveOf reserve developed base developmentFactor developmentFactors factorPasses factorsPass completed completedRow completedAll completedPass sectionCounts sectionStart separationSections completionSections reserveSections ladderSections squareOf latestOf factorsIn paidIn levelsIn provisionsIn developmentIn ratioIn sections resultsOf entryOf printed exactPayment exactProvision exactNotReported exactWeighted exactReserve paymentAllowance provisionAllowance reserveAllowance
 limits-bite = (refl, (refl, refl))

@@ -1,17 +1,17 @@
 -- Signed numbers by their sizes: what fits 64 bits, and the sizes of sums, multiples and quotients. Assumes nothing.
 use mathlib.Core.Path.{_≡_, refl, _∙_}
 use mathlib.Core.Bool.{Bool, true, false, cond}
-use Prim.Native.Nat.{ℕ, zero, suc, _+_, _-_, _*_, _/_, _^_, _≤_, _<_}
-use native.Mathlib.Nat.{zero-div, mul-le-mul-left, div-le-of-le-mul}
+use Prim.Native.Nat.{ℕ, zero, suc, _+_, _-_, _*_, _/_, _%_, _^_, _≤_, _<_}
+use native.Mathlib.Nat.{zero-div, zero-mod, div-le-self, mul-le-mul-left, div-le-of-le-mul}
 use native.Mathlib.Omega.{arith}
 use borrow.Author.Tests.{leb-true}
 use lib.Dec.{ltb}
 use lib.IntN.{ℤ, pos, negsuc, negℤ, natAbs, _+ℤ_, _-ℤ_, _*ℤ_, +ℤ-idl}
-use lib.Signed.{quotZ, leZ}
+use lib.Signed.{quotZ, remZ, leZ}
 use mir.Syntax.{w64}
 use mir.Val.{SFits, toZ, ofZ}
 use mir.ValLaws.{toZ-pos, toZ-ofZ}
-use Rattle.rules.specs.Record.{signedOf}
+use Rattle.rules.specs.Record.{signedOf, signOf}
 
 -- what a local that was set to z is read as
 abbrev pub held : ℤ → ℤ
@@ -44,6 +44,11 @@ signed-size zero n = refl
 signed-size (suc b) zero = refl
 signed-size (suc b) (suc n) = refl
 
+-- zero has no sign
+pub signed-zero : (b : ℕ) → signedOf b 0 ≡ pos 0
+signed-zero zero = refl
+signed-zero (suc b) = refl
+
 -- −n fits 64 bits
 pub neg-fits : (n : ℕ) → n < 2 ^ 63 → SFits w64 (negℤ (pos n))
 neg-fits n h = size-fits (negℤ (pos n)) (rw (signed-size 1 n) h)
@@ -60,11 +65,30 @@ pub times-size : (k : ℕ) (z : ℤ) → natAbs (pos k *ℤ z) ≡ k * natAbs z
 times-size k (pos n) = refl
 times-size k (negsuc n) = signed-size 1 (k * suc n)
 
--- division toward zero keeps the sign and divides the size
+-- division toward zero keeps the sign and divides the size, and what it leaves over has the sign too
 pub signed-quotient : (b m n : ℕ) → quotZ (signedOf b m) (pos n) ≡ signedOf b (m / n)
 signed-quotient zero m n = refl
 signed-quotient (suc b) zero n = rw (zero-div n)
 signed-quotient (suc b) (suc m) n = refl
+
+pub signed-remainder : (b m n : ℕ) → remZ (signedOf b m) (pos n) ≡ signedOf b (m % n)
+signed-remainder zero m n = refl
+signed-remainder (suc b) zero n = rw (zero-mod n)
+signed-remainder (suc b) (suc m) n = refl
+
+-- a quotient by a whole number fits where the dividend does
+pub part-fits : (z : ℤ) (d : ℕ) → natAbs z < 2 ^ 63 → SFits w64 (quotZ (held z) (pos d))
+part-fits z d h = rw (toZ-ofZ w64 z (size-fits z h)) (go z h)
+  where
+    go : (x : ℤ) → natAbs x < 2 ^ 63 → SFits w64 (quotZ x (pos d))
+    go (pos m) l = size-fits (pos (m / d)) (omega (arith, div-le-self m d))
+    go (negsuc m) l = neg-fits (suc m / d) (omega (arith, div-le-self (suc m) d))
+
+-- the sign of a number given by sign and size, for another size that is zero where the first is
+pub sign-again : (b m n : ℕ) → (m ≡ 0 → n ≡ 0) → signedOf (signOf (signedOf b m)) n ≡ signedOf b n
+sign-again zero m n z = refl
+sign-again (suc b) zero n z = rw (z refl)
+sign-again (suc b) (suc m) n z = refl
 
 -- a part u of z, in parts of m
 pub part-most : (m u : ℕ) (z : ℤ) → leZ (pos u) z ≡ true → m * u / natAbs z ≤ m

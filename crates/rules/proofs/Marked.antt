@@ -13,7 +13,7 @@ use Rattle.rules.specs.Questions.{firstNo, afterCall}
 use Rattle.rules.specs.Record.{figures, cells, layout, kindsOf, section, widths, bitCount, byteCount, fillingCount, valueOf, codeOf, inRange, negativeZero, bitsInRange, everyField, lastYearOf, codesOf, fillingOf, fieldsOf, recordOf, exposuresIn, incrementsIn, indicesIn, reportingIn, weightIn, ulaeIn, figuresOf}
 use Rattle.rules.specs.Reading.{hasLastYear, hasLength, inRanges, sharesSum, openingQuestions, fieldQuestions}
 use Rattle.rules.specs.Writing.{givenFields}
-use Rattle.rules.specs.Triangle.{rowStart, paidOf, sumTo, cumulativeOf, rowPasses, cumulativesPass, givenCumulative, paidTo, nearest, averageOf, averageRow, averagesOf, cellOf, cellsTotal, columnTotal, diagonalTotal, cornerTotal, allTotal}
+use Rattle.rules.specs.Triangle.{rowStart, paidOf, sumTo, cumulativeOf, rowPasses, cumulativesPass, givenCumulative, paidTo, evenly, nearest, averageOf, averageRow, averagesOf, cellOf, cellsTotal, columnTotal, diagonalTotal, cornerTotal, allTotal}
 use Rattle.rules.specs.Separation.{billion, columnOf, diagonalOf, cornerOf, runningDown, runningOf, shareOf, levelOf, totalsPass, restsPass, runningPass, levelsPass, factorsOf, separationQuestions, separateAnswer, separated}
 use Rattle.rules.specs.Completion.{futureLevel, futureLevels, paymentOf, payment, paymentRow, payments, provision, provisions, ultimate, ultimatesPass}
 use Rattle.rules.specs.Expense.{paidTotal, ulaeTotal, ratioPass, ratioOf, reportedAfter, notReported, weighted, reserveOf, reserve}
@@ -49,7 +49,11 @@ markedTable = (
     ∷ (map pos (take 4 (separated motor 3 .levels)), pos 86378 ∷ pos 98939 ∷ pos 101998 ∷ pos 113900 ∷ [])
     ∷ (
       averageOf (pos 1) 8 ∷ averageOf (negsuc 0) 8 ∷ averageOf (pos 1) 3 ∷ averageOf (pos 1) 200 ∷ averageOf (pos 1) 201 ∷ [],
-      pos 13 ∷ negsuc 12 ∷ pos 33 ∷ pos 1 ∷ pos 0 ∷ [],
+      pos 12 ∷ negsuc 11 ∷ pos 33 ∷ pos 0 ∷ pos 0 ∷ [],
+    )
+    ∷ (
+      averageOf (pos 3) 8 ∷ averageOf (negsuc 2) 8 ∷ averageOf (pos 5) 8 ∷ averageOf (pos 3) 200 ∷ averageOf (negsuc 0) 200 ∷ [],
+      pos 38 ∷ negsuc 37 ∷ pos 62 ∷ pos 2 ∷ pos 0 ∷ [],
     )
     ∷ (answer (pos 60 ∷ pos 40 ∷ pos 0 ∷ []) (6 ∷ 10 ∷ []) ∷ list (pos 60 ∷ pos 40 ∷ pos 0 ∷ []) (6 ∷ 10 ∷ []), pos 8 ∷ replicate 20 (negsuc 6))
     ∷ (answer (pos 0 ∷ pos 40 ∷ pos 66 ∷ []) (6 ∷ 10 ∷ []) ∷ [], pos 13 ∷ [])
@@ -62,7 +66,7 @@ markedTable = (
 
 -- the rules give what is printed, in every row
 pub marked-hold : map (λ row. row .0) markedTable ≡ map (λ row. row .1) markedTable
-unfolding total upTo padded every pack unpack numberOf bytesOf firstNo afterCall cells layout kindsOf section widths bitCount byteCount fillingCount valueOf codeOf inRange negativeZero bitsInRange everyField lastYearOf codesOf fillingOf fieldsOf recordOf exposuresIn incrementsIn indicesIn reportingIn weightIn ulaeIn figuresOf hasLastYear hasLength inRanges sharesSum givenFields rowStart paidOf sumTo cumulativeOf cumulativesPass nearest averageOf averageRow averagesOf cellOf cellsTotal columnTotal diagonalTotal cornerTotal allTotal columnOf diagonalOf cornerOf runningDown runningOf shareOf levelOf totalsPass restsPass runningPass levelsPass factorsOf separateAnswer separated futureLevel payment paymentRow provision paidTo ultimate ultimatesPass paidTotal ulaeTotal ratioPass ratioOf reportedAfter notReported weighted reserve givenCumulative developed base developmentFactor completed completedRow factorsPass completedPass squareOf latestOf factorsIn joined sections resultsOf sectionCounts resultCount figureQuestions holdsList questions runAnswer runInto zipWith rowPasses futureLevels paymentOf payments provisions reserveOf developmentFactors factorPasses completedAll paidIn levelsIn provisionsIn developmentIn ratioIn separationSections completionSections reserveSections ladderSections openingQuestions fieldQuestions separationQuestions completionQuestions ratioQuestions ladderQuestions sectionStart laterQuestions
+unfolding total upTo padded every pack unpack numberOf bytesOf firstNo afterCall cells layout kindsOf section widths bitCount byteCount fillingCount valueOf codeOf inRange negativeZero bitsInRange everyField lastYearOf codesOf fillingOf fieldsOf recordOf exposuresIn incrementsIn indicesIn reportingIn weightIn ulaeIn figuresOf hasLastYear hasLength inRanges sharesSum givenFields rowStart paidOf sumTo cumulativeOf cumulativesPass evenly nearest averageOf averageRow averagesOf cellOf cellsTotal columnTotal diagonalTotal cornerTotal allTotal columnOf diagonalOf cornerOf runningDown runningOf shareOf levelOf totalsPass restsPass runningPass levelsPass factorsOf separateAnswer separated futureLevel payment paymentRow provision paidTo ultimate ultimatesPass paidTotal ulaeTotal ratioPass ratioOf reportedAfter notReported weighted reserve givenCumulative developed base developmentFactor completed completedRow factorsPass completedPass squareOf latestOf factorsIn joined sections resultsOf sectionCounts resultCount figureQuestions holdsList questions runAnswer runInto zipWith rowPasses futureLevels paymentOf payments provisions reserveOf developmentFactors factorPasses completedAll paidIn levelsIn provisionsIn developmentIn ratioIn separationSections completionSections reserveSections ladderSections openingQuestions fieldQuestions separationQuestions completionQuestions ratioQuestions ladderQuestions sectionStart laterQuestions
 marked-hold = refl
 
 -- the square of document 01's case with k = 2: n 100 each, cells 0, 5000, 999999 / 0, 0 / 1
@@ -71,7 +75,7 @@ steep = averagesOf 2 (100 ∷ 100 ∷ 100 ∷ []) (pos 0 ∷ pos 5000 ∷ pos 99
 
 -- A_1 = 1000 and A_0 = 0, so it is refused 9, though l_1 would be too large too
 pub steep-refused : (runningOf steep 2 1 ≡ 1000) × ((runningOf steep 2 0 ≡ 0) × ((separateAnswer steep 2 ≡ 9) × (ltb billion (levelOf steep 2 1) ≡ true)))
-unfolding total upTo padded every firstNo rowStart paidOf sumTo nearest averageOf averageRow averagesOf cellOf cellsTotal columnTotal diagonalTotal cornerTotal allTotal columnOf diagonalOf cornerOf runningDown runningOf shareOf levelOf totalsPass restsPass runningPass levelsPass separationQuestions separateAnswer
+unfolding total upTo padded every firstNo rowStart paidOf sumTo evenly nearest averageOf averageRow averagesOf cellOf cellsTotal columnTotal diagonalTotal cornerTotal allTotal columnOf diagonalOf cornerOf runningDown runningOf shareOf levelOf totalsPass restsPass runningPass levelsPass separationQuestions separateAnswer
 steep-refused = (refl, (refl, (refl, refl)))
 
 -- the lengths of the result list that document 01 names

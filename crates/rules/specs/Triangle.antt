@@ -1,10 +1,10 @@
 -- Averages and sums (document 01): the cumulatives and averages of a triangle of increments, the averages in a square of sixteen rows of sixteen,
 -- and the totals over it. Question 6. Assumes nothing.
-use Prim.Native.Nat.{ℕ, zero, suc, _+_, _-_, _*_, _/_, _<_}
+use Prim.Native.Nat.{ℕ, zero, suc, _+_, _-_, _*_, _/_, _%_, _<_}
 use mathlib.Core.Path.{_≡_}
-use mathlib.Core.Bool.{Bool, true, _&&_, cond}
+use mathlib.Core.Bool.{Bool, true, _&&_, _||_, cond}
 use mathlib.Core.List.{List, []}
-use lib.Dec.{eqb, leb}
+use lib.Dec.{eqb, ltb, leb}
 use lib.IntN.{ℤ, pos, natAbs, _+ℤ_}
 use lib.ListN.{getD, replicate}
 use lib.Signed.{leZ}
@@ -53,11 +53,16 @@ givenCumulative k p i j = natAbs (cumulativeOf k p i j)
 unfoldable pub paidTo : ℕ → List ℤ → ℕ → ℕ
 paidTo k p i = givenCumulative k p i (k - i)
 
--- 100 × a / n to the nearest whole, halves up
-unfoldable pub nearest : ℕ → ℕ → ℕ
-nearest a n = (200 * a + n) / (2 * n)
+-- a whole number and a rest of n-ths, to the nearest whole, halves to the even neighbour: one more where the rest is above a half, or is a half and the
+-- whole number is odd
+unfoldable pub evenly : ℕ → ℕ → ℕ → ℕ
+evenly n whole rest = cond (ltb n (2 * rest) || (eqb (2 * rest) n && eqb (whole % 2) 1)) (whole + 1) whole
 
--- the average: 100 × p / n to the nearest whole hundredth, halves away from zero, and zero stays zero
+-- 100 × a / n to the nearest whole, halves to the even neighbour
+unfoldable pub nearest : ℕ → ℕ → ℕ
+nearest a n = evenly n (100 * a / n) (100 * a % n)
+
+-- the average: 100 × p / n to the nearest whole hundredth, halves to the even neighbour, for negative amounts too, and zero stays zero
 unfoldable pub averageOf : ℤ → ℕ → ℤ
 averageOf p n = signedOf (signOf p) (nearest (natAbs p) n)
 

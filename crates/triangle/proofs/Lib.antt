@@ -1,3 +1,5 @@
+pub mod Halves
+pub mod Nearest
 pub mod Rounding
 pub mod Added
 pub mod Cumulatives

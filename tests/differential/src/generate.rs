@@ -192,6 +192,29 @@ fn plain(r: &mut Random, k: usize) -> Given {
     a
 }
 
+/// An account whose averages are halves or next to them: of these exposures an odd number of units is an odd number of half hundredths a claim.
+fn halves(r: &mut Random, k: usize) -> Given {
+    let mut a = plain(r, k);
+    for i in 0..=k {
+        let (claims, unit) = if r.one_in(3) {
+            (r.pick(&[8, 40]), 1)
+        } else {
+            let any = r.between(1, EXPOSURE_MAX / 200);
+            let unit = r.pick(&[1, 2, 5, EXPOSURE_MAX / 200, any]);
+            (200 * unit, unit)
+        };
+        a.exposures[i] = claims as u64;
+        for j in 0..=k - i {
+            let paid = &mut a.increments[cell(k, i, j)];
+            let odd = 2 * (*paid * claims / 200 / unit) + 1;
+            let size = unit * odd + r.pick(&[-1, 0, 0, 0, 1]);
+            let sign = if j > 0 && r.one_in(5) { -1 } else { 1 };
+            *paid = sign * size.min(AMOUNT_MAX);
+        }
+    }
+    a
+}
+
 /// A cumulative set to 0 or to 10^11, and past it.
 fn cumulative_edge(r: &mut Random, a: &mut Given, k: usize, past: i64) {
     let i = r.below(k + 1);
@@ -437,6 +460,7 @@ pub fn record(r: &mut Random) -> Vec<u8> {
         0..=5 => pack(&fields(r, k)),
         6 => pack(&plain(r, k)),
         7 | 8 => damaged(r, k),
+        10 => pack(&halves(r, k)),
         9 if r.one_in(4) => {
             let from = fields(r, k);
             let to = if r.one_in(2) {

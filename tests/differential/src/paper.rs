@@ -291,9 +291,12 @@ pub fn write(given: &Given, record: &mut [u8]) -> Result<(), u64> {
     Ok(())
 }
 
-/// 100 × increment / exposure to the nearest whole hundredth, halves away from zero.
+/// 100 × increment / exposure to the nearest whole hundredth, halves to the even neighbour.
 fn average(increment: i64, exposure: u64) -> i64 {
-    let size = (200 * increment.unsigned_abs() + exposure) / (2 * exposure);
+    let hundredths = 100 * increment.unsigned_abs();
+    let (below, rest) = (hundredths / exposure, hundredths % exposure);
+    // Twice the rest, and one more where the neighbour below is odd, is above the exposure where the neighbour above is due.
+    let size = below + u64::from(2 * rest + below % 2 > exposure);
     if increment < 0 {
         -(size as i64)
     } else {
