@@ -1,14 +1,14 @@
 -- The square and the totals of a record that question 7 refuses, and the words of its refusal. Assumes nothing.
-use Prim.Native.Nat.{ℕ, _+_, _≤_, _<_}
+use Prim.Native.Nat.{ℕ, _<_}
 use native.Mathlib.Omega.{arith}
 use borrow.Author.Tests.{eq-eqb, ne-eqb}
-use mathlib.Core.Path.{_≡_, ap, _∙_}
-use mathlib.Core.List.{List, _++_}
+use mathlib.Core.Path.{_≡_}
+use mathlib.Core.List.{List}
 use lib.IntN.{ℤ, pos}
 use lib.ListN.{getD, replicate}
 use Rattle.rules.specs.Packing.{Fit}
 use Rattle.rules.specs.Lists.{upTo, padded}
-use Rattle.rules.specs.Record.{lastYearOf, figuresOf}
+use Rattle.rules.specs.Record.{figuresOf}
 use Rattle.rules.specs.Triangle.{averageRow, columnTotal, diagonalTotal, ZeroOutside}
 use Rattle.rules.specs.Results.{squareOf}
 use Rattle.laws.proofs.Lists.{getD-upTo}

@@ -1,6 +1,6 @@
 -- Where the sections of the result list stand. Assumes nothing.
 use mathlib.Core.Path.{_≡_}
-use Prim.Native.Nat.{ℕ, _+_, _-_, _≤_, _<_}
+use Prim.Native.Nat.{ℕ, _+_, _≤_, _<_}
 use Rattle.rules.specs.Triangle.{futureStart}
 use Rattle.rules.specs.Record.{cells}
 use Rattle.laws.proofs.TriangleRows.{cells-most}

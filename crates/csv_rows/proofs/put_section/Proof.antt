@@ -1,5 +1,4 @@
 -- The loop's invariant: i rows are put, and the rows left complete them (Begun). Assumes nothing.
-use mathlib.Core.Path.{_≡_}
 use native.Mathlib.Omega.{arith}
 use Prim.Native.Nat.{_+_, _-_, _≤_}
 use native.Mathlib.Nat.{sub-zero, zero-add}

@@ -1,7 +1,6 @@
 -- The three sections follow one another (put-three), each within the list. Assumes nothing.
 use mathlib.Core.Path.{sym, ap}
 use native.Mathlib.Omega.{arith}
-use Prim.Native.Nat.{_+_}
 use Rattle.composing.proofs.Puts.{put-same, put-three}
 use Rattle.rows.proofs.RowPlaces.{placed}
 use Rattle.csv_rows.specs.Csv.{csvSection}

@@ -1,6 +1,5 @@
 -- The heading, the years and the future years follow one another (put-three). Assumes nothing.
 use native.Mathlib.Omega.{arith}
-use Prim.Native.Nat.{_+_}
 use Rattle.composing.proofs.Puts.{put-three}
 use Rattle.rows.proofs.Counts.{entries-level}
 use Rattle.rows.proofs.RowPlaces.{placed}

@@ -1,6 +1,5 @@
 -- `gather::main` is safe and ends: the arguments left fall. Assumes nothing.
 use Prim.Native.Nat.{_≤_, _-_}
-use mathlib.Core.Path.{refl}
 use native.Mathlib.Omega.{arith}
 use Rattle.gather.proofs.main.Statement.{statement}
 use Rattle.gather.proofs.main.Tie as tie

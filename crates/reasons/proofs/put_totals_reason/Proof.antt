@@ -1,6 +1,4 @@
 -- By the first column, and then the first diagonal, that is below zero. Assumes nothing.
-use Prim.Native.Nat.{_+_}
-use native.Mathlib.Omega.{arith}
 use lib.IntN.{pos}
 use lib.ListN.{getD}
 use Rattle.composing.proofs.Puts.{put-same}

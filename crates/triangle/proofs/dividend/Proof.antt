@@ -1,9 +1,9 @@
 -- `triangle::dividend` meets its contract, by the amount's sign (proofs/Rounding.antt). Assumes nothing.
-use mathlib.Core.Path.{_≡_, sym}
+use mathlib.Core.Path.{_≡_}
 use borrow.Author.Needs.{needs}
 use lib.IntN.{_+ℤ_, _-ℤ_}
 use mir.Syntax.{w64}
-use mir.Val.{SFits, toZ}
+use mir.Val.{toZ}
 use mir.Facts.{toZ-ofZ}
 use Rattle.triangle.proofs.Rounding.{times, away, product-fits, dividend-below, dividend-above, dividend-fits}
 use Rattle.triangle.proofs.dividend.Statement.{statement}
