@@ -222,9 +222,13 @@ def edges():
 def halves():
     """Fields whose averages are halves, or next to them, in size and sign."""
     million = 10**6
-    # 12.5, 37.5, 62.5 and 87.5 hundredths of either sign, and sums of them
+    # odd multiples of 12.5 and of 2.5, of either sign
     yield fields_of([8] * 4, [[401, -1, 3, 5], [403, 7, -3], [405, 9], [407]])
+    yield fields_of([8] * 4, [[401, -5, 3, 5], [403, -7, 7], [405, 109], [407]])
     yield fields_of([40] * 4, [[2001, -1, 3, 1], [2003, 7, -3], [2005, 9], [2007]])
+    # an odd exposure has thirds above a half and below it
+    yield fields_of([3] * 3, [[100, -2, 1], [100, 50], [100]])
+    yield fields_of([3] * 3, [[100, -1, 2], [100, 50], [100]])
     # a half and just below and above it, up to the most of an exposure
     for claims, halves_ in ((199, (1, 3)), (200, (1, 2, 3, 5)), (201, (1, 3)), (million, (4999, 5000, 5001, 14999, 15000, 15001))):
         for paid in halves_:
@@ -233,9 +237,11 @@ def halves():
     # negative halves in a column that is positive together
     for paid in (4999, 5000, 5001, 14999, 15000, 15001):
         yield fields_of([million] * 3, [[9 * million, -paid, 1], [9 * million, million], [9 * million]])
-    # the largest halves
+    # the largest halves, and next to them
     yield fields_of([8, 8], [[39999999, 3], [39999997]])
     yield fields_of([million, million], [[10**10 - 5000, 5000], [10**10 - 15000]])
+    for less in (4999, 5000, 5001, 14999, 15000, 15001):
+        yield fields_of([million] * 3, [[10**10, less - 10**10, 1], [10**10, 10**10], [10**10]])
 
 
 def half_edges():
@@ -247,10 +253,12 @@ def half_edges():
     yield 7, *(fields_of([claims, 100], [[9000, -1], [66]]) for claims in (200, 199))
     # a diagonal of minus a half, and of minus one and a half, which is -2
     yield 7, *(fields_of([200, 100, 100], [[60, late, 3], [0, 90], [90]]) for late in (-1, -3))
-    # T_1 - v_1 of one and a half, which is 2, and of a half, which is 0
-    yield 8, *(fields_of([100, 200], [[10, 3], [latest]]) for latest in (3, 1))
-    # A_0 of 1 by a half that goes up to 2, and of 0 by one that goes down
-    yield 9, *(fields_of([1, million, million], [[0, 200, last], [5000, 0], [latest]]) for last, latest in ((400, 15000), (600, 5001)))
+    # T_1 - v_1 of a little more than a half, which is 1, and of a half, which is 0
+    yield 8, *(fields_of([100, claims], [[10, 3], [1]]) for claims in (199, 200))
+    # a latest average of one and a half, which is 2, and of a little less
+    yield 9, *(fields_of([1, million, million], [[0, 200, 500], [5000, 0], [latest]]) for latest in (15000, 14999))
+    # a level just within S, and past it by a half that goes up
+    yield 10, *(fields_of([200, 100], [[first, 400000], [1]]) for first in (9998, 9999))
 
 
 def refused():
@@ -270,6 +278,13 @@ def refused():
     yield 7, fields_of([100, 200], [[10, -1], [1]])
     yield 7, fields_of([200, 200], [[9, -3], [1]])
     yield 8, fields_of([100, 200], [[0, 3], [1]])
+    # the ULAE totals are too large too
+    yield 7, fields_of([200, 100], [[9000, -3], [66]], U=[10**10, 10**10])
+    # every average is a half, which is 0
+    yield 8, fields_of([200, 200], [[1, 1], [1]])
+    # the largest averages of all
+    yield 7, fields_of([1, 1], [[10**10, 0], [1]])
+    yield 7, fields_of([1, 1], [[10**10, -(10**10)], [1]])
     yield 6, fields_of([1, 1], [[60, -61], [66]])
     yield 7, fields_of([1, 1], [[60, -1], [66]])
     yield 7, fields_of([1, 1000, 1000], [[60, -5, 5], [70, 0], [70]])
@@ -386,6 +401,8 @@ def refusals():
     made = {
         "column": fields_of([1, 1], [[60, -1], [66]]),
         "later_column": fields_of([1] * 4, [[60, 5, -9, 1], [70, 5, 8], [80, 5], [90]]),
+        # the first column is below 0 by a half, which is 0, and the second by one and a half
+        "half_column": fields_of([200] * 3, [[900, -1, -3], [900, 0], [900]]),
         "diagonal": fields_of([1] * 3, [[60, -5, 5], [0, 5], [70]]),
         "too_large": fields_of([100, 1], [[500000000, 200000001], [3000000]]),
     }

@@ -1,4 +1,4 @@
-"""Document 01's record and engine in plain Python, written from the paper and not from the Rattle code.
+"""Document 01's record and engine, halves as request 4 of document 02 has them, in plain Python, written from the paper and not from the Rattle code.
 
 Used to make the stored inputs and expected outputs of the test programs (make_cases.py), and timed beside the engine by tests/benchmark.
 """
@@ -206,7 +206,7 @@ THREE_YEARS = [2, 100, 100, 100, 0, 5000, 999999, 0, 0, 1, M, M, M, 0, 0, 0, 0, 
 
 
 def marked():
-    """The items of document 01's "Marked triangles and edges"."""
+    """The items of document 01's "Marked triangles and edges", averages as request 4 of document 02 marks them."""
     def put(at, value):
         fields = list(TWO_YEARS)
         fields[at] = value

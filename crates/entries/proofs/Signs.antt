@@ -12,7 +12,7 @@ use mir.Syntax.{w64}
 use mir.Val.{SFits, toZ, ofZ}
 use Rattle.laws.proofs.Signed.{neg-fits}
 
--- a number below-zero 0 is −(n + 1)
+-- a number below 0 is −(n + 1)
 pub below-zero : (x : ℤ) → SFits w64 x → ltZ (toZ w64 (ofZ w64 x)) (pos 0) ≡ true → (n : ℕ) × (x ≡ negsuc n) × (n < 2 ^ 63)
 below-zero x f h = go x f (rw (toZ-ofZ f) at h)
   where
@@ -23,7 +23,7 @@ below-zero x f h = go x f (rw (toZ-ofZ f) at h)
 pub under-zero : (x : ℤ) → SFits w64 x → ltZ (toZ w64 (ofZ w64 x)) (pos 0) ≡ true → leZ (pos 0) x ≡ false
 under-zero x f t = let (n, e, h) = below-zero x f t in rw e
 
--- a number not below-zero 0 is a natural-held number
+-- a number not below 0 is a natural number
 pub above : (x : ℤ) → SFits w64 x → ltZ (toZ w64 (ofZ w64 x)) (pos 0) ≡ false → (n : ℕ) × (x ≡ pos n) × (n < 2 ^ 63)
 above x f h = go x f (rw (toZ-ofZ f) at h)
   where
@@ -39,7 +39,7 @@ suc-neg : (n : ℕ) → sucℤ (negsuc n) ≡ negℤ (pos n)
 suc-neg zero = refl
 suc-neg (suc n) = refl
 
--- a natural-held number at 64 bits
+-- a natural number at 64 bits
 pub natural-held : (n : ℕ) → n < 2 ^ 63 → toZ w64 (ofZ w64 (pos n)) ≡ pos n
 natural-held n h = toZ-ofZ {w = w64} {z = pos n} (record { sfits = h })
 

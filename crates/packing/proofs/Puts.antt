@@ -27,7 +27,7 @@ module _ {s : List ℕ} {p : Pending} {w x : ℕ} (ready : Packable s p w) (narr
   unfolding packedSo
   added = rw (shl-exact (p .count) w 64 (ready .small) (omega arith), pow-add 2 (p .count) w) (omega arith)
 
--- the first 8 of the pending bits, byte-written at their place
+-- the first 8 of the pending bits, written at their place
 pub byte-written : (s : List ℕ) (at count bits : ℕ) → at < length s → 8 ≤ count → bits < 2 ^ count
     → numberOf (take (at + 1) (set s at (bits / 2 ^ (count - 8) % 256))) * 2 ^ (count - 8) + bits % 2 ^ (count - 8)
     ≡ numberOf (take at s) * 2 ^ count + bits

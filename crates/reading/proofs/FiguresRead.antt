@@ -65,7 +65,7 @@ module _ (least most : ℕ) (xs : List ℕ) (h : every (between least most) xs �
       rw (List·getD-append xs (replicate (16 - length xs) 0) 0 i l)
       (leb-true least x (both-left (leb least x) (leb x most) (every-at (between least most) xs i 0 l h)))
 
--- a row that is in range is read whole-record
+-- a row that is in range is read whole
 module _ (s : List ℕ) (p : Passed s 7) {i : ℕ} {test : ℕ → Bool} {row : List ℕ} (t : Tested s i test row) where
   in-range : i < 7 → every test row ≡ true
   in-range l = sym (t .same) ∙ p i l

@@ -1,4 +1,5 @@
--- The markedTable triangles and edges of document 01: one or more rows for each starred item, what the rules give and what the paper prints, and one theorem.
+-- The marked triangles and edges of document 01, averages as request 4 of document 02 marks them: one or more rows for each starred item, what the rules give and what the
+-- paper prints, and one theorem. The second row of averages is ours.
 -- Assumes nothing.
 use Prim.Native.Nat.{ℕ}
 use mathlib.Core.Path.{_≡_, refl}

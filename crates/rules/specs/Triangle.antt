@@ -1,4 +1,4 @@
--- Averages and sums (document 01): the cumulatives and averages of a triangle of increments, the averages in a square of sixteen rows of sixteen,
+-- Averages and sums (document 01, with the halves of request 4 of document 02): the cumulatives and averages of a triangle of increments, the averages in a square of sixteen rows of sixteen,
 -- and the totals over it. Question 6. Assumes nothing.
 use Prim.Native.Nat.{ℕ, zero, suc, _+_, _-_, _*_, _/_, _%_, _<_}
 use mathlib.Core.Path.{_≡_}
@@ -58,7 +58,7 @@ paidTo k p i = givenCumulative k p i (k - i)
 unfoldable pub evenly : ℕ → ℕ → ℕ → ℕ
 evenly n whole rest = cond (ltb n (2 * rest) || (eqb (2 * rest) n && eqb (whole % 2) 1)) (whole + 1) whole
 
--- 100 × a / n to the nearest whole, halves to the even neighbour
+-- 100 × a / n to the nearest whole, halves to the even neighbour: the one number that is (rules/proofs/Nearest.antt)
 unfoldable pub nearest : ℕ → ℕ → ℕ
 nearest a n = evenly n (100 * a / n) (100 * a % n)
 

@@ -1,5 +1,4 @@
 pub mod Halves
-pub mod Nearest
 pub mod Rounding
 pub mod Added
 pub mod Cumulatives

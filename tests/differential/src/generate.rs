@@ -197,7 +197,9 @@ fn halves(r: &mut Random, k: usize) -> Given {
     let mut a = plain(r, k);
     for i in 0..=k {
         let (claims, unit) = if r.one_in(3) {
-            (r.pick(&[8, 40]), 1)
+            // 25 × 8 and 5 × 40 are 200: an odd number of units again.
+            let unit = r.pick(&[1, 3, 7, 24_999]);
+            (r.pick(&[8, 40]) * unit, unit)
         } else {
             let any = r.between(1, EXPOSURE_MAX / 200);
             let unit = r.pick(&[1, 2, 5, EXPOSURE_MAX / 200, any]);
@@ -208,8 +210,13 @@ fn halves(r: &mut Random, k: usize) -> Given {
             let paid = &mut a.increments[cell(k, i, j)];
             let odd = 2 * (*paid * claims / 200 / unit) + 1;
             let size = unit * odd + r.pick(&[-1, 0, 0, 0, 1]);
-            let sign = if j > 0 && r.one_in(5) { -1 } else { 1 };
-            *paid = sign * size.min(AMOUNT_MAX);
+            // A few small ones below zero, so that most of these accounts are accepted.
+            let late = 3 * j > k && i + 2 < k;
+            *paid = if late && r.one_in(4) {
+                -(size.min(unit * 9 + 1))
+            } else {
+                size.min(AMOUNT_MAX)
+            };
         }
     }
     a

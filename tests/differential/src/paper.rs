@@ -1,4 +1,4 @@
-//! Document 01 in plain Rust, written from the paper alone: the reader, the writer and the run from a record to its result list.
+//! Document 01, with request 4 of document 02, in plain Rust, written from the paper alone: the reader, the writer and the run from a record to its result list.
 //!
 //! The differential test holds the proved engine against it, and the benchmark measures the engine beside it.
 //! Each answer is `Ok`, or `Err` with the number of the first question that says no; an `Err` leaves the lent buffer as it was.

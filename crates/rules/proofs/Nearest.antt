@@ -1,13 +1,15 @@
 -- What the rule of the average means: of all whole numbers just one is within a half of 100 × a / n and is even where it is a half away, and `nearest` is that one.
--- Assumes nothing.
-use mathlib.Core.Path.{_≡_, refl, _∙_}
+-- Zero stays zero, and an amount below zero has the average of its size with the sign changed. Assumes nothing.
+use mathlib.Core.Path.{_≡_, refl, sym, _∙_}
 use mathlib.Core.Bool.{Bool, true, false, _&&_, _||_, cond}
-use Prim.Native.Nat.{ℕ, _+_, _*_, _/_, _%_, _≤_, _<_}
+use Prim.Native.Nat.{ℕ, zero, suc, _+_, _*_, _/_, _%_, _≤_, _<_}
 use native.Mathlib.Nat.{div-add-mod, mod-lt, mul-add, mul-one, mul-comm, mul-le-mul-left}
 use native.Mathlib.Omega.{arith}
 use borrow.Author.Tests.{ltb-true, ltb-false, eqb-true, eqb-false}
 use lib.Dec.{eqb, ltb}
-use Rattle.rules.specs.Triangle.{evenly, nearest}
+use lib.IntN.{ℤ, pos, negsuc, negℤ, negℤ-negℤ}
+use Rattle.rules.specs.Record.{signedOf, signOf}
+use Rattle.rules.specs.Triangle.{evenly, nearest, averageOf}
 
 -- m is at most a half from 100 × a / n, and even where it is a half from it
 pub record Nearest (a n m : ℕ) : Type 0 where
@@ -68,3 +70,14 @@ module _ (a n : ℕ) (some : 1 ≤ n) where
 
   pub nearest-only : (m : ℕ) → Nearest a n m → m ≡ nearest a n
   nearest-only m h = omega (arith, none-less m (nearest a n) h nearest-is, none-less (nearest a n) m nearest-is h)
+
+  -- zero stays zero
+  pub nearest-zero : a ≡ 0 → nearest a n ≡ 0
+  nearest-zero z = sym (nearest-only 0 (record { not-below = omega arith; not-above = omega arith; half-below = λ h. refl; half-above = λ h. refl }))
+
+-- an average with the sign of its amount changed
+pub average-negated : (p : ℤ) (n : ℕ) → 1 ≤ n → averageOf (negℤ p) n ≡ negℤ (averageOf p n)
+unfolding averageOf
+average-negated (pos zero) n l = rw (nearest-zero 0 n l refl)
+average-negated (pos (suc a)) n l = refl
+average-negated (negsuc a) n l = sym (negℤ-negℤ (pos (nearest (suc a) n)))
