@@ -1,12 +1,11 @@
 -- What a run has passed that no question before the seventh refuses: questions 1 to 6. Assumes nothing.
-use Prim.Native.Nat.{ℕ, _≤_, _<_}
+use Prim.Native.Nat.{ℕ, _≤_}
 use native.Mathlib.Omega.{arith}
 use borrow.Author.Tests.{leb-true}
 use mathlib.Core.Path.{_≡_, refl}
 use mathlib.Core.Bool.{Bool, true, false, cond}
 use mathlib.Core.List.{List, [], _∷_, _++_}
 use lib.Dec.{leb}
-use lib.IntN.{ℤ}
 use lib.ListN.{length}
 use Rattle.rules.specs.Packing.{Fit}
 use Rattle.rules.specs.Lists.{every, between}
@@ -19,7 +18,6 @@ use Rattle.rules.specs.Results.{squareOf, resultCount, mostEntries}
 use Rattle.rules.specs.Engine.{laterQuestions, figureQuestions, holdsList, questions, runAnswer}
 use Rattle.laws.proofs.Lists.{both-left, both-right}
 use Rattle.laws.proofs.Questions.{yes-said}
-use Rattle.triangle.specs.Columns.{Increments, Exposures}
 use Rattle.reading.specs.Reading.{Sound}
 use Rattle.reading.proofs.FiguresRead.{sound-figures}
 use Rattle.reading.proofs.RowsRead.{years-known, opening-yes}
@@ -94,11 +92,6 @@ module _ (s : List ℕ) (run : Late s) where
 
   pub sound : Fit 8 s → Sound (figuresOf s)
   sound h = sound-figures s h opening fields
-
-  -- its figures can be put into rows again
-  pub rows-ready : Fit 8 s → (k : ℕ) (n : List ℕ) (p : List ℤ) → k ≡ figuresOf s .k → n ≡ figuresOf s .exposures → p ≡ figuresOf s .increments
-      → (k < 16) × (Exposures k n × Increments p)
-  rows-ready h k n p ek en ep = let good = sound h in rw (ek, en, ep) (good .few, (good .exposures, good .increments))
 
   -- the questions about the figures give the answer
   pub figures-answer : firstNo (figureQuestions (figuresOf s)) ≡ run .number

@@ -5,28 +5,23 @@ use borrow.Author.Tests.{eq-eqb, ne-eqb}
 use mathlib.Core.Path.{_≡_}
 use mathlib.Core.List.{List}
 use lib.IntN.{ℤ, pos}
-use lib.ListN.{getD, replicate}
+use lib.ListN.{getD}
 use Rattle.rules.specs.Packing.{Fit}
-use Rattle.rules.specs.Lists.{upTo, padded}
+use Rattle.rules.specs.Lists.{upTo}
 use Rattle.rules.specs.Record.{figuresOf}
-use Rattle.rules.specs.Triangle.{averageRow, columnTotal, diagonalTotal, ZeroOutside}
+use Rattle.rules.specs.Triangle.{columnTotal, diagonalTotal, ZeroOutside}
 use Rattle.rules.specs.Results.{squareOf}
 use Rattle.laws.proofs.Lists.{getD-upTo}
-use Rattle.triangle.specs.Columns.{Cells, rowsPassing}
-use Rattle.engine.proofs.Before.{square-is, separable}
+use Rattle.triangle.specs.Columns.{Cells}
+use Rattle.engine.proofs.Before.{separable}
 use Rattle.wording.specs.Wording.{refusalText}
-use Rattle.outcomes.proofs.Passed.{Late, cumulatives, sound}
+use Rattle.outcomes.proofs.Passed.{Late, sound}
 use Rattle.reasons.specs.Reasons.{totalsReason}
 use Rattle.reasons.proofs.Below.{reason-same}
 use Rattle.refusals.specs.Refusal.{totalsRefusal, refusalOf}
 
 module _ (s : List ℕ) (run : Late s) where
-  -- the square that the rows fill is that of the figures
-  pub square-filled : (k : ℕ) (n : List ℕ) (p : List ℤ) (q : List (List ℤ)) → k ≡ figuresOf s .k → n ≡ figuresOf s .exposures → p ≡ figuresOf s .increments
-      → q ≡ padded 16 (replicate 16 (pos 0)) (upTo (averageRow k n p) (rowsPassing k p)) → q ≡ squareOf (figuresOf s)
-  square-filled k n p q ek en ep e = square-is (figuresOf s) (cumulatives s run) q (rw (ek, en, ep) at e)
-
-  -- and its columns and diagonals can be added up
+  -- the columns and diagonals of its square can be added up
   pub square-ready : Fit 8 s → (k : ℕ) (q : List (List ℤ)) → k ≡ figuresOf s .k → q ≡ squareOf (figuresOf s) → Cells q × (ZeroOutside q k × (k < 16))
   square-ready h k q ek e = let good = separable (figuresOf s) q e (sound s run h) in rw ek (good .1 .0, (good .1 .1, good .0))
 

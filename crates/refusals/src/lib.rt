@@ -1,11 +1,10 @@
 // The words of a refusal of a record in a lent buffer: of question 7 with its reason.
 use composing::put_bytes;
+use outcomes::fill_square;
 use reading::last_year_of;
-use reading::read;
 use reasons::put_totals_reason;
 use triangle::fill_columns;
 use triangle::fill_diagonals;
-use triangle::fill_rows;
 use wording::put_refusal;
 ghost use mathlib.Core.Path.{_≡_};
 ghost use lib.IntN.{pos};
@@ -24,31 +23,10 @@ fn fill_totals(packed: &[u8], columns: &mut [i64; 16], diagonals: &mut [i64; 16]
     ensures { λ _. ⌜ (now (columns .exit) ≡ upTo (columnTotal (squareOf (figuresOf (now (packed .entry))))) 16)
         × (now (diagonals .exit) ≡ upTo (diagonalTotal (squareOf (figuresOf (now (packed .entry))))) 16) ⌝ }
 {
-    let mut exposures = [0u64; 16];
-    let mut increments = [0i64; 136];
-    let mut indices = [0u64; 16];
-    let mut reporting = [0u64; 16];
-    let mut ulae = [0u64; 16];
-    read(
-        packed,
-        &mut exposures,
-        &mut increments,
-        &mut indices,
-        &mut reporting,
-        &mut ulae,
-    );
-    let k = last_year_of(packed);
     let mut square = [[0i64; 16]; 16];
-    let mut sums = [0u64; 16];
     let mut paid = [0u64; 16];
-    fill_rows(
-        k,
-        &exposures,
-        &increments,
-        &mut square,
-        &mut sums,
-        &mut paid,
-    );
+    fill_square(packed, &mut square, &mut paid);
+    let k = last_year_of(packed);
     fill_columns(&square, k, columns);
     fill_diagonals(&square, diagonals);
 }

@@ -11,16 +11,14 @@ use lib.IntN.{ℤ, pos, natAbs}
 use lib.ListN.{length, getD, drop, replicate, length-map, List·getD-append, List·getD-map}
 use Rattle.rules.specs.Lists.{upTo, padded}
 use Rattle.rules.specs.Record.{Figures, lastYearOf, figuresOf}
-use Rattle.rules.specs.Triangle.{futureStart, paidTo}
+use Rattle.rules.specs.Triangle.{futureStart}
 use Rattle.rules.specs.Completion.{mostUltimate}
 use Rattle.rules.specs.Ladder.{completedRow, completedAll, completedPass}
 use Rattle.rules.specs.Results.{completedSection, sectionStart, mostEntries, separationSections, completionSections, reserveSections, ladderSections, paidIn, developmentIn, sections, resultsOf}
 use Rattle.rules.specs.Engine.{runAnswer}
 use Rattle.laws.proofs.TriangleRows.{cells-most}
 use Rattle.laws.proofs.Joined.{future-length, future-cells}
-use Rattle.triangle.specs.Columns.{rowsPassing}
 use Rattle.triangle.proofs.Passed.{paid-most}
-use Rattle.engine.proofs.Before.{paid-are}
 use Rattle.results.proofs.SectionPlaces.{section-entry, section-inside, length-completed}
 use Rattle.results.proofs.Limits.{most-list, completed-most}
 use Rattle.listing.specs.Starts.{Addable}
@@ -71,10 +69,6 @@ module _ (s : List ℕ) (ok : runAnswer s mostEntries ≡ 0) where
   pub paid-small : Addable (paidBy s)
   unfolding paidIn
   paid-small i = omega (arith, paid-most (figuresOf s .k) (figuresOf s .increments) (cumulatives s (accepted s ok)) i)
-
-  -- what is paid comes of its rows
-  pub paid-is : (k : ℕ) (p : List ℤ) (c : List ℕ) → k ≡ figuresOf s .k → p ≡ figuresOf s .increments → c ≡ padded 16 0 (upTo (paidTo k p) (rowsPassing k p)) → c ≡ paidBy s
-  paid-is k p c ek ep e = paid-are (figuresOf s) (cumulatives s (accepted s ok)) c (rw (ek, ep) at e)
 
   -- the chain ladder's ultimates are small
   ladder-at : (paid : List ℕ) → Addable paid → (i : ℕ) → i < figuresOf s .k + 1 → ladderUltimate (figuresOf s .k) (filledBy s) paid i ≤ mostUltimate

@@ -2,12 +2,11 @@
 use engine::doonamurk_run;
 use entries::size_of;
 use listing::starts_of;
+use outcomes::fill_square;
 use page::put_page;
 use reading::last_year_of;
-use reading::read;
 use refusals::put_refused;
 use rules::MOST_ENTRIES;
-use triangle::fill_rows;
 use web_page::put_text_end;
 use web_page::put_text_start;
 use web_page::put_web_page;
@@ -32,29 +31,8 @@ fn fill_paid(packed: &[u8], paid: &mut [u64; 16])
     requires { ⌜ (runAnswer (now packed) mostEntries ≡ 0) × (now paid ≡ replicate 16 0) ⌝ }
     ensures { λ _. ⌜ (now (paid .exit) ≡ paidBy (now (packed .entry))) × Addable (now (paid .exit)) ⌝ }
 {
-    let mut exposures = [0u64; 16];
-    let mut increments = [0i64; 136];
-    let mut indices = [0u64; 16];
-    let mut reporting = [0u64; 16];
-    let mut ulae = [0u64; 16];
-    read(
-        packed,
-        &mut exposures,
-        &mut increments,
-        &mut indices,
-        &mut reporting,
-        &mut ulae,
-    );
     let mut square = [[0i64; 16]; 16];
-    let mut columns = [0u64; 16];
-    fill_rows(
-        last_year_of(packed),
-        &exposures,
-        &increments,
-        &mut square,
-        &mut columns,
-        paid,
-    );
+    fill_square(packed, &mut square, paid);
 }
 
 // The chain ladder's ultimates by origin year, the last completed cumulative of each; p is where those cumulatives start in the list.

@@ -8,7 +8,6 @@ use native.Mathlib.Omega.{arith}
 use borrow.Author.Tests.{ltb-true, ltb-false, eqb-true, eqb-false}
 use lib.Dec.{eqb, ltb}
 use lib.IntN.{ℤ, pos, negsuc, negℤ, negℤ-negℤ}
-use Rattle.rules.specs.Record.{signedOf, signOf}
 use Rattle.rules.specs.Triangle.{evenly, nearest, averageOf}
 
 -- m is at most a half from 100 × a / n, and even where it is a half from it
