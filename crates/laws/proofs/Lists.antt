@@ -9,8 +9,9 @@ use native.Mathlib.Numerals.{add-one}
 use native.Mathlib.Omega.{arith}
 use borrow.Author.Tests.{leb-true}
 use lib.Dec.{leb}
-use lib.ListN.{length, getD, set, take, replicate, length-append, List·getD-append, length-set}
-use lib.Seq.{getD-at, set-at, append-snoc, take-nil, take-suc, ext-getD, getD-set-same, take-at, getD-set-other}
+use lib.IntN.{pos, natAbs}
+use lib.ListN.{length, getD, set, take, drop, replicate, length-append, length-drop, List·getD-append, length-set}
+use lib.Seq.{getD-at, set-at, append-snoc, take-nil, take-suc, take-all, ext-getD, getD-set-same, take-at, getD-set-other}
 use Rattle.rules.specs.Lists.{total, upTo, below, padded, every, between}
 
 -- n values
@@ -183,6 +184,15 @@ map-upTo h f (suc n) = rw (map-append h (upTo f n) (f n ∷ []), map-upTo h f n)
 pub take-padded : {A : Type 0} (m n : ℕ) (z : A) (xs : List A) → length xs ≡ n → take n (padded m z xs) ≡ xs
 unfolding padded
 take-padded m n z xs e = take-at xs (replicate (m - length xs) z) n e
+
+-- the part of a list from place a on
+pub from-place : {A : Type 0} (xs : List A) (a : ℕ) → take (length xs - a) (drop a xs) ≡ drop a xs
+from-place xs a = take-all (length xs - a) (drop a xs) (omega (arith, length-drop a xs))
+
+-- the sizes of whole numbers are the numbers
+pub sizes-again : (xs : List ℕ) → map natAbs (map pos xs) ≡ xs
+sizes-again [] = refl
+sizes-again (x ∷ xs) = ap (λ (l : List ℕ). x ∷ l) (sizes-again xs)
 
 module _ {A : Type 0} (p : A → Bool) (f : ℕ → A) where
   -- one value more that passes

@@ -29,8 +29,8 @@ take-upTo xs d zero h = refl
 take-upTo xs d (suc n) h = rw (take-suc xs n d (omega arith), take-upTo xs d n (omega arith))
 
 -- with k up to 15 a triangle has at most 120 cells after its first row
-pub future-most : (k : ℕ) → k < 16 → cells k - (k + 1) ≤ 120
-future-most k h =
+pub future-cells-most : (k : ℕ) → k < 16 → cells k - (k + 1) ≤ 120
+future-cells-most k h =
     let m : k * (k + 1) ≤ 15 * 16 = mul-le-mul {n₂ = 15} {m₂ = 16} (omega arith) (omega arith) in
     omega (arith, cells-twice k)
 

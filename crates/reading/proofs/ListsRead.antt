@@ -11,11 +11,8 @@ use Rattle.packing.specs.Field.{fieldAt, rowAt}
 use Rattle.rules.specs.Lists.{upTo}
 use Rattle.layout.specs.Places.{startOf}
 use Rattle.layout.proofs.RecordSizes.{starts}
+use Rattle.laws.proofs.Lists.{sizes-again}
 use Rattle.reading.proofs.RowsRead.{WholeRecord, codes-row, fields-row}
-
-naturals : (xs : List ℕ) → map natAbs (map pos xs) ≡ xs
-naturals [] = refl
-naturals (x ∷ xs) = ap (λ (l : List ℕ). x ∷ l) (naturals xs)
 
 -- the values of a kind without a sign bit are its bits
 value : (κ : Kind) → κ .signed ≡ false → (x : ℕ) → valueOf κ x ≡ pos x
@@ -27,7 +24,7 @@ values κ e [] = refl
 values κ e (x ∷ xs) = ap₂ {C = List ℤ} _∷_ (value κ e x) (values κ e xs)
 
 unsigned : (κ : Kind) → κ .signed ≡ false → (xs : List ℕ) → map natAbs (map (valueOf κ) xs) ≡ xs
-unsigned κ e xs = ap (map natAbs) (values κ e xs) ∙ naturals xs
+unsigned κ e xs = ap (map natAbs) (values κ e xs) ∙ sizes-again xs
 
 -- a row of one field
 pub one-row : (s : List ℕ) (at w : ℕ) → rowAt s at w 1 ≡ fieldAt s at w ∷ []

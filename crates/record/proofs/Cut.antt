@@ -11,7 +11,7 @@ use lib.Seq.{sets, length-take-le, getD-take, take-append-le, drop-append-le, se
 use Rattle.rules.specs.Lists.{total, every}
 use Rattle.rules.specs.Record.{Figures, figures, Kind, million, layout, kindsOf, section, fieldCount, byteCount, inRange, exposuresIn, incrementsIn, indicesIn, reportingIn, weightIn, ulaeIn}
 use Rattle.rules.specs.Writing.{givenAt, givenIn, givenFields}
-use Rattle.laws.proofs.Lists.{both-left, both-right}
+use Rattle.laws.proofs.Lists.{both-left, both-right, sizes-again}
 use Rattle.layout.proofs.LayoutSections.{join, Shaped, everyRow, length-join, section-join, every-join}
 use Rattle.layout.proofs.RecordSizes.{fields-count}
 use Rattle.record.proofs.RecordAnswers.{Taken}
@@ -77,10 +77,6 @@ unfolding every
 sizes-back κ e [] h = refl
 sizes-back κ e (x ∷ xs) h =
     ap₂ {C = List ℤ} _∷_ (not-below κ e x (both-left (inRange κ x) _ h)) (sizes-back κ e xs (both-right (inRange κ x) _ h))
-
-sizes-again : (xs : List ℕ) → map natAbs (map pos xs) ≡ xs
-sizes-again [] = refl
-sizes-again (x ∷ xs) = ap (λ (l : List ℕ). x ∷ l) (sizes-again xs)
 
 -- a row in range comes back as it was cut out, and so do all
 as-given-same : (κ : Kind) (xs : List ℤ) → every (inRange κ) xs ≡ true → asGiven κ xs ≡ xs

@@ -11,7 +11,7 @@ use lib.ListN.{length, getD, take, drop}
 use lib.Seq.{drop-cons, drop-length}
 use Rattle.rules.specs.Lists.{every}
 use Rattle.scanning.specs.Numbers.{isDigit, isNatural, isNumber, ceiling, withDigit, sizeFrom, wholeOf}
-use Rattle.scanning.proofs.Parts.{from-place}
+use Rattle.laws.proofs.Lists.{from-place}
 
 -- a word that is not empty is a natural number where every byte is a digit
 pub natural-is : (xs : List ℕ) → 0 < length xs → isNatural xs ≡ every isDigit xs

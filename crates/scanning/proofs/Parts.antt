@@ -6,8 +6,9 @@ use Prim.Native.Nat.{ℕ, suc, _+_, _-_, _≤_, _<_, zero-le}
 use native.Mathlib.Numerals.{add-one}
 use native.Mathlib.Omega.{arith}
 use borrow.Author.Tests.{eq-eqb, ne-eqb}
-use lib.ListN.{length, getD, take, drop, length-drop, drop-of-length-le}
-use lib.Seq.{drop-cons, drop-length, take-all, length-take-le}
+use lib.ListN.{length, getD, take, drop, drop-of-length-le}
+use lib.Seq.{drop-cons, drop-length, length-take-le}
+use Rattle.laws.proofs.Lists.{from-place}
 use Rattle.scanning.specs.Parts.{among, before, until, from, past}
 
 -- it is at most the length
@@ -49,10 +50,6 @@ module _ {A : Type 0} (p : A → Bool) (d : A) where
   before-none xs n h e =
       let z : before p (drop n xs) ≡ 0 = rw (h, drop-length xs) in
       omega arith
-
--- the part of a list from place a on
-pub from-place : (xs : List ℕ) (a : ℕ) → take (length xs - a) (drop a xs) ≡ drop a xs
-from-place xs a = take-all (length xs - a) (drop a xs) (omega (arith, length-drop a xs))
 
 module _ (p : ℕ → Bool) (xs : List ℕ) (e : ℕ) (h : e ≡ before p xs) where
   pub until-is : take e xs ≡ until p xs

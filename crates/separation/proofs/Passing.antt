@@ -33,8 +33,8 @@ abbrev least : List ℤ → ℕ → Bool
 least z i = leZ (pos 0) (getD z i (pos 0))
 
 -- question 7 of n totals
-abbrev pub passes : List ℤ → List ℤ → ℕ → Bool
-passes columns diagonals n =
+abbrev pub totalsPassing : List ℤ → List ℤ → ℕ → Bool
+totalsPassing columns diagonals n =
     every (least columns) (below n) && (every (least diagonals) (below n) && leZ (sumTo (λ i. getD columns i (pos 0)) n) (pos billion))
 
 -- what the loop has done
@@ -66,10 +66,10 @@ module _ (columns diagonals : List ℤ) (n : ℕ) (v d : List ℕ) where
   }
 
   -- a column is below zero, or a diagonal
-  pub column-fails : (i : ℕ) → i < n → SFits w64 (getD columns i (pos 0)) → ltZ (held (getD columns i (pos 0))) (pos 0) ≡ true → passes columns diagonals n ≡ false
+  pub column-fails : (i : ℕ) → i < n → SFits w64 (getD columns i (pos 0)) → ltZ (held (getD columns i (pos 0))) (pos 0) ≡ true → totalsPassing columns diagonals n ≡ false
   column-fails i l fits t = rw (fails-at (least columns) (λ (j : ℕ). j) n i l (signs.under-zero (getD columns i (pos 0)) fits t))
 
-  pub diagonal-fails : (i : ℕ) → i < n → SFits w64 (getD diagonals i (pos 0)) → ltZ (held (getD diagonals i (pos 0))) (pos 0) ≡ true → passes columns diagonals n ≡ false
+  pub diagonal-fails : (i : ℕ) → i < n → SFits w64 (getD diagonals i (pos 0)) → ltZ (held (getD diagonals i (pos 0))) (pos 0) ≡ true → totalsPassing columns diagonals n ≡ false
   diagonal-fails i l fits t = rw (fails-at (least diagonals) (λ (j : ℕ). j) n i l (signs.under-zero (getD diagonals i (pos 0)) fits t)) (and-false (every (least columns) (below n)))
 
   module _ (sum i : ℕ) (done : TotalsDone columns diagonals n v d sum i) where
@@ -93,7 +93,7 @@ module _ (columns diagonals : List ℤ) (n : ℕ) (v d : List ℕ) where
         }
 
   -- all of them
-  pub last : (sum : ℕ) → TotalsDone columns diagonals n v d sum n → leb sum billion ≡ passes columns diagonals n
+  pub last : (sum : ℕ) → TotalsDone columns diagonals n v d sum n → leb sum billion ≡ totalsPassing columns diagonals n
   last sum done =
       let whole : (i : ℕ) → i < n → getD columns i (pos 0) ≡ pos (natAbs (getD columns i (pos 0)))
       = λ i l. positive (getD columns i (pos 0)) (every-upTo (least columns) (λ j. j) n i (done .columns-pass) l) in

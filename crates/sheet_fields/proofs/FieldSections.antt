@@ -6,11 +6,11 @@ use native.Mathlib.Numerals.{add-one}
 use native.Mathlib.Omega.{arith}
 use lib.IntN.{ℤ, pos, natAbs}
 use lib.ListN.{length, getD, set, take, drop, replicate, length-append, length-drop, length-map}
-use lib.Seq.{take-suc, take-at, take-append-le, drop-append-le, length-take-le, getD-drop, drop-drop}
+use lib.Seq.{take-suc, take-append-le, drop-append-le, length-take-le, getD-drop, drop-drop}
 use Rattle.rules.specs.Lists.{padded, total}
 use Rattle.rules.specs.Record.{Figures, figures, Kind, cells, layout, section, exposuresIn, incrementsIn, indicesIn, reportingIn, weightIn, ulaeIn, mostFields}
 use Rattle.rules.specs.Writing.{givenAt, writeInto}
-use Rattle.laws.proofs.Lists.{padded-more}
+use Rattle.laws.proofs.Lists.{padded-more, take-padded}
 use Rattle.laws.proofs.TriangleRows.{cells-most}
 use Rattle.sheet_fields.specs.declared.Rows.{Rows}
 use Rattle.sheet_fields.specs.FieldRows.{rows, rowsOf}
@@ -25,11 +25,6 @@ sizes-more list at i v h l e =
     let f : v ≡ natAbs (getD xs i (pos 0)) = e ∙ ap natAbs (sym (getD-drop at list i (pos 0))) in
     rw (f, add-one i, take-suc xs i (pos 0) long, map-append natAbs (take i xs) (getD xs i (pos 0) ∷ []))
     (padded-more 16 0 (map natAbs (take i xs)) (natAbs (getD xs i (pos 0))) i n h)
-
--- the first entries of an array are those of the list in it
-pub front : {A : Type 0} (m n : ℕ) (z : A) (xs : List A) → length xs ≡ n → take n (padded m z xs) ≡ xs
-unfolding padded
-front m n z xs h = take-at xs _ n h
 
 -- one entry of a list
 one-size : (ys : List ℤ) → getD (map natAbs (take 1 ys)) 0 0 ≡ natAbs (getD ys 0 (pos 0))
@@ -101,7 +96,7 @@ module _ (n : ℕ) (xs ys : List ℕ) (e : xs ≡ padded 16 0 ys) (l : length ys
   array-cut = sym (length-take-le n xs array-fits)
 
   array-front : take n xs ≡ ys
-  array-front = rw (e) (front 16 n 0 ys l)
+  array-front = rw (e) (take-padded 16 n 0 ys l)
 
 module _ (k : ℕ) (vs : List ℤ) (h : k < 16) (l : length vs ≡ mostFields) where
   exposures-count : length (exposuresIn k vs) ≡ k + 1

@@ -5,14 +5,13 @@ use mathlib.Core.List.{List, [], _++_, map}
 use Prim.Native.Nat.{ℕ, suc, _+_, _≤_}
 use native.Mathlib.Numerals.{add-one}
 use native.Mathlib.Omega.{arith}
-use borrow.Author.Tests.{eq-eqb, ne-eqb, leb-true}
-use lib.Dec.{leb}
+use borrow.Author.Tests.{eq-eqb, ne-eqb}
 use lib.IntN.{ℤ, pos, natAbs}
 use lib.ListN.{length, getD, take, drop, length-append, length-map, length-take, length-drop, take-append-drop}
 use lib.Seq.{sets, sets-eq, getD-take}
 use Rattle.rules.specs.Lists.{upTo, every}
 use Rattle.laws.proofs.Joined.{sets-append}
-use Rattle.laws.proofs.Lists.{both-left, map-upTo, upTo-self}
+use Rattle.laws.proofs.Lists.{map-upTo, upTo-self}
 use Rattle.composing.specs.Text.{Put}
 use Rattle.composing.proofs.Puts.{put-none}
 use Rattle.scanning.specs.Parts.{fails, before}
@@ -116,11 +115,6 @@ reads-fine {t} {word} list list′ n i m c cs e size count stored =
           ∙ sets-append (take m list) new list 0 m (omega arith);
       put = put-none word 0;
     })
-
--- a text that has the mark has three bytes
-pub marked-long : (xs : List ℕ) → marked xs ≡ true → 3 ≤ length xs
-unfolding marked
-marked-long xs h = leb-true 3 (length xs) (both-left (leb 3 (length xs)) _ h)
 
 -- the mark counts for its own length only
 pub unmarked-most : (xs : List ℕ) → length (unmarked xs) ≤ length xs

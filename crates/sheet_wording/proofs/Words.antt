@@ -16,8 +16,8 @@ pub named-append : (w ys : List ℕ) → ascii "`" ++ (w ++ (ascii "`" ++ ys)) �
 unfolding named
 named-append w ys = ap (λ (l : List ℕ). 96 ∷ l) (rw (append-assoc w (ascii "`") ys))
 
-pub between : (xs ys zs rest : List ℕ) → (xs ++ (ys ++ zs)) ++ rest ≡ xs ++ (ys ++ (zs ++ rest))
-between xs ys zs rest = simp append-assoc
+pub words-between : (xs ys zs rest : List ℕ) → (xs ++ (ys ++ zs)) ++ rest ≡ xs ++ (ys ++ (zs ++ rest))
+words-between xs ys zs rest = simp append-assoc
 
 pub counts-are : (d : Due) (c : ℕ)
     → (named (labelDue d) ++ ascii " takes ")

@@ -7,17 +7,13 @@ use native.Mathlib.Numerals.{add-one}
 use native.Mathlib.Omega.{arith}
 use borrow.Author.Tests.{not-true}
 use lib.Dec.{eqb}
-use lib.ListN.{length, getD, take, drop, take-append-drop, length-drop}
-use lib.Seq.{take-all, drop-cons, drop-length}
+use lib.ListN.{length, getD, take, drop, take-append-drop}
+use lib.Seq.{drop-cons, drop-length}
 use Rattle.rules.specs.Lists.{every}
 use Rattle.laws.proofs.Lists.{both-left, both-right}
 use Rattle.entries.specs.Leading.{passing}
 use Rattle.entries.proofs.Leading.{passing-append}
 use Rattle.wording.specs.Lines.{written, inLine, firstLine, fromLine}
-
--- the part of a text from place a on
-pub from-place : (text : List ℕ) (a : ℕ) → take (length text - a) (drop a text) ≡ drop a text
-from-place text a = take-all (length text - a) (drop a text) (omega (arith, length-drop a text))
 
 -- the next line is past this one's line feed
 past-line : (line text other : List ℕ) (n : ℕ) → every inLine line ≡ true → fromLine (suc n) other (line ++ (10 ∷ text)) ≡ fromLine n other text

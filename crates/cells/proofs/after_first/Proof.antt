@@ -1,5 +1,5 @@
 -- Nothing is left of nothing. Assumes nothing.
-use Rattle.scanning.proofs.Parts.{from-place}
+use Rattle.laws.proofs.Lists.{from-place}
 use Rattle.cells.proofs.CellLines.{none-after}
 use borrow.Author.Needs.{needs}
 use Rattle.cells.proofs.after_first.Statement.{statement}

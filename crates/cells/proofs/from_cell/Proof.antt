@@ -2,7 +2,7 @@
 use mathlib.Core.Path.{sym, _∙_}
 use lib.ListN.{length}
 use lib.Seq.{drop-length}
-use Rattle.scanning.proofs.Parts.{from-place}
+use Rattle.laws.proofs.Lists.{from-place}
 use Rattle.cells.specs.Cells.{fromCell}
 use borrow.Author.Needs.{needs}
 use Rattle.cells.proofs.from_cell.Statement.{statement}

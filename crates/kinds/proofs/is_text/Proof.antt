@@ -2,22 +2,17 @@
 use mathlib.Core.Path.{_≡_, sym, _∙_}
 use mathlib.Core.Bool.{true, false}
 use mathlib.Core.List.{List}
-use Prim.Native.Nat.{ℕ, _-_, _≤_, _<_}
+use Prim.Native.Nat.{ℕ, _-_, _<_}
 use native.Mathlib.Omega.{arith}
 use borrow.Author.Needs.{needs}
-use borrow.Author.Tests.{leb-true, lt-ltb}
+use borrow.Author.Tests.{lt-ltb}
 use lib.ListN.{length, drop, take, length-drop}
 use lib.Seq.{take-all}
 use Rattle.rules.specs.Lists.{every}
-use Rattle.laws.proofs.Lists.{both-left}
 use Rattle.kinds.specs.Kinds.{textByte, marked, isText}
+use Rattle.kinds.proofs.Mark.{mark-room}
 use Rattle.kinds.proofs.is_text.Statement.{statement}
 use Rattle.kinds.proofs.is_text.Tie as tie
-
--- an input with the mark has room for it
-mark-room : (s : List ℕ) → marked s ≡ true → 3 ≤ length s
-unfolding marked
-mark-room s h = leb-true 3 (length s) (both-left _ _ h)
 
 -- nothing, an input with the mark, and one without
 none-is : (s : List ℕ) → length s ≡ 0 → isText s ≡ false

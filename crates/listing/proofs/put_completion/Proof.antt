@@ -15,7 +15,7 @@ use Rattle.laws.proofs.Joined.{sets-append}
 use Rattle.rules.specs.Results.{completionSections}
 use Rattle.entries.proofs.Runs.{length-naturals}
 use Rattle.laws.proofs.TriangleRows.{cells-least}
-use Rattle.listing.proofs.Sections.{small-total, future-most, three-runs, three-length}
+use Rattle.listing.proofs.Sections.{small-total, future-cells-most, three-runs, three-length}
 use Rattle.listing.proofs.put_completion.Statement.{statement}
 use Rattle.listing.proofs.put_completion.Tie as tie
 
@@ -37,7 +37,7 @@ put-naturals-requires-2 : tie.Need-put-naturals-requires-2
 put-naturals-requires-2 c κs =
     let s = c .before .before .before .before .before .before .before in
     let k = s .args .k in
-    (omega (arith, future-most k (s .pre .0)), (omega (arith, cells-least k), λ i h. omega (arith, s .pre .1 .1 .1 .0 i)))
+    (omega (arith, future-cells-most k (s .pre .0)), (omega (arith, cells-least k), λ i h. omega (arith, s .pre .1 .1 .1 .0 i)))
 
 put-naturals-requires-3 : tie.Need-put-naturals-requires-3
 put-naturals-requires-3 c κs =
@@ -84,7 +84,7 @@ returns c =
     let size = after-payments .before .cells-of .ensures .0 in
     let sa : length a ≡ k = length-naturals k levels (omega (arith, after-levels .before .put-naturals-arg2 .given .0, s .pre .0)) in
     let sb : length b ≡ n =
-    length-naturals n payments (omega (arith, after-payments .before .before .put-naturals-arg4 .given .0, future-most k (s .pre .0))) in
+    length-naturals n payments (omega (arith, after-payments .before .before .put-naturals-arg4 .given .0, future-cells-most k (s .pre .0))) in
     let sd : length d ≡ k + 1 =
     length-naturals (k + 1) provisions (omega (arith, after-provisions .before .put-naturals-arg6 .given .0, s .pre .0)) in
     let p : first .result ≡ at + length a = omega (arith, first .ensures .0) in

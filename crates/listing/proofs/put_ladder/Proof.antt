@@ -13,7 +13,7 @@ use Rattle.rules.specs.Lists.{joined}
 use Rattle.rules.specs.Results.{ladderSections}
 use Rattle.entries.proofs.Runs.{length-naturals}
 use Rattle.laws.proofs.TriangleRows.{cells-least}
-use Rattle.listing.proofs.Sections.{future-most}
+use Rattle.listing.proofs.Sections.{future-cells-most}
 use Rattle.listing.proofs.put_ladder.Statement.{statement}
 use Rattle.listing.proofs.put_ladder.Tie as tie
 
@@ -35,7 +35,7 @@ put-naturals-requires-2 : tie.Need-put-naturals-requires-2
 put-naturals-requires-2 c κs =
     let s = c .before .before .before .before .before .before .before in
     let k = s .args .k in
-    (omega (arith, future-most k (s .pre .0)), (omega (arith, cells-least k), λ i h. omega (arith, s .pre .1 .1 .1 i)))
+    (omega (arith, future-cells-most k (s .pre .0)), (omega (arith, cells-least k), λ i h. omega (arith, s .pre .1 .1 .1 i)))
 
 same-length : tie.Need-same-length
 same-length c = search needs

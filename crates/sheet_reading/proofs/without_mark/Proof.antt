@@ -1,12 +1,12 @@
--- By whether the text has the mark; a text that has it has three bytes (marked-long). Assumes nothing.
+-- By whether the text has the mark; a text that has it has three bytes (mark-room). Assumes nothing.
 use mathlib.Core.Path.{_≡_, _∙_, sym}
 use mathlib.Core.Bool.{true}
 use native.Mathlib.Omega.{arith}
 use borrow.Author.Needs.{needs}
-use Rattle.scanning.proofs.Parts.{from-place}
+use Rattle.laws.proofs.Lists.{from-place}
 use Rattle.kinds.specs.Kinds.{marked}
 use Rattle.sheet.specs.Sheet.{unmarked}
-use Rattle.sheet_reading.proofs.LinesRead.{marked-long}
+use Rattle.kinds.proofs.Mark.{mark-room}
 use Rattle.sheet_reading.proofs.without_mark.Statement.{statement}
 use Rattle.sheet_reading.proofs.without_mark.Tie as tie
 
@@ -14,10 +14,10 @@ has-mark : (c : tie.Then1) → marked (c .before .before .before .args .text .no
 has-mark c = sym (c .before .is-marked .ensures) ∙ c .if1 .taken
 
 sub-result : tie.Need-sub-result
-sub-result c = omega (arith, marked-long (c .before .before .before .args .text .now) (has-mark c))
+sub-result c = omega (arith, mark-room (c .before .before .before .args .text .now) (has-mark c))
 
 part-result-start : tie.Need-part-result-start
-part-result-start c = omega (arith, marked-long (c .before .before .before .args .text .now) (has-mark c))
+part-result-start c = omega (arith, mark-room (c .before .before .before .args .text .now) (has-mark c))
 
 returns : tie.Need-returns
 unfolding unmarked

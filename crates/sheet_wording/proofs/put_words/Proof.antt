@@ -4,7 +4,7 @@ use Rattle.composing.specs.Text.{ascii}
 use Rattle.composing.proofs.Puts.{put-append, put-same, put-none}
 use Rattle.sheet.specs.Table.{labelDue}
 use Rattle.sheet_wording.specs.Problem.{named, problemWords}
-use Rattle.sheet_wording.proofs.Words.{between, no-words}
+use Rattle.sheet_wording.proofs.Words.{words-between, no-words}
 use borrow.Author.Needs.{needs}
 use Rattle.sheet_wording.proofs.put_words.Statement.{statement}
 use Rattle.sheet_wording.proofs.put_words.Tie as tie
@@ -13,7 +13,7 @@ returns : tie.Need-returns
 unfolding problemWords
 returns c =
     rw (c .before .before .before .before .before .before .before .before .before .before .if1 .taken)
-    (put-same (between (ascii "a line that starts with ") (named (labelDue (c .before .before .before .before .before .before .before .before .before .before .before .before .before .args .d))) (ascii " is due, not with ") (named (c .before .before .before .before .before .before .before .before .before .before .before .before .before .args .word .now))) (put-append (c .before .before .before .before .before .before .put-due .ensures) (c .before .before .put-named .ensures)))
+    (put-same (words-between (ascii "a line that starts with ") (named (labelDue (c .before .before .before .before .before .before .before .before .before .before .before .before .before .args .d))) (ascii " is due, not with ") (named (c .before .before .before .before .before .before .before .before .before .before .before .before .before .args .word .now))) (put-append (c .before .before .before .before .before .before .put-due .ensures) (c .before .before .put-named .ensures)))
 
 returns-2 : tie.Need-returns-2
 unfolding problemWords

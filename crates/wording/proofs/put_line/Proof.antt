@@ -3,7 +3,7 @@ use mathlib.Core.Path.{sym, ap, _∙_}
 use lib.Seq.{length-take-le}
 use Rattle.composing.proofs.Puts.{put-same}
 use Rattle.wording.specs.Lines.{firstLine}
-use Rattle.wording.proofs.Lines.{from-place}
+use Rattle.laws.proofs.Lists.{from-place}
 use borrow.Author.Needs.{needs}
 use Rattle.wording.proofs.put_line.Statement.{statement}
 use Rattle.wording.proofs.put_line.Tie as tie
