@@ -58,7 +58,7 @@ paidTo k p i = givenCumulative k p i (k - i)
 unfoldable pub evenly : ℕ → ℕ → ℕ → ℕ
 evenly n whole rest = cond (ltb n (2 * rest) || (eqb (2 * rest) n && eqb (whole % 2) 1)) (whole + 1) whole
 
--- 100 × a / n to the nearest whole, halves to the even neighbour: the one number that is (rules/proofs/Nearest.antt)
+-- 100 × a / n to the nearest whole, halves to the even neighbour; that no other number is so nearest: rules/proofs/Nearest.antt
 unfoldable pub nearest : ℕ → ℕ → ℕ
 nearest a n = evenly n (100 * a / n) (100 * a % n)
 
