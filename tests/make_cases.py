@@ -191,7 +191,7 @@ def accepted():
     # a column and a diagonal of zero
     yield fields_of([1, 1, 1], [[0, 5, 0], [5, 5], [7]])
     yield from halves()
-    for _, within, _ in (*edges(), *half_edges()):
+    for _, within, _ in (*edges(), *half_edges(), *total_edges()):
         yield within
 
 
@@ -261,6 +261,29 @@ def half_edges():
     yield 10, *(fields_of([200, 100], [[first, 400000], [1]]) for first in (9998, 9999))
 
 
+def plain_but(k, cells):
+    """Fields of 10,000 hundredths in the first column and 10 elsewhere but for the cells given, all n 100."""
+    rows = [[10000] + [10] * (k - i) for i in range(k + 1)]
+    for (i, j), paid in cells.items():
+        rows[i][j] = paid
+    return fields_of([100] * (k + 1), rows)
+
+
+def diagonal_of(k, h, total):
+    """As plain_but: diagonal h, from 2 on, adds up to a total, by its cell in row 1, whose column is made up for in row 0."""
+    return plain_but(k, {(h, 0): 0, (1, h - 1): total - 10 * (h - 1), (0, h - 1): 10000})
+
+
+def total_edges():
+    """As edges: the averages of one column and of one diagonal add up to 0 and to -1, year by year; those of the first ones are never below 0."""
+    for k, years in ((3, (1, 2, 3)), (15, (1, 2, 8, 14, 15))):
+        for c in years:
+            yield 7, *(plain_but(k, {(0, c): total - 10 * (k - c)}) for total in (0, -1))
+        yield 7, *(plain_but(k, {(0, 1): total, (1, 0): 0}) for total in (0, -1))
+        for h in years[1:-1]:
+            yield 7, *(diagonal_of(k, h, total) for total in (0, -1))
+
+
 def refused():
     """Number and fields that the engine refuses with it, for the numbers from 4."""
     source = random.Random(2)
@@ -272,8 +295,14 @@ def refused():
         yield 5, changed(fields, at["b"] + k, fields[at["b"] + k] + 1)
         yield 6, changed(fields, at["P"], -1)
         yield 12, changed(fields, at["U"], 10**10)
-    for number_, _, past in (*edges(), *half_edges()):
+    for number_, _, past in (*edges(), *half_edges(), *total_edges()):
         yield number_, past
+    # the latest diagonal adds up to 0, and to less
+    for k in (3, 15):
+        yield 8, diagonal_of(k, k, 0)
+        yield 7, diagonal_of(k, k, -1)
+    # the last column and the latest diagonal are below 0, so that T_k - v_k is 0 too
+    yield 7, plain_but(2, {(0, 2): -1, (1, 1): 0, (2, 0): 0})
     # by halves T_1 - v_1 is 0 and a column is below 0 too; the chain ladder's base is zero too
     yield 7, fields_of([100, 200], [[10, -1], [1]])
     yield 7, fields_of([200, 200], [[9, -3], [1]])

@@ -8,13 +8,12 @@ use native.Mathlib.Omega.{arith}
 use borrow.Author.Tests.{leb-true}
 use lib.Dec.{leb}
 use lib.IntN.{ℤ}
-use Rattle.rules.specs.Triangle.{columnTotal, diagonalTotal}
+use Rattle.rules.specs.Triangle.{columnTotal, diagonalTotal, ZeroOutside}
 use Rattle.rules.specs.Separation.{billion, columnOf, diagonalOf, cornerOf, runningDown, runningOf, shareOf, levelOf, totalsPass, restsPass, runningPass}
 use Rattle.rules.specs.Exact.{fromTo, NearExact}
 use Rattle.laws.proofs.Diff.{is-pos, is-minus, is-mul, is-abs, le-is, lt-is}
 use Rattle.laws.proofs.Totals.{fromTo-all}
 use Rattle.laws.proofs.Lists.{every-upTo}
-use Rattle.rules.specs.Triangle.{ZeroOutside}
 use Rattle.totals.proofs.Whole.{Totals, totals, column-is, diagonal-is}
 use Rattle.totals.proofs.TotalsMost.{running-most}
 use Rattle.accuracy.proofs.Rounding.{Running, shares-sum}

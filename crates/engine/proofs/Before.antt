@@ -1,5 +1,5 @@
--- What the rows and the separation leave: the square, the column sums, the paid cumulatives and the factors of the figures. Assumes nothing.
-use Prim.Native.Nat.{ℕ, _+_, _<_}
+-- What the rows and the separation leave: the square, its totals, the column sums, the paid cumulatives and the factors of the figures. Assumes nothing.
+use Prim.Native.Nat.{ℕ, _+_}
 use mathlib.Core.Path.{_≡_, _∙_}
 use mathlib.Core.Bool.{true}
 use mathlib.Core.List.{List, map}
@@ -9,14 +9,16 @@ use lib.Seq.{sets}
 use Rattle.rules.specs.Lists.{upTo, padded}
 use Rattle.rules.specs.Questions.{afterCall}
 use Rattle.rules.specs.Record.{figures, Figures, increment, valueOf, lastYearOf, figuresOf}
-use Rattle.rules.specs.Triangle.{cumulativesPass, averageRow, averagesOf, ZeroOutside, paidTo}
+use Rattle.rules.specs.Triangle.{cumulativesPass, averageRow, averagesOf, paidTo, TotalsSoFar}
 use Rattle.rules.specs.Separation.{separateAnswer, separated}
 use Rattle.rules.specs.Results.{squareOf, factorsIn, paidIn}
 use Rattle.rules.specs.declared.Factors.{Factors}
-use Rattle.triangle.specs.Columns.{Cells, columnSum, rowsPassing}
+use Rattle.triangle.specs.Columns.{columnSum, rowsPassing}
 use Rattle.triangle.proofs.Square.{cells-bounded}
 use Rattle.triangle.proofs.Passed.{rows-all}
 use Rattle.totals.proofs.Square.{zero-outside}
+use Rattle.totals.proofs.SoFar.{all-passed}
+use Rattle.separation.specs.Walk.{Summed}
 use Rattle.reading.specs.Reading.{Sound, rowRead}
 use Rattle.reading.proofs.FiguresRead.{Filled}
 
@@ -29,30 +31,29 @@ module _ (f : Figures) (six : cumulativesPass (f .k) (f .increments) ≡ true) w
   unfolding squareOf averagesOf
   square-is s e = e ∙ rw all-rows
 
-  pub columns-are : (v : List ℕ) → v ≡ upTo (columnSum (f .k) (f .increments) (rowsPassing (f .k) (f .increments))) 16 → v ≡ upTo (columnSum (f .k) (f .increments) (f .k + 1)) 16
-  columns-are v e = e ∙ rw all-rows
+  pub sums-are : (v : List ℕ) → v ≡ upTo (columnSum (f .k) (f .increments) (rowsPassing (f .k) (f .increments))) 16 → v ≡ upTo (columnSum (f .k) (f .increments) (f .k + 1)) 16
+  sums-are v e = e ∙ rw all-rows
 
   pub paid-are : (c : List ℕ) → c ≡ padded 16 0 (upTo (paidTo (f .k) (f .increments)) (rowsPassing (f .k) (f .increments))) → c ≡ paidIn f
   unfolding paidIn
   paid-are c e = e ∙ rw all-rows
 
-module _ (f : Figures) (q : List (List ℤ)) (e : q ≡ squareOf f) where
-  -- the square can be separated
-  pub separable : Sound f → (f .k < 16) × (Cells q × ZeroOutside q (f .k))
+  -- the totals are those of the square
+  pub totals-are : Sound f → (v d : List ℤ) → TotalsSoFar (averagesOf (f .k) (f .exposures) (f .increments)) (rowsPassing (f .k) (f .increments)) 0 v d → Summed (squareOf f) (f .k) v d
   unfolding squareOf
-  separable h =
-      rw e (
-        h .few,
-        (
-          cells-bounded (f .k) (f .exposures) (f .increments) (h .few) (h .exposures) (h .increments),
-          zero-outside (f .k) (f .exposures) (f .increments) (h .few),
-        ),
-      )
+  totals-are h v d e =
+      let outside = zero-outside (f .k) (f .exposures) (f .increments) (h .few) in
+      let all = all-passed (averagesOf (f .k) (f .exposures) (f .increments)) (f .k) v d outside (rw all-rows at e) in
+      record {
+        cells = cells-bounded (f .k) (f .exposures) (f .increments) (h .few) (h .exposures) (h .increments);
+        outside = outside;
+        totals = all;
+      }
 
-  -- the factors of an accepted separation
-  pub factors-are : (g : Factors) → g ≡ separated q (f .k) → separateAnswer (squareOf f) (f .k) ≡ 0 → g ≡ factorsIn f
-  unfolding separated afterCall factorsIn
-  factors-are g h a = rw (h, e, a)
+-- the factors of an accepted separation
+pub factors-are : (f : Figures) (g : Factors) → g ≡ separated (squareOf f) (f .k) → separateAnswer (squareOf f) (f .k) ≡ 0 → g ≡ factorsIn f
+unfolding separated afterCall factorsIn
+factors-are f g h a = rw (h, a)
 
 -- what was read are the figures of the record
 pub figures-are : (s : List ℕ) → Filled s → (k : ℕ) (n : List ℕ) (p : List ℤ) (e b : List ℕ) (w : ℕ) (u : List ℕ) → k ≡ lastYearOf s

@@ -138,10 +138,10 @@ module _ (f : Figures) (s : List (List ℤ)) (v c r l : List ℕ) (h : Separated
 
   developed-is : (j : ℕ) → j < f .k → developedIn v j ≡ developed (f .k) (f .increments) j
   unfolding developedIn
-  developed-is j lt = rw (h .columns) (column-developed k (f .increments) (h .sound .few) j lt)
+  developed-is j lt = rw (h .sums) (column-developed k (f .increments) (h .sound .few) j lt)
 
   column-is : (j : ℕ) → j < f .k → getD v j 0 ≡ base (f .k) (f .increments) j + paidTo (f .k) (f .increments) (f .k - j)
-  column-is j lt = rw (h .columns) (column-base k (f .increments) (h .sound .few) j lt)
+  column-is j lt = rw (h .sums) (column-base k (f .increments) (h .sound .few) j lt)
 
   base-is : (j : ℕ) → j < f .k → baseIn (f .k) v c j ≡ base (f .k) (f .increments) j
   unfolding baseIn
@@ -150,7 +150,7 @@ module _ (f : Figures) (s : List (List ℤ)) (v c r l : List ℕ) (h : Separated
   pub ladderable : Ladderable (f .k) v c
   ladderable = record {
     few = h .sound .few;
-    columns = rw (h .columns) (column-sum-most k (f .increments) (h .cumulatives) (h .sound .few));
+    columns = rw (h .sums) (column-sum-most k (f .increments) (h .cumulatives) (h .sound .few));
     paid = λ j lt. omega (arith, column-is j lt, paid-at (k - j) (omega arith));
   }
 

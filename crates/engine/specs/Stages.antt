@@ -19,12 +19,12 @@ use Rattle.expense.specs.Reservable.{Reservable}
 use Rattle.listing.specs.Starts.{Addable}
 use Rattle.reading.specs.Reading.{Sound}
 
--- figures whose separation was accepted: their square s, the sums v of the cumulatives' columns, the paid cumulatives c, the shares r and the levels l
-pub record Separated (f : Figures) (s : List (List ℤ)) (v c r l : List ℕ) : Type 0 where
+-- figures whose separation was accepted: their square s, the sums u of the cumulatives' columns, the paid cumulatives c, the shares r and the levels l
+pub record Separated (f : Figures) (s : List (List ℤ)) (u c r l : List ℕ) : Type 0 where
   pub sound : Sound f
   pub cumulatives : cumulativesPass (f .k) (f .increments) ≡ true
   pub square : s ≡ squareOf f
-  pub columns : v ≡ upTo (columnSum (f .k) (f .increments) (f .k + 1)) 16
+  pub sums : u ≡ upTo (columnSum (f .k) (f .increments) (f .k + 1)) 16
   pub paid : c ≡ paidIn f
   pub accepted : separateAnswer (squareOf f) (f .k) ≡ 0
   pub shares : r ≡ factorsIn f .shares

@@ -13,7 +13,7 @@ use reading::last_year_of;
 use reading::opens;
 use reading::read;
 use rules::ACCEPTED;
-use separation::separate;
+use separation::separate_totals;
 use triangle::fill_rows;
 ghost use mathlib.Core.Path.{_≡_};
 ghost use mathlib.Core.List.{_++_};
@@ -69,13 +69,13 @@ fn finish<'a>(
     weight: u64,
     ulae: &[u64; 16],
     square: &[[i64; 16]; 16],
-    columns: &[u64; 16],
+    sums: &[u64; 16],
     paid: &[u64; 16],
     shares: &'a [u64; 16],
     levels: &'a [u64; 16],
     out: &mut [i64],
 ) -> u64
-    requires { ⌜ Separated (figures k (now exposures) (now increments) (now indices) (now reporting) weight (now ulae)) (now square) (now columns) (now paid) (now shares) (now levels)
+    requires { ⌜ Separated (figures k (now exposures) (now increments) (now indices) (now reporting) weight (now ulae)) (now square) (now sums) (now paid) (now shares) (now levels)
         × (resultCount k ≤ length (now out)) ⌝ }
     ensures { λ r. ⌜ Answers (laterQuestions (figures k (now (exposures .entry)) (now (increments .entry)) (now (indices .entry)) (now (reporting .entry)) weight (now (ulae .entry))))
         (figures k (now (exposures .entry)) (now (increments .entry)) (now (indices .entry)) (now (reporting .entry)) weight (now (ulae .entry))) (now (out .entry)) (now (out .exit)) r ⌝ }
@@ -102,7 +102,7 @@ fn finish<'a>(
         return 12;
     }
     let mut factors = [0u64; 16];
-    if !development_factors(k, columns, paid, &mut factors) {
+    if !development_factors(k, sums, paid, &mut factors) {
         return 13;
     }
     let mut completed = [0u64; 120];
@@ -144,19 +144,23 @@ pub fn run_figures(
         (figures k (now (exposures .entry)) (now (increments .entry)) (now (indices .entry)) (now (reporting .entry)) weight (now (ulae .entry))) (now (out .entry)) (now (out .exit)) r ⌝ }
 {
     let mut square = [[0i64; 16]; 16];
-    let mut columns = [0u64; 16];
+    let mut sums = [0u64; 16];
     let mut paid = [0u64; 16];
+    let mut columns = [0i64; 16];
+    let mut diagonals = [0i64; 16];
     if !fill_rows(
         k,
         exposures,
         increments,
         &mut square,
-        &mut columns,
+        &mut sums,
         &mut paid,
+        &mut columns,
+        &mut diagonals,
     ) {
         return 6;
     }
-    let separation = separate(&square, k);
+    let separation = separate_totals(&columns, &diagonals, k);
     if separation.answer != ACCEPTED {
         return separation.answer;
     }
@@ -170,7 +174,7 @@ pub fn run_figures(
         weight,
         ulae,
         &square,
-        &columns,
+        &sums,
         &paid,
         &factors.shares,
         &factors.levels,

@@ -20,19 +20,21 @@ below-zero x f h = go x f (rw (toZ-ofZ f) at h)
     go (pos n) g e = let z : n < 0 = ltb-true n 0 e in absurd (omega arith)
     go (negsuc n) g e = (n, refl, g .sfits)
 
-pub under-zero : (x : ℤ) → SFits w64 x → ltZ (toZ w64 (ofZ w64 x)) (pos 0) ≡ true → leZ (pos 0) x ≡ false
-under-zero x f t = let (n, e, h) = below-zero x f t in rw e
+-- so that the test whether it is at least 0 says no
+pub zero-test-no : (x : ℤ) → SFits w64 x → ltZ (toZ w64 (ofZ w64 x)) (pos 0) ≡ true → leZ (pos 0) x ≡ false
+zero-test-no x f t = let (n, e, h) = below-zero x f t in rw e
 
 -- a number not below 0 is a natural number
-pub above : (x : ℤ) → SFits w64 x → ltZ (toZ w64 (ofZ w64 x)) (pos 0) ≡ false → (n : ℕ) × (x ≡ pos n) × (n < 2 ^ 63)
-above x f h = go x f (rw (toZ-ofZ f) at h)
+pub not-below : (x : ℤ) → SFits w64 x → ltZ (toZ w64 (ofZ w64 x)) (pos 0) ≡ false → (n : ℕ) × (x ≡ pos n) × (n < 2 ^ 63)
+not-below x f h = go x f (rw (toZ-ofZ f) at h)
   where
     go : (z : ℤ) → SFits w64 z → ltZ z (pos 0) ≡ false → (n : ℕ) × (z ≡ pos n) × (n < 2 ^ 63)
     go (pos n) g e = (n, refl, g .sfits)
     go (negsuc n) g e = absurd (subst T e tt)
 
-pub from-zero : (x : ℤ) → SFits w64 x → ltZ (toZ w64 (ofZ w64 x)) (pos 0) ≡ false → leZ (pos 0) x ≡ true
-from-zero x f t = let (n, e, h) = above x f t in rw e (le-leb 0 n zero-le)
+-- so that the test says yes
+pub zero-test-yes : (x : ℤ) → SFits w64 x → ltZ (toZ w64 (ofZ w64 x)) (pos 0) ≡ false → leZ (pos 0) x ≡ true
+zero-test-yes x f t = let (n, e, h) = not-below x f t in rw e (le-leb 0 n zero-le)
 
 -- −(n + 1) and one more is −n
 suc-neg : (n : ℕ) → sucℤ (negsuc n) ≡ negℤ (pos n)

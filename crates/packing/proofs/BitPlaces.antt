@@ -7,9 +7,8 @@ use native.Mathlib.Omega.{arith}
 use lib.Dec.{lit<}
 use lib.ListN.{length, getD}
 use lib.Pow.{shl-exact, shr-shr, mod-pow-add, mod-mod-pow, field}
-use Rattle.rules.specs.Packing.{numberOf, bytesOf}
+use Rattle.rules.specs.Packing.{numberOf, bytesOf, Fit}
 use Rattle.packing.specs.Field.{fieldAt, rowAt}
-use Rattle.rules.specs.Packing.{Fit}
 use Rattle.laws.proofs.Lists.{getD-upTo}
 use Rattle.packing.proofs.Pack.{bytes-number, row-fields-are}
 

@@ -10,10 +10,9 @@ use lib.Dec.{lit<}
 use lib.ListN.{length, getD, take, replicate, length-append, length-replicate, replicate-append-replicate}
 use lib.Pow.{pow-add, pow-pos, shr-shr, high, mod-pow-add}
 use lib.Seq.{length-take-le, take-suc}
-use Rattle.rules.specs.Packing.{pack, unpack, numberOf, bytesOf}
+use Rattle.rules.specs.Packing.{pack, unpack, numberOf, bytesOf, Fit}
 use Rattle.rules.specs.Lists.{total, upTo}
 use Rattle.packing.specs.Field.{fieldAt, rowAt}
-use Rattle.rules.specs.Packing.{Fit}
 use Rattle.laws.proofs.Totals.{total-append}
 use Rattle.laws.proofs.Lists.{length-upTo, upTo-ext, upTo-cons}
 

@@ -2,9 +2,8 @@
 ghost use mathlib.Core.Path.{_≡_};
 ghost use Prim.Native.Nat.{_+_, _*_, _<_, _≤_, _%_, _^_, min};
 ghost use lib.ListN.{length, replicate};
-ghost use Rattle.rules.specs.Packing.{pack};
+ghost use Rattle.rules.specs.Packing.{pack, Fit};
 ghost use Rattle.packing.specs.Field.{fieldAt, FieldInside, Packable, PackedOn};
-ghost use Rattle.rules.specs.Packing.{Fit};
 
 // What is packed and not yet written: the first `count` bits of byte `at`, fewer than 8, as a number. The bytes before it are written.
 pub struct Pending {

@@ -8,10 +8,9 @@ use mathlib.Core.List.{List, [], _∷_, zipWith}
 use lib.IntN.{ℤ, pos, natAbs}
 use lib.ListN.{length, getD, drop}
 use lib.Pow.{high, shr-shr, shl-shr, shl-lt, shr-mod, split}
-use Rattle.rules.specs.Packing.{pack, unpack, numberOf}
+use Rattle.rules.specs.Packing.{pack, unpack, numberOf, Fit}
 use Rattle.rules.specs.Lists.{total}
 use Rattle.rules.specs.Record.{Kind, lastYear, layout, kindsOf, fieldCount, widths, bitCount, byteCount, fillingCount, valueOf, codeOf, bitsInRange, everyField, lastYearOf, codesOf, fillingOf, fieldsOf, recordOf}
-use Rattle.rules.specs.Packing.{Fit}
 use Rattle.packing.proofs.Pack.{Fits, pack-lt, unpack-pack, pack-unpack, unpack-fits, number-append, number-lt, bytes-number, number-bytes, length-bytes, bytes-small}
 use Rattle.layout.proofs.RecordSizes.{bytes-room, years-lt}
 use Rattle.record.proofs.Fields.{RecordFields, fields-coded, all-valued}

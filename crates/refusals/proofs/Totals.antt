@@ -1,4 +1,4 @@
--- The square and the totals of a record that question 7 refuses, and the words of its refusal. Assumes nothing.
+-- The words of a refusal: of question 7 by the totals, and of any other. Assumes nothing.
 use Prim.Native.Nat.{ℕ, _<_}
 use native.Mathlib.Omega.{arith}
 use borrow.Author.Tests.{eq-eqb, ne-eqb}
@@ -6,24 +6,13 @@ use mathlib.Core.Path.{_≡_}
 use mathlib.Core.List.{List}
 use lib.IntN.{ℤ, pos}
 use lib.ListN.{getD}
-use Rattle.rules.specs.Packing.{Fit}
 use Rattle.rules.specs.Lists.{upTo}
-use Rattle.rules.specs.Record.{figuresOf}
-use Rattle.rules.specs.Triangle.{columnTotal, diagonalTotal, ZeroOutside}
-use Rattle.rules.specs.Results.{squareOf}
+use Rattle.rules.specs.Triangle.{columnTotal, diagonalTotal}
 use Rattle.laws.proofs.Lists.{getD-upTo}
-use Rattle.triangle.specs.Columns.{Cells}
-use Rattle.engine.proofs.Before.{separable}
 use Rattle.wording.specs.Wording.{refusalText}
-use Rattle.outcomes.proofs.Passed.{Late, sound}
 use Rattle.reasons.specs.Reasons.{totalsReason}
 use Rattle.reasons.proofs.Below.{reason-same}
 use Rattle.refusals.specs.Refusal.{totalsRefusal, refusalOf}
-
-module _ (s : List ℕ) (run : Late s) where
-  -- the columns and diagonals of its square can be added up
-  pub square-ready : Fit 8 s → (k : ℕ) (q : List (List ℤ)) → k ≡ figuresOf s .k → q ≡ squareOf (figuresOf s) → Cells q × (ZeroOutside q k × (k < 16))
-  square-ready h k q ek e = let good = separable (figuresOf s) q e (sound s run h) in rw ek (good .1 .0, (good .1 .1, good .0))
 
 -- the reason by the totals in the arrays is that by the totals of the square
 pub reason-is : (q : List (List ℤ)) (k m : ℕ) (c d : List ℤ) → k ≡ m → k < 16

@@ -1,44 +1,24 @@
 // The words of a refusal of a record in a lent buffer: of question 7 with its reason.
 use composing::put_bytes;
-use outcomes::fill_square;
+use outcomes::read_again;
 use reading::last_year_of;
 use reasons::put_totals_reason;
-use triangle::fill_columns;
-use triangle::fill_diagonals;
 use wording::put_refusal;
 ghost use mathlib.Core.Path.{_≡_};
-ghost use lib.IntN.{pos};
-ghost use lib.ListN.{replicate};
-ghost use Rattle.rules.specs.Lists.{upTo};
-ghost use Rattle.rules.specs.Record.{figuresOf};
-ghost use Rattle.rules.specs.Triangle.{columnTotal, diagonalTotal};
-ghost use Rattle.rules.specs.Results.{squareOf, mostEntries};
+ghost use Rattle.rules.specs.Results.{mostEntries};
 ghost use Rattle.rules.specs.Engine.{runAnswer};
 ghost use Rattle.composing.specs.Text.{Put};
 ghost use Rattle.refusals.specs.Refusal.{totalsRefusal, refusalOf};
-
-// The totals of the columns and of the diagonals of a record that question 7 refuses.
-fn fill_totals(packed: &[u8], columns: &mut [i64; 16], diagonals: &mut [i64; 16])
-    requires { ⌜ (runAnswer (now packed) mostEntries ≡ 7) × ((now columns ≡ replicate 16 (pos 0)) × (now diagonals ≡ replicate 16 (pos 0))) ⌝ }
-    ensures { λ _. ⌜ (now (columns .exit) ≡ upTo (columnTotal (squareOf (figuresOf (now (packed .entry))))) 16)
-        × (now (diagonals .exit) ≡ upTo (diagonalTotal (squareOf (figuresOf (now (packed .entry))))) 16) ⌝ }
-{
-    let mut square = [[0i64; 16]; 16];
-    let mut paid = [0u64; 16];
-    fill_square(packed, &mut square, &mut paid);
-    let k = last_year_of(packed);
-    fill_columns(&square, k, columns);
-    fill_diagonals(&square, diagonals);
-}
 
 // The line of question 7's refusal.
 fn put_totals_refusal(out: &mut [u8], at: usize, packed: &[u8]) -> usize
     requires { ⌜ runAnswer (now packed) mostEntries ≡ 7 ⌝ }
     ensures { λ r. ⌜ Put (now (out .entry)) (now (out .exit)) at r (totalsRefusal (now (packed .entry))) ⌝ }
 {
+    let mut paid = [0u64; 16];
     let mut columns = [0i64; 16];
     let mut diagonals = [0i64; 16];
-    fill_totals(packed, &mut columns, &mut diagonals);
+    read_again(packed, &mut paid, &mut columns, &mut diagonals);
     let k = last_year_of(packed);
     let a = put_bytes(out, at, b"refused 7: ");
     let b = put_totals_reason(out, a, &columns, &diagonals, k);

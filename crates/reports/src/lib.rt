@@ -2,7 +2,7 @@
 use engine::doonamurk_run;
 use entries::size_of;
 use listing::starts_of;
-use outcomes::fill_square;
+use outcomes::read_again;
 use page::put_page;
 use reading::last_year_of;
 use refusals::put_refused;
@@ -31,8 +31,9 @@ fn fill_paid(packed: &[u8], paid: &mut [u64; 16])
     requires { ⌜ (runAnswer (now packed) mostEntries ≡ 0) × (now paid ≡ replicate 16 0) ⌝ }
     ensures { λ _. ⌜ (now (paid .exit) ≡ paidBy (now (packed .entry))) × Addable (now (paid .exit)) ⌝ }
 {
-    let mut square = [[0i64; 16]; 16];
-    fill_square(packed, &mut square, paid);
+    let mut columns = [0i64; 16];
+    let mut diagonals = [0i64; 16];
+    read_again(packed, paid, &mut columns, &mut diagonals);
 }
 
 // The chain ladder's ultimates by origin year, the last completed cumulative of each; p is where those cumulatives start in the list.

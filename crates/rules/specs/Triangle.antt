@@ -1,5 +1,5 @@
--- Averages and sums (document 01, with the halves of request 4 of document 02): the cumulatives and averages of a triangle of increments, the averages in a square of sixteen rows of sixteen,
--- and the totals over it. Question 6. Assumes nothing.
+-- Averages and sums (document 01, with the halves of request 4 of document 02 and the pass by row of request 2): the cumulatives and averages of a triangle of
+-- increments, the averages in a square of sixteen rows of sixteen, and the totals over it. Question 6. Assumes nothing.
 use Prim.Native.Nat.{ℕ, zero, suc, _+_, _-_, _*_, _/_, _%_, _<_}
 use mathlib.Core.Path.{_≡_}
 use mathlib.Core.Bool.{Bool, true, _&&_, _||_, cond}
@@ -93,6 +93,23 @@ columnTotal s c = cellsTotal (λ i j. eqb j c) s
 -- d_h, the total of the cells with i + j = h
 unfoldable pub diagonalTotal : List (List ℤ) → ℕ → ℤ
 diagonalTotal s h = cellsTotal (λ i j. eqb (i + j) h) s
+
+-- v and d are the totals of the columns and of the diagonals of s
+abbrev pub TotalsIn : List (List ℤ) → List ℤ → List ℤ → Type 0
+TotalsIn s v d = (v ≡ upTo (columnTotal s) 16) × (d ≡ upTo (diagonalTotal s) 16)
+
+-- the square as far as a pass by row has come: the cells of the rows before i and the first m cells of row i, every other cell counted as zero
+unfoldable pub soFar : List (List ℤ) → ℕ → ℕ → List (List ℤ)
+soFar s i m = upTo (λ r. upTo (λ c. cond (ltb r i || (eqb r i && ltb c m)) (cellOf s r c) (pos 0)) 16) 16
+
+-- v and d are the totals of the cells passed so far: of the rows before i and the first m cells of row i
+abbrev pub TotalsSoFar : List (List ℤ) → ℕ → ℕ → List ℤ → List ℤ → Type 0
+TotalsSoFar s i m v d = TotalsIn (soFar s i m) v d
+
+-- after the cell in row i and column j: for every square with this cell, where v and d were the totals of the cells before it, w and e are those of the cells
+-- passed so far
+abbrev pub CellPassed : ℤ → ℕ → ℕ → List ℤ → List ℤ → List ℤ → List ℤ → Type 0
+CellPassed cell i j v d w e = (s : List (List ℤ)) → cellOf s i j ≡ cell → TotalsSoFar s i j v d → TotalsSoFar s i (j + 1) w e
 
 -- T_h, the total of the cells with column at most h and diagonal at least h
 unfoldable pub cornerTotal : List (List ℤ) → ℕ → ℤ

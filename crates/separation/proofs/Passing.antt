@@ -16,7 +16,7 @@ use mir.Facts.{toZ-ofZ}
 use Rattle.rules.specs.Lists.{total, upTo, below, every}
 use Rattle.rules.specs.Triangle.{sumTo}
 use Rattle.rules.specs.Separation.{billion}
-use Rattle.triangle.specs.Columns.{mostAverage}
+use Rattle.totals.specs.CellSizes.{mostTotal}
 use Rattle.laws.proofs.Lists.{every-next, fails-at, every-upTo, stored}
 use Rattle.laws.proofs.Signed.{held}
 use Rattle.laws.proofs.Totals.{total-more, sumTo-pos}
@@ -26,7 +26,7 @@ use Rattle.separation.specs.Walk.{SizesOf}
 module _ (x : ℤ) (fits : SFits w64 x) where
   -- a total not below zero is a whole number of 64 bits
   pub whole : ltZ (held x) (pos 0) ≡ false → T (nonNeg (held x)) × Fits w64 (natAbs (held x))
-  whole t = let (n, e, h) = signs.above x fits t in rw (e, signs.natural-held n h) (tt, record { fits = omega arith })
+  whole t = let (n, e, h) = signs.not-below x fits t in rw (e, signs.natural-held n h) (tt, record { fits = omega arith })
 
 -- whether total i is not below zero
 abbrev least : List ℤ → ℕ → Bool
@@ -47,7 +47,7 @@ pub record TotalsDone (columns diagonals : List ℤ) (n : ℕ) (v d : List ℕ) 
   pub v-sizes : SizesOf i columns v
   pub d-sizes : SizesOf i diagonals d
   pub sum-is : sum ≡ total (upTo (λ j. natAbs (getD columns j (pos 0))) i)
-  pub sum-most : sum ≤ i * (16 * mostAverage)
+  pub sum-most : sum ≤ i * mostTotal
 
 module _ (columns diagonals : List ℤ) (n : ℕ) (v d : List ℕ) where
   -- before the first total
@@ -67,15 +67,15 @@ module _ (columns diagonals : List ℤ) (n : ℕ) (v d : List ℕ) where
 
   -- a column is below zero, or a diagonal
   pub column-fails : (i : ℕ) → i < n → SFits w64 (getD columns i (pos 0)) → ltZ (held (getD columns i (pos 0))) (pos 0) ≡ true → totalsPassing columns diagonals n ≡ false
-  column-fails i l fits t = rw (fails-at (least columns) (λ (j : ℕ). j) n i l (signs.under-zero (getD columns i (pos 0)) fits t))
+  column-fails i l fits t = rw (fails-at (least columns) (λ (j : ℕ). j) n i l (signs.zero-test-no (getD columns i (pos 0)) fits t))
 
   pub diagonal-fails : (i : ℕ) → i < n → SFits w64 (getD diagonals i (pos 0)) → ltZ (held (getD diagonals i (pos 0))) (pos 0) ≡ true → totalsPassing columns diagonals n ≡ false
-  diagonal-fails i l fits t = rw (fails-at (least diagonals) (λ (j : ℕ). j) n i l (signs.under-zero (getD diagonals i (pos 0)) fits t)) (and-false (every (least columns) (below n)))
+  diagonal-fails i l fits t = rw (fails-at (least diagonals) (λ (j : ℕ). j) n i l (signs.zero-test-no (getD diagonals i (pos 0)) fits t)) (and-false (every (least columns) (below n)))
 
   module _ (sum i : ℕ) (done : TotalsDone columns diagonals n v d sum i) where
     -- one total more of each
     pub more : i < n → n ≤ 16 → SFits w64 (getD columns i (pos 0)) → ltZ (held (getD columns i (pos 0))) (pos 0) ≡ false
-        → SFits w64 (getD diagonals i (pos 0)) → ltZ (held (getD diagonals i (pos 0))) (pos 0) ≡ false → natAbs (getD columns i (pos 0)) ≤ 16 * mostAverage
+        → SFits w64 (getD diagonals i (pos 0)) → ltZ (held (getD diagonals i (pos 0))) (pos 0) ≡ false → natAbs (getD columns i (pos 0)) ≤ mostTotal
         → TotalsDone columns diagonals n (set v i (natAbs (held (getD columns i (pos 0))))) (set d i (natAbs (held (getD diagonals i (pos 0))))) (sum + natAbs (held (getD columns i (pos 0)))) (i + 1)
     more l few a s b t small =
         let column = ap natAbs (toZ-ofZ a) in
@@ -84,8 +84,8 @@ module _ (columns diagonals : List ℤ) (n : ℕ) (v d : List ℕ) where
           count = omega arith;
           v-long = length-set v i _ ∙ done .v-long;
           d-long = length-set d i _ ∙ done .d-long;
-          columns-pass = every-next (least columns) (λ (j : ℕ). j) i (done .columns-pass) (signs.from-zero (getD columns i (pos 0)) a s);
-          diagonals-pass = every-next (least diagonals) (λ (j : ℕ). j) i (done .diagonals-pass) (signs.from-zero (getD diagonals i (pos 0)) b t);
+          columns-pass = every-next (least columns) (λ (j : ℕ). j) i (done .columns-pass) (signs.zero-test-yes (getD columns i (pos 0)) a s);
+          diagonals-pass = every-next (least diagonals) (λ (j : ℕ). j) i (done .diagonals-pass) (signs.zero-test-yes (getD diagonals i (pos 0)) b t);
           v-sizes = λ j m. stored v i _ 0 (λ c. natAbs (getD columns c (pos 0))) (omega (arith, done .v-long)) column j (λ ne. done .v-sizes j (omega (arith, ne)));
           d-sizes = λ j m. stored d i _ 0 (λ c. natAbs (getD diagonals c (pos 0))) (omega (arith, done .d-long)) diagonal j (λ ne. done .d-sizes j (omega (arith, ne)));
           sum-is = rw (add-one i) (omega (arith, column, done .sum-is, total-more (λ j. natAbs (getD columns j (pos 0))) i));

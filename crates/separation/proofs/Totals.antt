@@ -1,22 +1,14 @@
--- The totals of a square: how large they are, and that the walk can be made over them. Assumes nothing.
+-- The walk can be made over the totals of a square. Assumes nothing.
 use mathlib.Core.Path.{_≡_}
 use mathlib.Core.Bool.{true}
 use mathlib.Core.List.{List}
-use Prim.Native.Nat.{ℕ, suc, _-_, _*_, _≤_, _<_}
+use Prim.Native.Nat.{ℕ, suc, _-_}
 use native.Mathlib.Omega.{arith}
-use lib.IntN.{ℤ, natAbs}
-use Rattle.rules.specs.Triangle.{cellOf, columnTotal}
+use lib.IntN.{ℤ}
 use Rattle.rules.specs.Separation.{restsPass}
-use Rattle.laws.proofs.Adding.{sumTo-size}
-use Rattle.triangle.specs.Columns.{mostAverage, Cells}
 use Rattle.totals.proofs.TotalsMost.{diagonal-most, corner-most}
-use Rattle.totals.proofs.Walk.{column-walk}
 use Rattle.totals.proofs.Whole.{totals}
 use Rattle.separation.specs.Walk.{TotalsOf, CornersOf, Ready}
-
--- sixteen cells at most are in a column
-pub column-small : (s : List (List ℤ)) → Cells s → (j : ℕ) → j < 16 → natAbs (columnTotal s j) ≤ 16 * mostAverage
-column-small s cells j l = rw (column-walk s j l) (sumTo-size (λ i. cellOf s i j) mostAverage (λ i. cells i j) 16)
 
 -- what the walk asks, where question 8 says yes
 pub ready : (s : List (List ℤ)) (k : ℕ) (v d t : List ℕ) → TotalsOf s k v d → restsPass s k ≡ true → CornersOf s k t → Ready v d t k

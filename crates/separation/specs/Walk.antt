@@ -6,9 +6,16 @@ use mathlib.Core.List.{List}
 use lib.IntN.{ℤ, pos, natAbs}
 use lib.ListN.{getD, set}
 use Rattle.rules.specs.Lists.{upTo, padded}
-use Rattle.rules.specs.Triangle.{ZeroOutside}
+use Rattle.rules.specs.Triangle.{ZeroOutside, TotalsIn}
 use Rattle.rules.specs.Separation.{billion, columnOf, diagonalOf, cornerOf, runningOf, shareOf, levelOf, totalsPass, restsPass}
 use Rattle.rules.specs.declared.Factors.{Factors}
+use Rattle.totals.specs.CellSizes.{Cells}
+
+-- these are the totals of the columns and of the diagonals of s, a square of the years 0 to k whose cells are within their limit
+pub record Summed (s : List (List ℤ)) (k : ℕ) (columns diagonals : List ℤ) : Type 0 where
+  pub cells : Cells s
+  pub outside : ZeroOutside s k
+  pub totals : TotalsIn s columns diagonals
 
 -- the first n numbers of v are the sizes of those of z
 abbrev pub SizesOf : ℕ → List ℤ → List ℕ → Type 0

@@ -1,15 +1,14 @@
-// Taylor's separation: shares and levels from a square of averages and k alone, under questions 7 to 10.
+// Taylor's separation: shares and levels from a square of averages, or from its totals, and k alone, under questions 7 to 10.
 use entries::within;
 use rules::ACCEPTED;
 use rules::BILLION;
 use rules::Factors;
-use triangle::fill_columns;
-use triangle::fill_diagonals;
+use totals::fill_totals;
 ghost use mathlib.Core.Path.{_≡_};
 ghost use mathlib.Core.Bool.{true, _&&_};
-ghost use mathlib.Core.List.{[], _∷_};
+ghost use mathlib.Core.List.{List, [], _∷_};
 ghost use Prim.Native.Nat.{ℕ, _+_, _-_, _*_, _/_, _≤_, _<_};
-ghost use lib.IntN.{pos, natAbs};
+ghost use lib.IntN.{ℤ, pos, natAbs};
 ghost use lib.Dec.{leb};
 ghost use lib.ListN.{length, getD, take};
 ghost use lib.Signed.{leZ};
@@ -17,8 +16,8 @@ ghost use Rattle.rules.specs.Lists.{below, every, between};
 ghost use Rattle.rules.specs.Triangle.{sumTo, ZeroOutside};
 ghost use Rattle.rules.specs.Questions.{firstNo};
 ghost use Rattle.rules.specs.Separation.{billion, noFactors, separateAnswer, separated};
-ghost use Rattle.triangle.specs.Columns.{mostAverage, Cells};
-ghost use Rattle.separation.specs.Walk.{SizesOf, CornersFound, Ready, FactorsFound, withYear};
+ghost use Rattle.totals.specs.CellSizes.{Cells, mostTotal};
+ghost use Rattle.separation.specs.Walk.{Summed, SizesOf, CornersFound, Ready, FactorsFound, withYear};
 
 // The number that the separation answers, and the factors: zeros where it is not 0.
 pub struct Separation {
@@ -35,7 +34,7 @@ fn totals_pass(
     d: &mut [u64; 16],
 ) -> bool
     requires { ⌜ (n ≤ 16)
-        × (((i : ℕ) → i < n → natAbs (getD (now columns) i (pos 0)) ≤ 16 * mostAverage) × ((length (now v) ≡ 16) × (length (now d) ≡ 16))) ⌝ }
+        × (((i : ℕ) → i < n → natAbs (getD (now columns) i (pos 0)) ≤ mostTotal) × ((length (now v) ≡ 16) × (length (now d) ≡ 16))) ⌝ }
     ensures { λ r. ⌜ (r ≡ every (λ i. leZ (pos 0) (getD (now (columns .entry)) i (pos 0))) (below n)
         && (every (λ i. leZ (pos 0) (getD (now (diagonals .entry)) i (pos 0))) (below n)
         && leZ (sumTo (λ i. getD (now (columns .entry)) i (pos 0)) n) (pos billion)))
@@ -195,18 +194,15 @@ fn factors_answer<'a>(shares: &'a [u64; 16], levels: &'a [u64; 16], k: usize) ->
     ACCEPTED
 }
 
-// Shares and levels of the years 0 to k from a square of averages, or the number of the first of questions 7, 8, 9 and 10 that says no.
-pub fn separate(square: &[[i64; 16]; 16], k: usize) -> Separation
-    requires { ⌜ (k < 16) × (Cells (now square) × ZeroOutside (now square) k) ⌝ }
-    ensures { λ r. ⌜ (r .answer ≡ separateAnswer (now (square .entry)) k) × (r .factors ≡ separated (now (square .entry)) k) ⌝ }
+// Shares and levels of the years 0 to k from the totals of a square of averages, or the number of the first of questions 7, 8, 9 and 10 that says no.
+pub fn separate_totals(columns: &[i64; 16], diagonals: &[i64; 16], k: usize) -> Separation
+    requires { ⌜ (k < 16) × ((s : List (List ℤ)) × Summed s k (now columns) (now diagonals)) ⌝ }
+    ensures { λ r. ⌜ ((s : List (List ℤ)) → Summed s k (now (columns .entry)) (now (diagonals .entry))
+        → (r .answer ≡ separateAnswer s k) × (r .factors ≡ separated s k)) ⌝ }
 {
-    let mut columns = [0i64; 16];
-    let mut diagonals = [0i64; 16];
-    fill_columns(square, k, &mut columns);
-    fill_diagonals(square, &mut diagonals);
     let mut v = [0u64; 16];
     let mut d = [0u64; 16];
-    if !totals_pass(&columns, &diagonals, k + 1, &mut v, &mut d) {
+    if !totals_pass(columns, diagonals, k + 1, &mut v, &mut d) {
         return refused(7, k);
     }
     let mut corners = [0u64; 16];
@@ -220,4 +216,15 @@ pub fn separate(square: &[[i64; 16]; 16], k: usize) -> Separation
         return refused(answer, k);
     }
     Separation { answer, factors: f }
+}
+
+// The same of any square of averages: its totals are formed first.
+pub fn separate(square: &[[i64; 16]; 16], k: usize) -> Separation
+    requires { ⌜ (k < 16) × (Cells (now square) × ZeroOutside (now square) k) ⌝ }
+    ensures { λ r. ⌜ (r .answer ≡ separateAnswer (now (square .entry)) k) × (r .factors ≡ separated (now (square .entry)) k) ⌝ }
+{
+    let mut columns = [0i64; 16];
+    let mut diagonals = [0i64; 16];
+    fill_totals(square, k, &mut columns, &mut diagonals);
+    separate_totals(&columns, &diagonals, k)
 }

@@ -8,10 +8,9 @@ use native.Mathlib.Decide.{decLe, ℕ-discrete}
 use lib.Dec.{leb, eqb}
 use lib.IntN.{ℤ, pos, _+ℤ_, +ℤ-comm}
 use borrow.Author.Tests.{le-leb, lt-leb}
-use Rattle.rules.specs.Triangle.{cellOf, columnTotal, diagonalTotal, cornerTotal}
+use Rattle.rules.specs.Triangle.{cellOf, columnTotal, diagonalTotal, cornerTotal, ZeroOutside}
 use Rattle.laws.proofs.Sums.{passed, left-out, zero-term, passed-eq, left-out-eq}
 use Rattle.totals.proofs.Cells.{cells-same, cells-pairs}
-use Rattle.rules.specs.Triangle.{ZeroOutside}
 
 -- whether a cell counts towards T_h
 abbrev counts : ℕ → ℕ → ℕ → Bool

@@ -4,3 +4,4 @@ pub mod Walk
 pub mod Whole
 pub mod TotalsMost
 pub mod Square
+pub mod SoFar

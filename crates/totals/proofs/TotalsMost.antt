@@ -7,11 +7,10 @@ use native.Mathlib.Nat.{le-refl, le-trans, mul-le-mul-left, le-of-mul-le-mul-rig
 use native.Mathlib.Omega.{arith}
 use lib.IntN.{ℤ, pos}
 use Rattle.rules.specs.Lists.{total, upTo}
-use Rattle.rules.specs.Triangle.{columnTotal, diagonalTotal, allTotal}
+use Rattle.rules.specs.Triangle.{columnTotal, diagonalTotal, allTotal, ZeroOutside}
 use Rattle.rules.specs.Separation.{billion, columnOf, diagonalOf, cornerOf, runningDown, runningOf, totalsPass, restsPass, levelOf}
 use Rattle.laws.proofs.Diff.{is-pos, is-add, is-eqs, is-le}
 use Rattle.laws.proofs.Totals.{total-at, total-part, sumTo-pos}
-use Rattle.rules.specs.Triangle.{ZeroOutside}
 use Rattle.totals.proofs.Walk.{all-columns-to, all-diagonals, corner-sums}
 use Rattle.totals.proofs.Whole.{all-most, column-is, diagonal-is, corner-is}
 

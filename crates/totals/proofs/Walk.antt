@@ -1,42 +1,21 @@
--- The totals as a walk over the square sums them: a column and a diagonal row by row, the whole by columns or by diagonals, and T_h by both.
--- Assumes nothing.
+-- A column row by row, the whole by columns or by diagonals, and T_h by both. Assumes nothing.
 use mathlib.Core.Path.{_≡_, sym, _∙_, ap}
-use mathlib.Core.Bool.{Bool, cond}
+use mathlib.Core.Bool.{cond}
 use mathlib.Core.List.{List}
-use Prim.Native.Nat.{ℕ, zero, suc, _+_, _-_, _<_}
+use Prim.Native.Nat.{ℕ, zero, suc, _<_}
 use native.Mathlib.Omega.{arith}
 use native.Mathlib.Decide.{ℕ-discrete}
 use lib.Dec.{eqb}
 use lib.IntN.{ℤ, pos, _+ℤ_, +ℤ-idl, +ℤ-idr, +ℤ-assoc, +ℤ-comm}
-use Rattle.rules.specs.Triangle.{cellOf, sumTo, cellsTotal, columnTotal, diagonalTotal, cornerTotal, allTotal}
-use Rattle.laws.proofs.Sums.{sumTo-same, sumTo-zero, sumTo-one, sumTo-cut, sumTo-turn, zero-term, passed-eq, left-out-eq}
-use Rattle.totals.proofs.Cells.{cellsPassing, cells-zero}
-use Rattle.rules.specs.Triangle.{ZeroOutside}
+use Rattle.rules.specs.Triangle.{cellOf, sumTo, cellsTotal, ZeroOutside, columnTotal, diagonalTotal, cornerTotal, allTotal}
+use Rattle.laws.proofs.Sums.{sumTo-same, sumTo-one, sumTo-cut, sumTo-turn, zero-term, left-out-eq}
+use Rattle.totals.proofs.Cells.{cells-zero}
 use Rattle.totals.proofs.Corners.{corner-down, corner-first, corner-last}
 
 -- column j is s 0 j + .. + s 15 j
-pub column-walk : (s : List (List ℤ)) (j : ℕ) → j < 16 → columnTotal s j ≡ sumTo (λ i. cellOf s i j) 16
+column-walk : (s : List (List ℤ)) (j : ℕ) → j < 16 → columnTotal s j ≡ sumTo (λ i. cellOf s i j) 16
 unfolding columnTotal cellsTotal
 column-walk s j lt = sumTo-same _ _ 16 (λ i l. sumTo-one (cellOf s i) j 16 lt)
-
--- whether a cell is on diagonal h
-abbrev on : ℕ → ℕ → ℕ → Bool
-on h i j = eqb (i + j) h
-
--- diagonal h is s 0 h + s 1 (h − 1) + .. + s h 0
-pub diagonal-walk : (s : List (List ℤ)) (h : ℕ) → h < 16 → diagonalTotal s h ≡ sumTo (λ i. cellOf s i (h - i)) (suc h)
-unfolding diagonalTotal cellsTotal
-diagonal-walk s h lt =
-    sumTo-cut (λ i. sumTo (cellsPassing s (on h) i) 16) (suc h) 16 lt
-    (λ i l. sumTo-zero (cellsPassing s (on h) i) 16 (λ j m. left-out-eq (i + j) h (cellOf s i j) (λ q. omega arith)))
-    ∙ sumTo-same (λ i. sumTo (cellsPassing s (on h) i) 16) (λ i. cellOf s i (h - i)) (suc h)
-    (λ i l.
-    sumTo-same (cellsPassing s (on h) i) (λ j. cond (eqb j (h - i)) (cellOf s i j) (pos 0)) 16 (λ j m. same i j l (ℕ-discrete (i + j) h))
-    ∙ sumTo-one (cellOf s i) (h - i) 16 (omega arith))
-  where
-    same : (i j : ℕ) → i < suc h → Dec (i + j ≡ h) → cond (eqb (i + j) h) (cellOf s i j) (pos 0) ≡ cond (eqb j (h - i)) (cellOf s i j) (pos 0)
-    same i j l (yes e) = passed-eq (i + j) h (cellOf s i j) e ∙ sym (passed-eq j (h - i) (cellOf s i j) (omega arith))
-    same i j l (no e) = left-out-eq (i + j) h (cellOf s i j) e ∙ sym (left-out-eq j (h - i) (cellOf s i j) (λ q. e (omega arith)))
 
 -- the whole by columns
 pub all-columns : (s : List (List ℤ)) → allTotal s ≡ sumTo (columnTotal s) 16

@@ -10,11 +10,10 @@ use lib.Dec.{T}
 use lib.IntN.{ℤ, pos, negsuc, natAbs, _-ℤ_}
 use lib.Signed.{_≤ℤ_, leZ, leZ-yes, yes-nonNeg, pos-natAbs}
 use Rattle.rules.specs.Lists.{every}
-use Rattle.rules.specs.Triangle.{columnTotal, diagonalTotal, cornerTotal, allTotal}
+use Rattle.rules.specs.Triangle.{columnTotal, diagonalTotal, cornerTotal, allTotal, ZeroOutside}
 use Rattle.rules.specs.Separation.{billion, columnOf, diagonalOf, cornerOf, years0, totalsPass, restsPass}
 use Rattle.laws.proofs.Diff.{is-self, is-pos, is-add, is-minus, is-eqs, is-le}
 use Rattle.laws.proofs.Lists.{every-upTo}
-use Rattle.rules.specs.Triangle.{ZeroOutside}
 use Rattle.totals.proofs.Corners.{corner-down, corner-first, corner-last}
 
 -- columns v, diagonals d and T of the years 0 to k, in whole numbers: T_k = d_k, T_{h−1} = T_h − v_h + d_{h−1}, T_0 = v_0, and T_h − v_h at least 1

@@ -14,7 +14,7 @@ use mir.ValLaws.{toZ-pos}
 use mir.Facts.{toZ-ofZ}
 use Rattle.rules.specs.Record.{signedOf, signOf, million, mostAmount}
 use Rattle.rules.specs.Triangle.{nearest, averageOf}
-use Rattle.triangle.specs.Columns.{mostAverage}
+use Rattle.totals.specs.CellSizes.{mostAverage}
 use Rattle.laws.proofs.Signed.{held, size-fits, size-most, signed-size, times-size, signed-quotient, signed-remainder, signed-zero, sign-again}
 use Rattle.triangle.proofs.Halves.{apart, even, nearest-least}
 

@@ -7,7 +7,8 @@ use lib.IntN.{ℤ, natAbs}
 use lib.ListN.{getD}
 use Rattle.rules.specs.Triangle.{paidOf, averagesOf, cellOf}
 use Rattle.totals.proofs.Square.{cell-inside, zero-outside}
-use Rattle.triangle.specs.Columns.{Increments, Exposures, mostAverage, Cells}
+use Rattle.totals.specs.CellSizes.{mostAverage, Cells}
+use Rattle.triangle.specs.Columns.{Increments, Exposures}
 use Rattle.triangle.proofs.Rounding.{average-most}
 use Rattle.triangle.proofs.Cumulatives.{increment-most}
 

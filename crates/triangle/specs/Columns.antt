@@ -1,12 +1,12 @@
--- What question 4 has shown of the increments and exposures, how large a cell of a square may be, the sums of the columns of the given cumulatives and
--- of the averages, row by row, and how many rows pass question 6. Assumes nothing.
-use Prim.Native.Nat.{ℕ, _+_, _*_, _≤_}
+-- What question 4 has shown of the increments and exposures, the sums of the columns of the given cumulatives row by row, and how many rows pass question 6.
+-- Assumes nothing.
+use Prim.Native.Nat.{ℕ, _+_, _≤_}
 use mathlib.Core.Bool.{cond}
 use mathlib.Core.List.{List}
 use lib.Dec.{leb}
 use lib.IntN.{ℤ, pos, natAbs}
 use Rattle.rules.specs.Lists.{total, upTo}
-use Rattle.rules.specs.Triangle.{rowPasses, givenCumulative, cellOf, sumTo}
+use Rattle.rules.specs.Triangle.{rowPasses, givenCumulative}
 use Rattle.entries.specs.Leading.{leading}
 use lib.ListN.{getD}
 use Rattle.rules.specs.Record.{million, mostAmount}
@@ -23,10 +23,6 @@ columnSum k p rows j = total (upTo (λ i. cumulativeIn k p i j) rows)
 unfoldable pub rowsPassing : ℕ → List ℤ → ℕ
 rowsPassing k p = leading (rowPasses k p) (k + 1)
 
--- the sum of the cells of column j over the first rows of a square
-unfoldable pub columnTo : List (List ℤ) → ℕ → ℕ → ℤ
-columnTo s rows j = sumTo (λ i. cellOf s i j) rows
-
 -- no increment's size is above 10^10
 abbrev pub Increments : List ℤ → Type 0
 Increments p = (i : ℕ) → natAbs (getD p i (pos 0)) ≤ mostAmount
@@ -34,11 +30,3 @@ Increments p = (i : ℕ) → natAbs (getD p i (pos 0)) ≤ mostAmount
 -- the exposures of the years 0 to k are from 1 to 1,000,000
 abbrev pub Exposures : ℕ → List ℕ → Type 0
 Exposures k n = (i : ℕ) → i ≤ k → (1 ≤ getD n i 0) × (getD n i 0 ≤ million)
-
--- the most of an average's size: 100 × 10^10 over one claim
-abbrev pub mostAverage : ℕ
-mostAverage = 100 * mostAmount
-
--- no cell's size is above it
-abbrev pub Cells : List (List ℤ) → Type 0
-Cells s = (i j : ℕ) → natAbs (cellOf s i j) ≤ mostAverage

@@ -1,15 +1,17 @@
-// The averages of a triangle in a square, the totals of its columns and diagonals, and question 6.
+// The averages of a triangle in a square, the totals of the averages' columns and diagonals, the sums of the cumulatives' columns, the paid cumulatives, and question 6.
 use rules::MOST_CUMULATIVE;
+use totals::add_cell;
 ghost use mathlib.Core.Path.{_≡_};
 ghost use mathlib.Core.Bool.{true};
-ghost use Prim.Native.Nat.{ℕ, _+_, _-_, _*_, _≤_, _<_};
+ghost use Prim.Native.Nat.{_+_, _-_, _*_, _≤_, _<_};
 ghost use lib.IntN.{pos, natAbs};
-ghost use lib.ListN.{replicate};
+ghost use lib.ListN.{getD, replicate};
 ghost use lib.Seq.{sets};
 ghost use Rattle.rules.specs.Lists.{upTo, below, every, padded};
 ghost use Rattle.rules.specs.Record.{signedOf, signOf, million, mostAmount};
-ghost use Rattle.rules.specs.Triangle.{rowStart, paidOf, rowPasses, cumulativesPass, paidTo, averageOf, averageRow, ZeroOutside, columnTotal, diagonalTotal};
-ghost use Rattle.triangle.specs.Columns.{Increments, Exposures, mostAverage, Cells, columnSum, rowsPassing, columnTo};
+ghost use Rattle.rules.specs.Triangle.{rowStart, paidOf, rowPasses, cumulativesPass, paidTo, averageOf, averageRow, averagesOf, TotalsSoFar, CellPassed};
+ghost use Rattle.totals.specs.CellSizes.{mostAverage, TotalsSmall};
+ghost use Rattle.triangle.specs.Columns.{Increments, Exposures, columnSum, rowsPassing};
 
 // 200 × paid with the claims added away from zero: over twice the claims, toward zero, that is the average with halves away from zero.
 fn dividend(paid: i64, claims: u64) -> i64
@@ -74,13 +76,34 @@ fn row_passes(increments: &[i64; 136], k: usize, i: usize, at: usize) -> bool
     true
 }
 
-// The averages of row i, which passes, go into a row of the square, and its cumulatives are added to the sums of their columns over the rows before it;
-// its paid cumulative.
+// The average of the increment in row i and column j, added to the totals of its column and of its diagonal (totals::add_cell).
+fn add_average(
+    paid: i64,
+    claims: u64,
+    i: usize,
+    j: usize,
+    columns: &mut [i64; 16],
+    diagonals: &mut [i64; 16],
+) -> i64
+    requires { ⌜ ((natAbs paid ≤ mostAmount) × ((1 ≤ claims) × (claims ≤ million)))
+        × ((i + j < 16) × (TotalsSmall (now columns) × TotalsSmall (now diagonals))) ⌝ }
+    ensures { λ r. ⌜ (r ≡ averageOf paid claims)
+        × CellPassed (averageOf paid claims) i j (now (columns .entry)) (now (diagonals .entry)) (now (columns .exit)) (now (diagonals .exit)) ⌝ }
+{
+    let cell = average(paid, claims);
+    add_cell(cell, i, j, columns, diagonals);
+    cell
+}
+
+// The averages of row i, which passes question 6, go into a row of the square and are added to the totals of their columns and diagonals; its cumulatives are added to
+// the sums of their columns over the rows before it. Answers its paid cumulative.
 fn fill_row(
     row: &mut [i64; 16],
-    columns: &mut [u64; 16],
+    sums: &mut [u64; 16],
+    columns: &mut [i64; 16],
+    diagonals: &mut [i64; 16],
     increments: &[i64; 136],
-    claims: u64,
+    exposures: &[u64; 16],
     k: usize,
     i: usize,
     at: usize,
@@ -89,96 +112,74 @@ fn fill_row(
         × ((k < 16)
         × ((i ≤ k)
         × ((at ≡ rowStart k i)
-        × ((1 ≤ claims)
-        × ((claims ≤ million)
-        × ((every (rowPasses k (now increments)) (below (i + 1)) ≡ true) × (now columns ≡ upTo (columnSum k (now increments) i) 16))))))) ⌝ }
+        × (Exposures k (now exposures)
+        × ((every (rowPasses k (now increments)) (below (i + 1)) ≡ true)
+        × ((now sums ≡ upTo (columnSum k (now increments) i) 16)
+        × TotalsSoFar (averagesOf k (now exposures) (now increments)) i 0 (now columns) (now diagonals))))))) ⌝ }
     ensures { λ r. ⌜ (r ≡ paidTo k (now (increments .entry)) i)
-        × ((now (row .exit) ≡ sets (now (row .entry)) 0 (upTo (λ j. averageOf (paidOf k (now (increments .entry)) i j) claims) (k + 1 - i)))
-        × (now (columns .exit) ≡ upTo (columnSum k (now (increments .entry)) (i + 1)) 16)) ⌝ }
+        × ((now (row .exit)
+        ≡ sets (now (row .entry)) 0 (upTo (λ j. averageOf (paidOf k (now (increments .entry)) i j) (getD (now (exposures .entry)) i 0)) (k + 1 - i)))
+        × ((now (sums .exit) ≡ upTo (columnSum k (now (increments .entry)) (i + 1)) 16)
+        × TotalsSoFar (averagesOf k (now (exposures .entry)) (now (increments .entry))) (i + 1) 0 (now (columns .exit)) (now (diagonals .exit)))) ⌝ }
 {
+    let claims = exposures[i];
     let mut sum: i64 = 0;
-    let count = k + 1 - i;
-    for j in 0..count {
+    let cells = k + 1 - i;
+    for j in 0..cells {
         let x = increments[at + j];
         sum += x;
-        row[j] = average(x, claims);
-        columns[j] += sum as u64;
+        row[j] = add_average(x, claims, i, j, columns, diagonals);
+        sums[j] += sum as u64;
     }
     sum as u64
 }
 
-// Question 6 row by row, and of the rows before the first that fails: the averages in the square, the sums of the cumulatives' columns, and the paid
-// cumulatives.
+// Question 6 row by row, and of the rows before the first that fails: the averages in the square with the totals of their columns and diagonals, the sums of the
+// cumulatives' columns, and the paid cumulatives. The lists of totals may hold anything before.
 pub fn fill_rows(
     k: usize,
     exposures: &[u64; 16],
     increments: &[i64; 136],
     square: &mut [[i64; 16]; 16],
-    columns: &mut [u64; 16],
+    sums: &mut [u64; 16],
     paid: &mut [u64; 16],
+    columns: &mut [i64; 16],
+    diagonals: &mut [i64; 16],
 ) -> bool
     requires { ⌜ (k < 16)
         × (Exposures k (now exposures)
         × (Increments (now increments)
-        × ((now square ≡ replicate 16 (replicate 16 (pos 0))) × ((now columns ≡ replicate 16 0) × (now paid ≡ replicate 16 0))))) ⌝ }
+        × ((now square ≡ replicate 16 (replicate 16 (pos 0)))
+        × ((now sums ≡ replicate 16 0)
+        × (now paid ≡ replicate 16 0))))) ⌝ }
     ensures { λ r. ⌜ (r ≡ cumulativesPass k (now (increments .entry)))
         × ((now (square .exit)
         ≡ padded 16 (replicate 16 (pos 0)) (upTo (averageRow k (now (exposures .entry)) (now (increments .entry))) (rowsPassing k (now (increments .entry)))))
-        × ((now (columns .exit) ≡ upTo (columnSum k (now (increments .entry)) (rowsPassing k (now (increments .entry)))) 16)
-        × (now (paid .exit) ≡ padded 16 0 (upTo (paidTo k (now (increments .entry))) (rowsPassing k (now (increments .entry))))))) ⌝ }
+        × ((now (sums .exit) ≡ upTo (columnSum k (now (increments .entry)) (rowsPassing k (now (increments .entry)))) 16)
+        × ((now (paid .exit) ≡ padded 16 0 (upTo (paidTo k (now (increments .entry))) (rowsPassing k (now (increments .entry)))))
+        × TotalsSoFar (averagesOf k (now (exposures .entry)) (now (increments .entry))) (rowsPassing k (now (increments .entry))) 0
+        (now (columns .exit)) (now (diagonals .exit))))) ⌝ }
 {
+    *columns = [0i64; 16];
+    *diagonals = [0i64; 16];
     let mut at: usize = 0;
     let n = k + 1;
     for i in 0..n {
         if !row_passes(increments, k, i, at) {
             return false;
         }
-        paid[i] = fill_row(&mut square[i], columns, increments, exposures[i], k, i, at);
+        paid[i] = fill_row(
+            &mut square[i],
+            sums,
+            columns,
+            diagonals,
+            increments,
+            exposures,
+            k,
+            i,
+            at,
+        );
         at += n - i;
     }
     true
-}
-
-// Row i of the square is added to the sums of the columns over the rows before it.
-fn add_row(square: &[[i64; 16]; 16], i: usize, sums: &mut [i64; 16])
-    requires { ⌜ Cells (now square) × ((i < 16) × (now sums ≡ upTo (columnTo (now square) i) 16)) ⌝ }
-    ensures { λ _. ⌜ now (sums .exit) ≡ upTo (columnTo (now (square .entry)) (i + 1)) 16 ⌝ }
-{
-    for j in 0..16 {
-        sums[j] += square[i][j];
-    }
-}
-
-// The totals of all columns go into a list of zeros: the rows are walked, and those past row k are zero.
-pub fn fill_columns(square: &[[i64; 16]; 16], k: usize, totals: &mut [i64; 16])
-    requires { ⌜ Cells (now square) × (ZeroOutside (now square) k × ((k < 16) × (now totals ≡ replicate 16 (pos 0)))) ⌝ }
-    ensures { λ _. ⌜ now (totals .exit) ≡ upTo (columnTotal (now (square .entry))) 16 ⌝ }
-{
-    let n = k + 1;
-    for i in 0..n {
-        add_row(square, i, totals);
-    }
-}
-
-// The total of the cells with i + j = h.
-fn diagonal_total(square: &[[i64; 16]; 16], h: usize) -> i64
-    requires { ⌜ Cells (now square) × (h < 16) ⌝ }
-    ensures { λ r. ⌜ r ≡ diagonalTotal (now (square .entry)) h ⌝ }
-{
-    let mut sum: i64 = 0;
-    let n = h + 1;
-    for i in 0..n {
-        sum += square[i][h - i];
-    }
-    sum
-}
-
-// The totals of the diagonals 0 to 15 go into a list of zeros.
-pub fn fill_diagonals(square: &[[i64; 16]; 16], totals: &mut [i64; 16])
-    requires { ⌜ Cells (now square) × (now totals ≡ replicate 16 (pos 0)) ⌝ }
-    ensures { λ _. ⌜ now (totals .exit) ≡ upTo (diagonalTotal (now (square .entry))) 16 ⌝ }
-{
-    for h in 0..16 {
-        totals[h] = diagonal_total(square, h);
-    }
 }

@@ -7,13 +7,12 @@ use mathlib.Core.List.{List, [], _∷_, zipWith}
 use lib.Dec.{lit<}
 use lib.ListN.{length, take, replicate}
 use lib.Seq.{take-length}
-use Rattle.rules.specs.Packing.{pack, numberOf}
+use Rattle.rules.specs.Packing.{pack, numberOf, Fit}
 use Rattle.rules.specs.Lists.{total}
 use Rattle.rules.specs.Record.{Figures, Kind, bitsOf, kindsOf, widths, layout, bitCount, byteCount, fillingCount, codeOf, recordOf}
 use Rattle.rules.specs.Writing.{givenFields}
 use Rattle.packing.specs.declared.Pending.{Pending}
 use Rattle.packing.specs.Field.{packedSo, placeOf, Packable, PackedOn}
-use Rattle.rules.specs.Packing.{Fit}
 use Rattle.packing.proofs.Pack.{bytes-number}
 use Rattle.packing.proofs.Puts.{packed-none, packed-then, ready-then}
 use Rattle.layout.proofs.RecordSizes.{bytes-room, bits-most}

@@ -1,5 +1,5 @@
 -- By the sign of the number. Assumes nothing.
-use Rattle.entries.proofs.Signs.{below-zero, above}
+use Rattle.entries.proofs.Signs.{below-zero, not-below}
 use Rattle.composing.specs.Text.{sign}
 use Rattle.composing.proofs.Puts.{put-none}
 use borrow.Author.Needs.{needs}
@@ -22,7 +22,7 @@ returns c =
 returns-2 : tie.Need-returns-2
 unfolding sign
 returns-2 c =
-    let (n, e, h) = above (c .before .before .args .z) (c .before .before .fits .z) (c .if1 .left) in
+    let (n, e, h) = not-below (c .before .before .args .z) (c .before .before .fits .z) (c .if1 .left) in
     rw e (put-none _ _)
 
 pub put-sign-spec : {M : Type 1} → statement M

@@ -26,7 +26,7 @@ F s =
     figures (s .args .k) (s .args .exposures .now) (s .args .increments .now) (s .args .indices .now) (s .args .reporting .now) (s .args .weight) (s .args .ulae .now)
 
 separated : (s : tie.Start)
-    → Separated (F s) (s .args .square .now) (s .args .columns .now) (s .args .paid .now) (s .args .shares .now) (s .args .levels .now)
+    → Separated (F s) (s .args .square .now) (s .args .sums .now) (s .args .paid .now) (s .args .shares .now) (s .args .levels .now)
 separated s = s .pre .0
 
 add-n : tie.Need-add-n

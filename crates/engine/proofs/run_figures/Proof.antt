@@ -4,8 +4,7 @@ use borrow.Author.Tests.{not-true, not-false}
 use native.Mathlib.Omega.{arith}
 use mathlib.Core.Path.{_≡_, refl, sym, ap, _∙_}
 use mathlib.Core.Bool.{true}
-use mathlib.Core.List.{List, [], _∷_}
-use lib.IntN.{ℤ}
+use mathlib.Core.List.{[], _∷_}
 use Rattle.rules.specs.Lists.{every}
 use Rattle.rules.specs.Record.{figures, Figures}
 use Rattle.rules.specs.Triangle.{cumulativesPass}
@@ -14,6 +13,7 @@ use Rattle.rules.specs.Results.{squareOf}
 use Rattle.rules.specs.declared.Factors.{Factors}
 use Rattle.rules.specs.Engine.{figureQuestions, laterQuestions}
 use Rattle.engine.proofs.RunQuestions.{one-no, one-yes, first-refused, later}
+use Rattle.separation.specs.Walk.{Summed}
 use Rattle.engine.proofs.Before as stage
 use Rattle.engine.proofs.run_figures.Statement.{statement}
 use Rattle.engine.proofs.run_figures.Tie as tie
@@ -23,11 +23,13 @@ F s =
     figures (s .args .k) (s .args .exposures .now) (s .args .increments .now) (s .args .indices .now) (s .args .reporting .now) (s .args .weight) (s .args .ulae .now)
 
 fill-rows-requires : tie.Need-fill-rows-requires
-fill-rows-requires c κs = search needs
+fill-rows-requires c κs =
+    let good = c .before .before .before .before .before .pre .0 in
+    (good .few, (good .exposures, (good .increments, (refl, (refl, refl)))))
 
 -- question 6
 abbrev start1 : tie.After-fill-rows → tie.Start
-start1 c = c .before .before .before .before
+start1 c = c .before .before .before .before .before .before
 
 yes-six : (c : tie.Else1) → cumulativesPass (F (start1 (c .before)) .k) (F (start1 (c .before)) .increments) ≡ true
 yes-six c = sym (c .before .fill-rows .ensures .0) ∙ not-false (c .before .fill-rows .result) (c .if1 .left)
@@ -43,38 +45,44 @@ returns c =
 square-is : (c : tie.Else1) → c .before .fill-rows .last .1 .1 .1 .0 ≡ squareOf (F (start1 (c .before)))
 square-is c = stage.square-is (F (start1 (c .before))) (yes-six c) _ (c .before .fill-rows .ensures .1 .0)
 
-separate-requires : tie.Need-separate-requires
-separate-requires c κs =
-    let six = c .before in
-    let s = start1 (six .before) in
-    stage.separable (F s) _ (square-is six) (s .pre .0)
+-- its totals
+summed : (c : tie.Else1) →
+    let s = start1 (c .before) in
+    Summed (squareOf (F s)) (F s .k) (c .before .fill-rows .last .1 .1 .1 .1 .1 .1 .0) (c .before .fill-rows .last .1 .1 .1 .1 .1 .1 .1 .0)
+summed c = let s = start1 (c .before) in stage.totals-are (F s) (yes-six c) (s .pre .0) _ _ (c .before .fill-rows .ensures .1 .1 .1 .1)
 
-answer-is : (c : tie.After-separate) →
-    let s = start1 (c .before .before .before) in
-    c .separate .result .answer ≡ separateAnswer (squareOf (F s)) (F s .k)
-answer-is c =
+separate-totals-requires : tie.Need-separate-totals-requires
+separate-totals-requires c κs =
     let six = c .before .before in
     let s = start1 (six .before) in
-    c .separate .ensures .0 ∙ ap (λ (q : List (List ℤ)). separateAnswer q (F s .k)) (square-is six)
+    (s .pre .0 .few, (squareOf (F s), summed six))
+
+answer-is : (c : tie.After-separate-totals) →
+    let s = start1 (c .before .before .before .before) in
+    c .separate-totals .result .answer ≡ separateAnswer (squareOf (F s)) (F s .k)
+answer-is c =
+    let six = c .before .before .before in
+    let s = start1 (six .before) in
+    c .separate-totals .ensures (squareOf (F s)) (summed six) .0
 
 returns-2 : tie.Need-returns-2
 unfolding figureQuestions separateAnswer every
 returns-2 c =
     let at = c .before .before in
-    let six = at .before .before in
+    let six = at .before .before .before in
     let s = start1 (six .before) in
     let f = F s in
     let out = s .args .out .now in
-    let n = at .separate .result .answer in
+    let n = at .separate-totals .result .answer in
     later f out ((6, _) ∷ []) _ out n refl (one-yes 6 _ (yes-six six))
     (first-refused f out (separationQuestions (squareOf f) (f .k)) (laterQuestions f) n (sym (answer-is at)) (c .if2 .taken))
 
 -- the separation is accepted
-abbrev separate2 : tie.Else2 → tie.After-separate
+abbrev separate2 : tie.Else2 → tie.After-separate-totals
 separate2 c = c .before .before
 
 accepted-is : (c : tie.Else2) →
-    let s = start1 (separate2 c .before .before .before) in
+    let s = start1 (separate2 c .before .before .before .before) in
     separateAnswer (squareOf (F s)) (F s .k) ≡ 0
 accepted-is c = sym (answer-is (separate2 c)) ∙ c .if2 .left
 
@@ -82,17 +90,17 @@ finish-requires : tie.Need-finish-requires
 finish-requires c κs =
     let two = c .before .before .before .before .before .before .before .before in
     let at = separate2 two in
-    let six = at .before .before in
+    let six = at .before .before .before in
     let rows = six .before .fill-rows in
     let s = start1 (six .before) in
     let f = F s in
-    let factors = stage.factors-are f _ (square-is six) (at .separate .result .factors) (at .separate .ensures .1) (accepted-is two) in (
+    let factors = stage.factors-are f (at .separate-totals .result .factors) (at .separate-totals .ensures (squareOf f) (summed six) .1) (accepted-is two) in (
       record {
         sound = s .pre .0;
         cumulatives = yes-six six;
         square = square-is six;
-        columns = stage.columns-are f (yes-six six) _ (rows .ensures .1 .1 .0);
-        paid = stage.paid-are f (yes-six six) _ (rows .ensures .1 .1 .1);
+        sums = stage.sums-are f (yes-six six) _ (rows .ensures .1 .1 .0);
+        paid = stage.paid-are f (yes-six six) _ (rows .ensures .1 .1 .1 .0);
         accepted = accepted-is two;
         shares = ap (λ (g : Factors). g .shares) factors;
         levels = ap (λ (g : Factors). g .levels) factors;
@@ -108,7 +116,7 @@ unfolding figureQuestions separateAnswer separationQuestions every
 returns-3 c =
     let call = c .before in
     let two = call .before .before .before .before .before .before .before .before .before in
-    let six = separate2 two .before .before in
+    let six = separate2 two .before .before .before in
     let s = start1 (six .before) in
     let f = F s in
     let out = s .args .out .now in
@@ -121,7 +129,7 @@ run-figures-spec =
     (tie.spec
     fill-rows-requires
     returns
-    separate-requires
+    separate-totals-requires
     returns-2
     finish-requires
     same-length

@@ -5,7 +5,7 @@ use native.Mathlib.Omega.{arith}
 use borrow.Author.Needs.{needs}
 use lib.IntN.{negsuc}
 use Rattle.laws.proofs.Signed.{neg-fits}
-use Rattle.entries.proofs.Signs.{below-zero, above, natural-held, plus-one, turned}
+use Rattle.entries.proofs.Signs.{below-zero, not-below, natural-held, plus-one, turned}
 use Rattle.entries.proofs.size_of.Statement.{statement}
 use Rattle.entries.proofs.size_of.Tie as tie
 
@@ -30,7 +30,7 @@ add-result-2 c =
 
 cast-result-2 : tie.Need-cast-result-2
 cast-result-2 c =
-    let (n, e, h) = above (c .before .args .x) (c .before .fits .x) (c .if1 .left) in
+    let (n, e, h) = not-below (c .before .args .x) (c .before .fits .x) (c .if1 .left) in
     rw (e, natural-held n h) (tt, record { fits = omega arith })
 
 returns : tie.Need-returns

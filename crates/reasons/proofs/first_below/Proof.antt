@@ -11,7 +11,7 @@ use Rattle.rules.specs.Lists.{upTo, below, every}
 use Rattle.laws.proofs.Lists.{every-next}
 use Rattle.entries.proofs.Leading.{leading-all, leading-stop}
 use Rattle.reasons.specs.Reasons.{firstBelow}
-use Rattle.entries.proofs.Signs.{under-zero, from-zero}
+use Rattle.entries.proofs.Signs.{zero-test-no, zero-test-yes}
 use borrow.Author.Needs.{needs, sfits-of}
 use Rattle.reasons.proofs.first_below.Statement.{statement}
 use Rattle.reasons.proofs.first_below.Tie as tie
@@ -34,13 +34,13 @@ unfolding firstBelow
 returns c =
     let l = c .before .before .before .loop in
     let s = c .before .before .before .before .args in
-    sym (leading-stop (least (s .totals .now)) (s .k + 1) (l .i) (omega arith) (l .inv .1 .1) (under-zero (getD (s .totals .now) (l .i) (pos 0)) (sfits-of (c .before .if12 .given)) (c .if1 .taken)))
+    sym (leading-stop (least (s .totals .now)) (s .k + 1) (l .i) (omega arith) (l .inv .1 .1) (zero-test-no (getD (s .totals .now) (l .i) (pos 0)) (sfits-of (c .before .if12 .given)) (c .if1 .taken)))
 
 loop-again : tie.Need-loop-again Inv-loop μ-loop
 loop-again c =
     let l = c .before .before .before .loop in
     let s = c .before .before .before .before .args in
-    (omega arith, (refl, every-next (least (s .totals .now)) (λ i. i) (l .i) (l .inv .1 .1) (from-zero (getD (s .totals .now) (l .i) (pos 0)) (sfits-of (c .before .if12 .given)) (c .if1 .left))))
+    (omega arith, (refl, every-next (least (s .totals .now)) (λ i. i) (l .i) (l .inv .1 .1) (zero-test-yes (getD (s .totals .now) (l .i) (pos 0)) (sfits-of (c .before .if12 .given)) (c .if1 .left))))
 
 returns-2 : tie.Need-returns-2 Inv-loop μ-loop
 unfolding firstBelow

@@ -1,14 +1,14 @@
 -- The loop's invariant: none of the first i totals is below zero, their sizes are stored, and `sum` is the sum of the columns. Assumes nothing.
 use mathlib.Core.Path.{_≡_, sym}
 use mathlib.Core.Bool.{false≢true}
-use Prim.Native.Nat.{_-_, _*_, _≤_}
+use Prim.Native.Nat.{_-_, _≤_}
 use native.Mathlib.Omega.{arith}
 use borrow.Author.Needs.{sfits-of}
 use lib.IntN.{pos, natAbs}
 use lib.ListN.{getD}
 use mir.Syntax.{w64}
 use mir.Facts.{toZ-ofZ}
-use Rattle.triangle.specs.Columns.{mostAverage}
+use Rattle.totals.specs.CellSizes.{mostTotal}
 use Rattle.separation.proofs.Passing.{TotalsDone, whole, start, column-fails, diagonal-fails, more, last}
 use Rattle.separation.proofs.totals_pass.Statement.{statement}
 use Rattle.separation.proofs.totals_pass.Tie as tie
@@ -51,7 +51,7 @@ returns-2 c =
     )
 
 -- the column is far from wrapping
-small : (c : tie.Else2 Inv-loop μ-loop) → natAbs (getD (c .before .before .before .before .before .before .args .columns .now) (c .before .before .before .before .before .loop .i) (pos 0)) ≤ 16 * mostAverage
+small : (c : tie.Else2 Inv-loop μ-loop) → natAbs (getD (c .before .before .before .before .before .before .args .columns .now) (c .before .before .before .before .before .loop .i) (pos 0)) ≤ mostTotal
 small c = c .before .before .before .before .before .before .pre .1 .0 (c .before .before .before .before .before .loop .i) (omega arith)
 
 cast-x : tie.Need-cast-x Inv-loop μ-loop

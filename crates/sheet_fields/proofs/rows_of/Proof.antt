@@ -7,7 +7,6 @@ use lib.ListN.{getD}
 use mir.Facts.{toZ-ofZ}
 use mir.Syntax.{w64}
 use Rattle.sheet_fields.proofs.FieldSections.{rows-of-are}
-use borrow.Author.Needs.{needs}
 use Rattle.sheet_fields.proofs.rows_of.Statement.{statement}
 use Rattle.sheet_fields.proofs.rows_of.Tie as tie
 

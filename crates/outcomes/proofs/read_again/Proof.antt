@@ -1,4 +1,4 @@
--- The arrays that are read again are those of the record's figures (figures-filled), so the square and the paid cumulatives are (square-filled, paid-filled).
+-- The arrays that are read again are those of the record's figures (figures-filled), so the paid cumulatives and the totals are (paid-filled, totals-filled).
 -- Assumes nothing.
 use native.Mathlib.Omega.{arith}
 use mathlib.Core.Path.{_≡_, refl, _∙_}
@@ -7,9 +7,9 @@ use Rattle.rules.specs.Record.{figuresOf}
 use Rattle.reading.specs.Reading.{Sound}
 use Rattle.reading.proofs.FiguresRead.{Filled, figures-filled, sound-figures}
 use Rattle.reading.proofs.RowsRead.{years-known, opening-yes}
-use Rattle.outcomes.proofs.Again.{rows-ready, square-filled, paid-filled}
-use Rattle.outcomes.proofs.fill_square.Statement.{statement}
-use Rattle.outcomes.proofs.fill_square.Tie as tie
+use Rattle.outcomes.proofs.Again.{rows-ready, paid-filled, totals-filled}
+use Rattle.outcomes.proofs.read_again.Statement.{statement}
+use Rattle.outcomes.proofs.read_again.Tie as tie
 
 abbrev start : tie.After-read → tie.Start
 start c = c .before .before .before .before .before .before .before
@@ -41,22 +41,22 @@ last-year-of-requires c κs = let s = start c in years-known (s .args .packed .n
 
 fill-rows-requires : tie.Need-fill-rows-requires
 fill-rows-requires c κs =
-    let year = c .before .before .before .before .before in
+    let year = c .before .before .before .before .before .before .before in
     let at = year .before in
     let s = start at in
     let ready = rows-ready (figuresOf (s .args .packed .now)) _ _ _ (year-is year) (exposures-are at) (increments-are at) (sound at) in
-    (ready .0, (ready .1 .0, (ready .1 .1, (s .pre .1 .1 .1 .0, (refl, s .pre .1 .1 .1 .1)))))
+    (ready .0, (ready .1 .0, (ready .1 .1, (refl, (refl, s .pre .1 .1 .1)))))
 
 returns : tie.Need-returns
 returns c =
-    let year = c .before .before .before .before .before .before in
+    let year = c .before .before .before .before .before .before .before .before in
     let at = year .before in
     let s = start at in
     let f = figuresOf (s .args .packed .now) in
     let six = s .pre .1 .1 .0 in (
-      square-filled f _ _ _ (year-is year) (exposures-are at) (increments-are at) six _ (c .fill-rows .ensures .1 .0),
-      paid-filled f _ _ _ (year-is year) (exposures-are at) (increments-are at) six _ (c .fill-rows .ensures .1 .1 .1),
+      paid-filled f _ _ _ (year-is year) (exposures-are at) (increments-are at) six _ (c .fill-rows .ensures .1 .1 .1 .0),
+      totals-filled f _ _ _ (year-is year) (exposures-are at) (increments-are at) (sound at) six _ _ (c .fill-rows .ensures .1 .1 .1 .1),
     )
 
-pub fill-square-spec : {M : Type 1} → statement M
-fill-square-spec = tie.close (tie.spec read-requires last-year-of-requires fill-rows-requires returns)
+pub read-again-spec : {M : Type 1} → statement M
+read-again-spec = tie.close (tie.spec read-requires last-year-of-requires fill-rows-requires returns)
