@@ -1,10 +1,10 @@
 #!/usr/bin/env python3
 """make_cases.py: writes the stored input and expected output of the test programs read_cases, write_cases and run_cases and of the programs reserve,
-reserve_many, gather, report, csv, pack and unpack; the records of the examples from their texts, their pages and their lists as comma-separated values
-(tests/pages); records that question 7 refuses, with what is said of them (tests/refusals); and the texts that pack must accept or refuse, with the record of each or
-what pack says (tests/texts).
+reserve_many, gather, fields, report, csv, pack and unpack, and the input of motor_account and report_html; the records of the examples from their texts, their
+pages and their lists as comma-separated values (tests/pages); records that question 7 refuses, with what is said of them (tests/refusals); and the texts that
+pack must accept or refuse, with the record of each or what pack says (tests/texts).
 
-What is expected comes from model.py, page.py and sheet.py, which are written from document 01 and from the docs and share nothing with the Rattle code.
+What is expected comes from model.py, page.py and sheet.py, which are written from documents 01 and 02 and from the docs and share nothing with the Rattle code.
 """
 import glob
 import os
@@ -132,16 +132,19 @@ def write_inputs():
         yield size, k, model.lists(changed(changed(fields, at["b"], 0), at["n"], 0))
 
 
-def fields_of(n, rows, e=None, b=None, w=500000, U=None):
+def fields_of(n, rows, e=None, b=None, w=500000, U=None, a=0):
     """The fields of a record whose increments are given by row; those left out are plain."""
     k = len(rows) - 1
-    e = e or [model.M] * k
+    e = e or [model.M] * (k + 1)
     b = b or [model.M] + [0] * k
-    return [k] + n + sum(rows, []) + e + b + [w] + (U or [0] * (k + 1))
+    fields = [k] + n + sum(rows, []) + e + b + [w] + (U or [0] * (k + 1)) + [a]
+    assert len(fields) == model.field_count(k)
+    return fields
 
 
 def account(k, source, column=lambda j: 1):
-    """A plain account: payments that fall by the year, times column(j), with some negative ones and exposures and indices of its own."""
+    """A plain account: payments that fall by the year, times column(j), with some negative ones and exposures and indices of its own; something is still to be
+    paid for year 0 where k is even."""
     n = [source.randint(1, 3000) for _ in range(k + 1)]
     rows = []
     for i in range(k + 1):
@@ -150,11 +153,12 @@ def account(k, source, column=lambda j: 1):
             size = n[i] * source.randint(5000, 9000) // 2**j
             sign = -0.25 if j % 3 == 2 and i % 2 else 1
             rows[i].append(int(sign * size * column(j)))
-    e = [source.randint(1, 2 * model.M) for _ in range(k)]
+    e = [source.randint(1, 2 * model.M) for _ in range(k + 1)]
     cuts = sorted(source.randint(0, model.M) for _ in range(k))
     b = [high - low for low, high in zip([0] + cuts, cuts + [model.M])]
     U = [source.randint(0, 1000) for _ in range(k + 1)]
-    return fields_of(n, rows, e, b, source.randint(0, model.M), U)
+    a = 0 if k % 2 else n[0] * source.randint(0, 900) + source.randint(0, 99)
+    return fields_of(n, rows, e, b, source.randint(0, model.M), U, a)
 
 
 def plain(k, first, other, claims=1):
@@ -179,19 +183,20 @@ def accepted():
     yield fields_of([million, 100, 100], [[10**10, 10**9, 5000], [10**8, 10**7], [200000000]], b=[0, 0, million])
     yield fields_of([100, 100], [[100000, 3], [100000]], w=million)
     n, rows = plain(15, 30000000, 100, 100)
-    yield fields_of(n, rows, [5 * million] * 15, [0] * 15 + [million])
+    yield fields_of(n, rows, [5 * million] * 16, [0] * 15 + [million])
     # the largest figures
     n, rows = plain(9, most, most, million)
     yield fields_of(n, rows, w=million, U=[most] * 10)
     n, rows = plain(15, most, 0, million)
-    yield fields_of(n, rows, [5 * million] * 15, U=[most] * 16)
+    yield fields_of(n, rows, [5 * million] * 16, U=[most] * 16)
     # a smallest index, and every increment 1
     n, rows = plain(15, 1, 1)
-    yield fields_of(n, rows, [1] * 15)
+    yield fields_of(n, rows, [1] * 16)
     # a column and a diagonal of zero
     yield fields_of([1, 1, 1], [[0, 5, 0], [5, 5], [7]])
     yield from halves()
-    for _, within, _ in (*edges(), *half_edges(), *total_edges()):
+    yield from tails()
+    for _, within, _ in all_edges():
         yield within
 
 
@@ -210,9 +215,9 @@ def edges():
     # a level of S
     yield 10, *(fields_of([100, 100], [[first, 200000], [1]]) for first in (4999, 5000))
     # an ultimate of 10^12
-    yield 11, *(fields_of([100, million], [[10**7, 19800002], [9999900000 + more]], [5 * million]) for more in (0, 1))
+    yield 11, *(fields_of([100, million], [[10**7, 19800002], [9999900000 + more]], [5 * million, million]) for more in (0, 1))
     # ULAE totals as large as what is paid
-    yield 12, *(changed(model.TWO_YEARS, 11, latest) for latest in (160, 161))
+    yield 12, *(changed(model.TWO_YEARS, places(1)["U"] + 1, latest) for latest in (160, 161))
     # a factor of 50
     yield 13, *(fields_of([1000, 1000], [[million, 49 * million + more], [million]]) for more in (0, 1))
     # a completed cumulative of 10^11; a factor that is a millionth larger
@@ -261,6 +266,72 @@ def half_edges():
     yield 10, *(fields_of([200, 100], [[first, 400000], [1]]) for first in (9998, 9999))
 
 
+def tailed(k, e, a, exposures=None):
+    """A plain account with this amount still to be paid; all n 100, so that the amount is its average, but for the exposures given by year."""
+    n = [(exposures or {}).get(i, 100) for i in range(k + 1)]
+    rows = [[n[i] * (300 + i)] + [n[i] * 50] * (k - i) for i in range(k + 1)]
+    return fields_of(n, rows, e, [800000] + [0] * (k - 1) + [200000], U=[100 * (t + 1) for t in range(k + 1)], a=a)
+
+
+def tails():
+    """Fields with payments after the last year."""
+    million, most = 10**6, 10**10
+    # the two years with 100 still to be paid for year 0, carried by 1.1, and with 10, whose second average is 10.90
+    for a, later in ((100, 1210000), (10, 1200000)):
+        yield changed(changed(model.TWO_YEARS, places(1)["e"] + 1, later), places(1)["a"], a)
+    # a zero amount, whatever the last index is
+    for later in (1, million, 5 * million):
+        yield changed(model.TWO_YEARS, places(1)["e"] + 1, later)
+    # the amount's average is a half, or next to it; a million claims of year 1 show it in full
+    for claims, amounts in ((8, (1, 3, 5)), (199, (1, 3)), (200, (1, 2, 3, 5)), (201, (1, 3)), (million, (4999, 5000, 5001, 14999, 15000, 15001))):
+        for a in amounts:
+            yield tailed(1, None, a, {0: claims, 1: million})
+    # each year is carried from year 0 and not from the year before, and its average rounded down
+    yield tailed(2, [2, 3, 5], 1, {2: million})
+    yield tailed(3, [7, 6, 5, 13], 1, {1: million, 2: million, 3: million})
+    # indices far apart: the average of year 1 is five million times that of year 0, or nothing of it
+    yield tailed(1, [1, 5 * million], 1000)
+    yield tailed(1, [5 * million, 1], 4999999)
+    yield tailed(1, [5 * million, 1], 5 * million)
+    # the largest amount, over the most claims and over the fewest that question 18 lets pass; the largest ultimate of year 0
+    yield tailed(15, [5 * million] * 16, most, dict.fromkeys(range(16), million))
+    yield tailed(15, None, most, {0: 1000})
+    n, rows = plain(9, most, most, million)
+    yield fields_of(n, rows, a=most)
+    # what is not reported and the reserve with each weight of the reporting
+    for w in (0, million):
+        yield changed(tailed(4, [1100000, 1210000, 1331000, 1464100, 1610510], 12345), places(4)["w"], w)
+
+
+def tail_edges():
+    """As edges: the questions that payments after the last year put, and 11 by such a payment alone."""
+    million = 10**6
+    # an average of S and of S + 1; of S + 1/2, which is S, and of S + 1
+    yield 18, *(tailed(1, None, a) for a in (model.S, model.S + 1))
+    yield 18, *(tailed(15, None, a) for a in (model.S, model.S + 1))
+    yield 18, *(tailed(1, None, a, {0: 200}) for a in (2 * model.S + 1, 2 * model.S + 2))
+    # the largest amount over 1,000 and over 999 claims
+    yield 18, *(tailed(1, None, 10**10, {0: claims}) for claims in (1000, 999))
+    # an average of 5S and of 5S + 1, in the last year and in one between; 47/8 of 851063830 is 5S + 1.25
+    assert 851063830 * 47 // 8 == 5 * model.S + 1
+    for k, i in ((1, 1), (3, 3), (3, 1), (3, 2), (15, 15), (15, 7)):
+        yield 19, tailed(k, changed([million] * (k + 1), i, 5 * million), model.S), tailed(k, changed([8] * (k + 1), i, 47), 851063830)
+        yield 19, *(tailed(k, changed([8] * (k + 1), i, 47), a) for a in (851063829, 851063830))
+        yield 19, *(tailed(k, changed([first] + [million] * k, i, 5 * million), model.S) for first in (million, 999999))
+    # an ultimate of 10^12 with the payment after the last year, in the last row and in one between
+    for k, i in ((1, 1), (3, 3), (3, 2), (15, 1)):
+        n, rows = plain(k, 100, 0, 100)
+        yield 11, *(fields_of(changed(n, i, million), changed(rows, i, [10**9 + more] + [0] * (k - i)), a=99900000) for more in (0, 1))
+    # an ultimate of 10^12 without it, to which the last index adds nothing or 10,000
+    yield 11, *(fields_of([100, million], [[10**7, 19800002], [9999900000]], [5 * million, later], a=1) for later in (4999999, 5 * million))
+    # a payment after the last year of 10^12 alone, from an average of 5S
+    yield 11, *(tailed(1, [million, 5 * million], model.S, {1: claims}) for claims in (19999, 20000))
+
+
+def all_edges():
+    return (*edges(), *half_edges(), *total_edges(), *tail_edges())
+
+
 def plain_but(k, cells):
     """Fields of 10,000 hundredths in the first column and 10 elsewhere but for the cells given, all n 100."""
     rows = [[10000] + [10] * (k - i) for i in range(k + 1)]
@@ -292,10 +363,13 @@ def refused():
         fields, at = account(k, source), places(k)
         yield 4, changed(fields, at["n"] + k, 0)
         yield 4, changed(fields, at["U"] + k, 10**10 + 1)
+        yield 4, changed(fields, at["e"] + k, 0)
+        yield 4, changed(fields, at["e"] + k, 5 * million + 1)
+        yield 4, changed(fields, at["a"], 10**10 + 1)
         yield 5, changed(fields, at["b"] + k, fields[at["b"] + k] + 1)
         yield 6, changed(fields, at["P"], -1)
         yield 12, changed(fields, at["U"], 10**10)
-    for number_, _, past in (*edges(), *half_edges(), *total_edges()):
+    for number_, _, past in all_edges():
         yield number_, past
     # the latest diagonal adds up to 0, and to less
     for k in (3, 15):
@@ -327,12 +401,44 @@ def refused():
     yield 9, fields_of([100] * 3, [[5000, 5000, 999999], [0, 0], [1]])
     yield 10, fields_of([100] * 3, [[5, 500, 999999], [0, 0], [1]])
     # the chain ladder's base is zero too, and the ULAE totals are too large
-    yield 11, fields_of([100, million], [[0, 19800002], [9999900001]], [5 * million], U=[10**10, 10**10])
+    yield 11, fields_of([100, million], [[0, 19800002], [9999900001]], [5 * million, million], U=[10**10, 10**10])
     yield 13, changed(model.TWO_YEARS, 3, 0)
     yield 13, fields_of([1, 1], [[1, 50], [66]])
     yield 13, fields_of([1, 1, 1], [[0, 5, 5], [0, 5], [7]])
     n, rows = plain(10, 10**9, 10**9, million)
     yield 14, fields_of(n, rows[:10] + [[10**10]])
+    yield from tail_refusals()
+
+
+def tail_refusals():
+    """As refused: two questions say no, or more, those about payments after the last year among them."""
+    million, most = 10**6, 10**10
+    cells = [[60000, 40000], [66000000]]
+    # 19, and with one claim less 18; the payment of year 1 would be 5 × 10^19
+    for number_, claims in ((19, 1000), (18, 999)):
+        yield number_, fields_of([claims, million], cells, [1, 5 * million], a=most)
+    # 18 and 19, and 11 by the payments of the triangle
+    yield 18, tailed(1, [1, 6], model.S + 1)
+    yield 18, tailed(3, [1, 1, 6, 1], model.S + 1)
+    large = [[10**7, 19800002], [9999900001]]
+    yield 18, fields_of([100, million], large, [5 * million, million], a=model.S + 1)
+    yield 19, fields_of([100, million], large, [800000, 5 * million], a=model.S)
+    # 11 by the payment after the last year too
+    yield 18, tailed(1, None, model.S + 1, {1: million})
+    yield 19, tailed(1, [8, 47], 851063830, {1: million})
+    # a level is too large too
+    poor = [[5000, 200000], [1]]
+    yield 10, fields_of([100, 100], poor, a=model.S + 1)
+    yield 10, fields_of([100, 100], poor, [1, 6], a=model.S)
+    yield 10, fields_of([100, 100], poor, [1, 6], a=most)
+    # each question before them, with an average above S
+    yield 6, fields_of([100, 100], [[60, -61], [66]], a=most)
+    yield 7, fields_of([100, 100], [[60, -1], [66]], a=most)
+    yield 8, fields_of([100, 100], [[60, 40], [0]], a=most)
+    yield 9, changed(model.THREE_YEARS, places(2)["a"], most)
+    # the questions after them: ULAE totals too large, no base of the chain ladder
+    for number_, e, a in ((18, None, model.S + 1), (19, [1, 6], model.S), (11, None, model.S)):
+        yield number_, fields_of([100, million], [[0, 40], [660000]], e, U=[most, most], a=a)
 
 
 def run_inputs():
@@ -347,17 +453,21 @@ def run_inputs():
         assert model.run(record, count)[0] == number_, (number_, fields, model.run(record, count)[0])
         yield count, record
     two, longest = model.pack(model.TWO_YEARS), model.pack(account(15, random.Random(3)))
-    assert model.bit_count(15) % 8 == 1
-    for record in (b"", b"\x00", b"\x0f" + two[1:], two[:-1], two + b"\x00", longest[:-1] + b"\x01", longest + b"\x00", two[:1], bytes([16]) * 4096):
-        yield 20, record
+    filled = longest[:-1] + bytes([longest[-1] | 1])
+    assert model.bit_count(15) % 8 and filled != longest
+    # among them records without the last index and the amount
+    for record in (b"", b"\x00", b"\x0f" + two[1:], two[:-1], two + b"\x00", two[:38], longest[:790], filled, longest + b"\x00", two[:1], bytes([16]) * 4096):
+        yield 22, record
     zero = places(1)["P"]
-    yield 20, model.pack(changed(model.TWO_YEARS, zero, 0), negative_zeros=(zero,))
-    # question 3, also before questions 4 and 8
-    for room in (0, 19):
+    yield 22, model.pack(changed(model.TWO_YEARS, zero, 0), negative_zeros=(zero,))
+    # question 3, also before questions 4, 8 and 18; 20 entries are the list without the payments after the last year
+    for room in (0, 20, 21):
         yield room, two
         yield room, model.pack(changed(model.TWO_YEARS, 1, 0))
         yield room, model.pack(changed(model.TWO_YEARS, 5, 0))
-    yield 488, longest
+        yield room, model.pack(changed(model.TWO_YEARS, places(1)["a"], 10**10))
+    yield 489, longest
+    yield 504, longest
     yield 512, longest
 
 
@@ -370,10 +480,11 @@ def main():
     store("read_cases", given, wanted)
     given, wanted = b"", ""
     for room, k, lists in write_inputs():
-        given += number(room) + number(k) + number(lists["w"][0])
+        given += number(room) + number(k) + number(lists["w"][0]) + number(lists["a"][0])
         for name in "nPebU":
             given += number(len(lists[name])) + b"".join(number(v) for v in lists[name])
-        number_, record = answer(lambda: model.write(k, lists["n"], lists["P"], lists["e"], lists["b"], lists["w"][0], lists["U"], room))
+        number_, record = answer(
+            lambda: model.write(k, lists["n"], lists["P"], lists["e"], lists["b"], lists["w"][0], lists["U"], lists["a"][0], room))
         wanted += f"answer {number_}\n"
         wanted += "unchanged\n" if record is None else record.hex() + "\n"
     store("write_cases", given, wanted)
@@ -384,8 +495,12 @@ def main():
         numbers.append(number_)
         wanted += shown(number_, results, room)
     store("run_cases", given, wanted)
-    print("cases by number:", {number_: numbers.count(number_) for number_ in range(15)})
+    print("cases by number:", {number_: numbers.count(number_) for number_ in sorted(set(numbers))})
+    record = model.pack(model.TWO_YEARS)
+    store("fields", record, "".join(f"{v}\n" for v in model.TWO_YEARS))
     record = model.pack(model.MOTOR_ACCOUNT)
+    for name in ("motor_account", "report_html"):
+        put(os.path.join(CRATES, name, "stdin"), record)
     store("reserve", record, "".join(f"{v}\n" for v in model.run(record, model.result_count(3))[1]))
     store("report", record, page.page(record))
     records = [record for _, record in run_inputs()]
@@ -476,6 +591,7 @@ SAID = {
     "\nk 1\nexposures 1 0\n": "refused 4: line 3: number 2 of `exposures` is `0`, and a whole number from 1 to 1000000 is due",
     "k 16\n": "refused 1: line 1: number 1 of `k` is `16`, and a whole number from 1 to 15 is due",
     "k 1\nexposures 1 1\n": "line 3: the text ends where `paid` is due",
+    "k 1\nexposures 1 1\npaid 60 40\npaid 66\nindices 1 1\nreporting 800000 200000\nweight 0\nulae 6 10\n": "line 9: the text ends where `tail` is due",
 }
 
 
@@ -483,7 +599,7 @@ def text_cases():
     """Name and text of each, both sides of each rule of docs/SHEET.md."""
     plain = page.sheet(model.TWO_YEARS)
     two_years = plain.splitlines()
-    three_years = page.sheet([2, 1, 1, 1, 60, 40, 20, 66, 50, 70, 1100000, 1210000, 800000, 150000, 50000, 500000, 6, 10, 9]).splitlines()
+    three_years = page.sheet([2, 1, 1, 1, 60, 40, 20, 66, 50, 70, 1100000, 1210000, 1331000, 800000, 150000, 50000, 500000, 6, 10, 9, 15]).splitlines()
 
     def with_line(number_, line, lines=two_years):
         """The two years with another line in this place, counted from 1."""
@@ -505,7 +621,8 @@ def text_cases():
     yield "tabs_to_a_width", saved("\t", "\n", 7)
     yield "blanks_around_cells", saved(" ; ").replace(" ; ", "; ").replace("60; 40", "60  ;  40 ")
     yield "blank_before_the_separator", with_line(3, "paid ;60;40")
-    yield "each_line_its_own", "k 1\nexposures,1,1\npaid;60;40\npaid\t66\nindices 1100000\nreporting;800000;200000;\nweight,500000,\nulae 6\t10\n"
+    yield "each_line_its_own", ("k 1\nexposures,1,1\npaid;60;40\npaid\t66\nindices 1100000 1000000\nreporting;800000;200000;\nweight,500000,\n"
+                                "ulae 6\t10\ntail\t0\n")
     yield "tabs_and_comments", plain.replace("k 1\n", "# two years\n  k\t1   # the last year\n\n").replace("paid 66", "  paid   0066 # year 1")[:-1]
     yield "comma_in_blanks", with_line(3, "paid 60, 40")
     yield "thousands", with_line(5, "indices 1,100,000")
@@ -583,15 +700,18 @@ def text_cases():
     yield "label_cut", with_line(4, "pai 66")
     yield "label_after_a_tab", with_line(4, "\tpaid 66")
     yield "no_label", with_line(4, ",paid,66")
-    yield "order", "\n".join(two_years[:6] + [two_years[7], two_years[6]]) + "\n"
+    yield "order", "\n".join(two_years[:6] + [two_years[7], two_years[6], two_years[8]]) + "\n"
+    yield "tail_before_ulae", "\n".join(two_years[:7] + [two_years[8], two_years[7]]) + "\n"
     # counts of numbers
     yield "too_many", with_line(7, "weight 500 000")
     yield "too_few", "# one payment is missing\n\n" + with_line(3, "paid 60")
     yield "none", with_line(4, "paid")
+    yield "one_index_for_two_years", with_line(5, "indices 1100000")
+    yield "tail_of_each_year", with_line(9, "tail 0 0")
     # too short and too long
     yield "empty", ""
     yield "only_comments", "# nothing\n# here\n"
-    yield "ends_early", "\n".join(two_years[:7]) + "\n"
+    yield "ends_early", "\n".join(two_years[:8]) + "\n"
     yield "ends_without_a_line_feed", "\n".join(two_years[:7])
     yield "no_last_line_feed", plain[:-1]
     yield "goes_on", plain + "\npaid 3\n"
@@ -602,7 +722,8 @@ def text_cases():
     yield "count_and_range", with_line(2, "exposures 0 1 1")
     yield "two_lines", with_line(2, "exposures 0 1").replace("weight", "wait")
     # both sides of each limit
-    limits = [(1, 0, 15), (2, 1, 10**6), (3, -10**10, 10**10), (5, 1, 5 * 10**6), (6, 0, 10**6), (7, 0, 10**6), (8, 0, 10**10)]
+    limits = [(1, 0, 15), (2, 1, 10**6), (3, -10**10, 10**10), (5, 1, 5 * 10**6), (6, 0, 10**6), (7, 0, 10**6), (8, 0, 10**10),
+              (9, 0, 10**10)]
     for number_, least, most in limits:
         label, *numbers = two_years[number_ - 1].split(" ")
         for side, value in [("least", least), ("below", least - 1), ("most", most), ("above", most + 1)]:

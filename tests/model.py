@@ -1,4 +1,5 @@
-"""Document 01's record and engine, halves as request 4 of document 02 has them, in plain Python, written from the paper and not from the Rattle code.
+"""Document 01's record and engine, with requests 3 and 4 of document 02 (payments after the last year, halves to the even hundredth), in plain Python, written
+from the paper and not from the Rattle code.
 
 Used to make the stored inputs and expected outputs of the test programs (make_cases.py), and timed beside the engine by tests/benchmark.
 """
@@ -18,10 +19,11 @@ def rows(k):
         ("k", 1, False, 4, 1, 15),
         ("n", k + 1, False, 20, 1, 10**6),
         ("P", cells(k), True, 34, 0, 10**10),
-        ("e", k, False, 23, 1, 5 * 10**6),
+        ("e", k + 1, False, 23, 1, 5 * 10**6),
         ("b", k + 1, False, 20, 0, M),
         ("w", 1, False, 20, 0, M),
         ("U", k + 1, False, 34, 0, 10**10),
+        ("a", 1, False, 34, 0, 10**10),
     ]
 
 
@@ -99,11 +101,11 @@ def by_row(k, increments):
     return [[next(rest) for _ in range(k + 1 - i)] for i in range(k + 1)]
 
 
-def write(k, n, P, e, b, w, U, room):
+def write(k, n, P, e, b, w, U, a, room):
     """The record with these fields, for a buffer of `room` bytes."""
     if not 1 <= k <= 15:
         raise Refused(1)
-    given = {"k": [k], "n": n, "P": P, "e": e, "b": b, "w": [w], "U": U}
+    given = {"k": [k], "n": n, "P": P, "e": e, "b": b, "w": [w], "U": U, "a": [a]}
     if room != byte_count(k) or any(len(given[name]) != count for name, count, *_ in rows(k)):
         raise Refused(2)
     for name, _, sign, _, least, most in rows(k):
@@ -111,13 +113,13 @@ def write(k, n, P, e, b, w, U, room):
             raise Refused(4)
     if sum(b) != M:
         raise Refused(5)
-    return pack([k] + n + P + e + b + [w] + U)
+    return pack([k] + n + P + e + b + [w] + U + [a])
 
 
 def result_count(k):
     """How many entries the result list has: three triangles' worth of cells, without the diagonal in two of them, and the rest."""
     future = k * (k + 1) // 2
-    return cells(k) + (k + 1) * 2 + k + future + (k + 1) + 1 + (k + 1) * 2 + 1 + 1 + k + future
+    return cells(k) + (k + 1) * 2 + k + future + (k + 1) + 1 + (k + 1) * 2 + 1 + 1 + k + future + (k + 1)
 
 
 def average(paid, claims):
@@ -147,7 +149,18 @@ def separate(s):
     return r, level, d[k]
 
 
-def results(k, n, P, e, b, w, U):
+def tail_payments(n, e, a):
+    """What is paid of each origin year after year k, where the amount a is still to be paid for year 0, under questions 18 and 19; e[i] is e_{i+1}."""
+    first = average(a, n[0])
+    if first > S:
+        raise Refused(18)
+    t = [first * index // e[0] for index in e]
+    if max(t) > 5 * S:
+        raise Refused(19)
+    return [claims * unit // 100 for claims, unit in zip(n, t)]
+
+
+def results(k, n, P, e, b, w, U, a):
     """The result list of fields that have passed questions 4 and 5; P by row."""
     years = range(k + 1)
     C = [[sum(row[:j + 1]) for j in range(len(row))] for row in P]
@@ -157,7 +170,8 @@ def results(k, n, P, e, b, w, U):
     r, level, latest = separate(s)
     L = [None] + [latest * e[t - 1] // M for t in range(1, k + 1)]
     y = [[n[i] * (r[j] * L[i + j - k] // S) // 100 for j in range(k + 1 - i, k + 1)] for i in years]
-    R = [sum(row) for row in y]
+    z = tail_payments(n, e, a)
+    R = [sum(y[i]) + z[i] for i in years]
     X = [C[i][k - i] + R[i] for i in years]
     if max(X) > 10**12:
         raise Refused(11)
@@ -183,7 +197,7 @@ def results(k, n, P, e, b, w, U):
             completed.append(c)
     if any(c > 10**11 for c in completed):
         raise Refused(14)
-    return sum(s, []) + r + level + L[1:] + sum(y, []) + R + [sum(R)] + N + Q + [sum(Q)] + [p] + m + completed
+    return sum(s, []) + r + level + L[1:] + sum(y, []) + R + [sum(R)] + N + Q + [sum(Q)] + [p] + m + completed + z
 
 
 def run(record, room):
@@ -191,41 +205,46 @@ def run(record, room):
     try:
         given = lists(read(record, room, result_count))
         k = given["k"][0]
-        out = results(k, given["n"], by_row(k, given["P"]), given["e"], given["b"], given["w"][0], given["U"])
+        out = results(k, given["n"], by_row(k, given["P"]), given["e"], given["b"], given["w"][0], given["U"], given["a"][0])
         assert len(out) == result_count(k)
         return 0, out
     except Refused as no:
         return no.args[0], None
 
 
-TWO_YEARS = [1, 1, 1, 60, 40, 66, 1100000, 800000, 200000, 500000, 6, 10]
+# a zero amount, with e_{k+1} = M, as request 3 has the marked triangles
+TWO_YEARS = [1, 1, 1, 60, 40, 66, 1100000, M, 800000, 200000, 500000, 6, 10, 0]
 MOTOR = [504, 282, 90, 48, 580, 292, 97, 595, 332, 662]
-MOTOR_ACCOUNT = ([3, 1, 1, 1, 1] + MOTOR + [1100000, 1210000, 1331000] + [700000, 200000, 80000, 20000] + [500000] + [20, 25, 30, 35])
+MOTOR_ACCOUNT = ([3, 1, 1, 1, 1] + MOTOR + [1100000, 1210000, 1331000, M] + [700000, 200000, 80000, 20000] + [500000] + [20, 25, 30, 35] + [0])
 # its A_0 is 0: document 01's last marked item, whose other fields are free
-THREE_YEARS = [2, 100, 100, 100, 0, 5000, 999999, 0, 0, 1, M, M, M, 0, 0, 0, 0, 0, 0]
+THREE_YEARS = [2, 100, 100, 100, 0, 5000, 999999, 0, 0, 1, M, M, M, M, 0, 0, 0, 0, 0, 0, 0]
 
 
 def marked():
-    """The items of document 01's "Marked triangles and edges", averages as request 4 of document 02 marks them."""
-    def put(at, value):
+    """The items of document 01's "Marked triangles and edges", averages as request 4 of document 02 marks them, the amount zero as request 3 does."""
+    def put(*changes):
         fields = list(TWO_YEARS)
-        fields[at] = value
-        return run(pack(fields), 20)
+        for at, value in changes:
+            fields[at] = value
+        return run(pack(fields), 22)
 
-    assert (bit_count(1), byte_count(1), bit_count(15), byte_count(15)) == (300, 38, 6313, 790)
-    assert (cells(15), result_count(1), result_count(15)) == (136, 20, 489)
-    printed = "6000 4000 6600 622641509 377358491 9636 10600 11660 44 0 44 44 0 22 0 3 3 96385 1666666 109"
-    assert run(pack(TWO_YEARS), 20) == (0, [int(x) for x in printed.split()])
+    assert (bit_count(1), byte_count(1), bit_count(15), byte_count(15)) == (357, 45, 6370, 797)
+    assert (cells(15), result_count(1), result_count(15)) == (136, 22, 505)
+    printed = "6000 4000 6600 622641509 377358491 9636 10600 11660 44 0 44 44 0 22 0 3 3 96385 1666666 109 0 0"
+    assert put() == (0, [int(x) for x in printed.split()])
     number, out = run(pack(MOTOR_ACCOUNT), result_count(3))
     assert number == 0 and out[10:14] == [583475514, 287767456, 86614799, 42142231]
-    assert out[14:18] == [86378, 98939, 101998, 113900]
+    assert out[14:18] == [86378, 98939, 101998, 113900] and out[-4:] == [0] * 4
     assert [average(*a) for a in ((1, 8), (-1, 8), (1, 3), (1, 200), (1, 201))] == [12, -12, 33, 0, 0]
     assert [average(*a) for a in ((3, 8), (-3, 8), (5, 8), (3, 200), (-1, 200))] == [38, -38, 62, 2, 0]
-    assert put(5, 0) == (8, None)
-    assert put(3, 0) == (13, None)
-    assert put(11, 161) == (12, None)
-    assert put(11, 160)[0] == 0 and put(11, 160)[1][17] == M
+    assert put((5, 0)) == (8, None)
+    assert put((3, 0)) == (13, None)
+    assert put((12, 161)) == (12, None)
+    assert put((12, 160))[0] == 0 and put((12, 160))[1][17] == M
     assert run(pack(THREE_YEARS), result_count(2)) == (9, None)
+    # an amount of 100 for year 0, carried to year 1 by e_2 / e_1 = 1.1: provisions, claims not reported and reserves
+    number, out = put((7, 1210000), (13, 100))
+    assert number == 0 and out[9:17] == [100, 154, 254, 0, 44, 4, 9, 13] and out[20:] == [100, 110]
 
 
 marked()

@@ -38,8 +38,9 @@ def sections(k, results):
     unreported, reserves, reserve_total, ratio = take(k + 1), take(k + 1), take(1)[0], take(1)[0]
     factors = take(k)
     completed = [take(i) for i in years]
+    tails = take(k + 1)
     assert next(rest, None) is None
-    return averages, shares, levels, future, payments, provisions, provision_total, unreported, reserves, reserve_total, ratio, factors, completed
+    return averages, shares, levels, future, payments, provisions, provision_total, unreported, reserves, reserve_total, ratio, factors, completed, tails
 
 
 def past_diagonal(k, rows):
@@ -53,10 +54,10 @@ def page(record):
     number, results = model.run(record, model.result_count(k))
     assert number == 0
     (averages, shares, levels, future, payments, provisions, provision_total, unreported, reserves, reserve_total, ratio, factors,
-     completed) = sections(k, results)
+     completed, tails) = sections(k, results)
     years = range(k + 1)
     paid = [sum(row) for row in model.by_row(k, model.lists(model.read(record, model.field_count(k)))["P"])]
-    # nothing of year 0 is still to be completed
+    # the chain ladder completes nothing of year 0
     ladder = [completed[i][-1] if i else paid[0] for i in years]
 
     text = "Averages paid a claim, by origin year and development year\n"
@@ -74,13 +75,14 @@ def page(record):
     text += "\nCompleted payments, by origin year and development year\n"
     text += past_diagonal(k, payments)
 
-    text += "\nProvisions and ULAE reserve by origin year, with the chain ladder beside them\n"
-    text += line("year", ["paid", "provision", "ultimate", "not reported", "ULAE reserve", "ladder ultimate", "ladder provision"], AMOUNT)
+    text += "\nProvisions and ULAE reserve by origin year, with the chain ladder, which has no tail, beside them\n"
+    names = ["paid", "provision", "of it tail", "ultimate", "not reported", "ULAE reserve", "ladder ultimate", "ladder provision"]
+    text += line("year", names, AMOUNT)
     for i in years:
-        columns = [paid[i], provisions[i], paid[i] + provisions[i], unreported[i], reserves[i], ladder[i], ladder[i] - paid[i]]
+        columns = [paid[i], provisions[i], tails[i], paid[i] + provisions[i], unreported[i], reserves[i], ladder[i], ladder[i] - paid[i]]
         text += line(i, columns, AMOUNT)
     # the list has no total of what is not reported
-    columns = [sum(paid), provision_total, sum(paid) + provision_total, None, reserve_total, sum(ladder), sum(ladder) - sum(paid)]
+    columns = [sum(paid), provision_total, sum(tails), sum(paid) + provision_total, None, reserve_total, sum(ladder), sum(ladder) - sum(paid)]
     text += line("total", columns, AMOUNT)
 
     text += f"\nULAE ratio {fixed(ratio, 6)}\n"
@@ -100,7 +102,7 @@ def csv(record):
     number, results = model.run(record, model.result_count(k))
     assert number == 0
     (averages, shares, levels, future, payments, provisions, provision_total, unreported, reserves, reserve_total, ratio, factors,
-     completed) = sections(k, results)
+     completed, tails) = sections(k, results)
     claim, money = "hundredths a claim", "currency units"
     lines = [("section", "origin year", "development or payment year", "value", "unit")]
 
@@ -123,6 +125,7 @@ def csv(record):
     put("ulae ratio", "millionths", [("", "", ratio)])
     put("development factor", "millionths", (("", h, value) for h, value in enumerate(factors)))
     put("completed cumulative", money, past(completed))
+    put("tail payment", money, ((i, "", value) for i, value in enumerate(tails)))
     assert [value for *_, value, _ in lines[1:]] == results
     return "".join(",".join(str(cell) for cell in line) + "\n" for line in lines)
 
@@ -148,5 +151,5 @@ def sheet(fields):
     k, given = fields[0], model.lists(fields)
     lines = [("k", given["k"]), ("exposures", given["n"])]
     lines += [("paid", row) for row in model.by_row(k, given["P"])]
-    lines += [("indices", given["e"]), ("reporting", given["b"]), ("weight", given["w"]), ("ulae", given["U"])]
+    lines += [("indices", given["e"]), ("reporting", given["b"]), ("weight", given["w"]), ("ulae", given["U"]), ("tail", given["a"])]
     return "".join(" ".join([label] + [str(number) for number in numbers]) + "\n" for label, numbers in lines)

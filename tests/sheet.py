@@ -13,7 +13,8 @@ def table(k):
     """The lines of the years 0 to k: label, how many numbers, the least and the most of each."""
     amount = 10**10
     return ([("k", 1, 1, 15), ("exposures", k + 1, 1, 10**6)] + [("paid", k + 1 - i, -amount, amount) for i in range(k + 1)] +
-            [("indices", k, 1, 5 * 10**6), ("reporting", k + 1, 0, 10**6), ("weight", 1, 0, 10**6), ("ulae", k + 1, 0, amount)])
+            [("indices", k + 1, 1, 5 * 10**6), ("reporting", k + 1, 0, 10**6), ("weight", 1, 0, 10**6), ("ulae", k + 1, 0, amount),
+             ("tail", 1, 0, amount)])
 
 
 def content(line):
@@ -91,6 +92,6 @@ def read(text):
     if place < len(due):
         return None, f"line {len(lines)}: the text ends where `{due[place][0]}` is due".encode()
     k = fields[0]
-    if sum(fields[-2 * k - 3:-k - 2]) != 10**6:
+    if sum(fields[-2 * k - 4:-k - 3]) != 10**6:
         return None, b"refused 5: the reporting shares do not sum to 1,000,000"
     return fields, None

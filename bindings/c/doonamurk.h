@@ -22,6 +22,8 @@
  *    8  Is T_h - v_h at least 1 for every h from 1 to k?
  *    9  Is every running share at least 1?
  *   10  Is every level at most 10^9?
+ *   18  Is the average of what is still to be paid for year 0 after year k at most 10^9?
+ *   19  Is the average of what is still to be paid after year k, carried to each year by the indices, at most 5 * 10^9?
  *   11  Is every ultimate at most 10^12?
  *   12  Is the total of paid increments at least 1, and the total of the ULAE totals at most that?
  *   13  Is every chain-ladder base at least 1, and every development factor at most 50,000,000?
@@ -42,15 +44,15 @@ extern "C" {
 
 /* The longest of each, for buffers that are to hold any: years 0 to k, bytes of a record, fields of a record, entries of a result list. */
 #define DOONAMURK_K_MAX 15
-#define DOONAMURK_RECORD_MAX 790
-#define DOONAMURK_FIELDS_MAX 201
-#define DOONAMURK_RESULTS_MAX 489
+#define DOONAMURK_RECORD_MAX 797
+#define DOONAMURK_FIELDS_MAX 203
+#define DOONAMURK_RESULTS_MAX 505
 
 /* For k from 1 to 15: the cells of the triangle, the bytes of the record, its fields, and the entries of the result list. */
 static inline size_t doonamurk_cells(size_t k) { return (k + 1) * (k + 2) / 2; }
-static inline size_t doonamurk_record_bytes(size_t k) { return (98 + 97 * k + 35 * doonamurk_cells(k) + 7) / 8; }
-static inline size_t doonamurk_field_count(size_t k) { return doonamurk_cells(k) + 4 * k + 5; }
-static inline size_t doonamurk_result_count(size_t k) { return 3 * doonamurk_cells(k) + 5 * k + 6; }
+static inline size_t doonamurk_record_bytes(size_t k) { return (155 + 97 * k + 35 * doonamurk_cells(k) + 7) / 8; }
+static inline size_t doonamurk_field_count(size_t k) { return doonamurk_cells(k) + 4 * k + 7; }
+static inline size_t doonamurk_result_count(size_t k) { return 3 * doonamurk_cells(k) + 6 * k + 7; }
 
 /* The sections of a result list in their order (docs/FORMAT.md has the same table, with units). */
 enum doonamurk_section {
@@ -67,6 +69,7 @@ enum doonamurk_section {
     DOONAMURK_ULAE_RATIO,            /* one entry */
     DOONAMURK_DEVELOPMENT_FACTORS,   /* development years 0 to k - 1, each to the next */
     DOONAMURK_COMPLETED_CUMULATIVES, /* future cells */
+    DOONAMURK_TAIL_PAYMENTS,         /* origin years 0 to k: paid after year k, and part of the provisions */
     DOONAMURK_SECTIONS
 };
 
@@ -104,7 +107,7 @@ static inline size_t doonamurk_future_cell(size_t k, size_t i, size_t j) { retur
 
 /* Runs from a record to its result list.
  *
- * Answers 0 and fills the first doonamurk_result_count(k) entries of results; entries past them keep what they held. Else answers 1 to 14, the first
+ * Answers 0 and fills the first doonamurk_result_count(k) entries of results; entries past them keep what they held. Else answers 1 to 14, 18 or 19, the first
  * question that says no, and leaves all of results as it was; too short a buffer is question 3.
  *
  * record, record_len    any bytes, of any length; only read
@@ -132,16 +135,17 @@ uint64_t doonamurk_read(const uint8_t *record, size_t record_len, int64_t *list,
  * k                   the last year, 1 to 15
  * exposures, n        n = k + 1 exposures, 1 to 1,000,000
  * increments, c       c = doonamurk_cells(k) paid increments, row by row, -10^10 to 10^10
- * indices, e          e = k future indices in millionths, 1 to 5,000,000
+ * indices, e          e = k + 1 future indices in millionths, 1 to 5,000,000
  * reporting, b        b = k + 1 reporting shares in millionths, which sum to 1,000,000 (question 5)
  * weight              the reporting weight in millionths, 0 to 1,000,000
  * ulae, u             u = k + 1 ULAE totals, 0 to 10^10
+ * tail                the amount still to be paid for year 0 after year k, 0 to 10^10
  * record, record_len  the buffer that is filled, record_len = doonamurk_record_bytes(k)
  *
  * The caller owns all of them and nothing is kept or freed; none may be null and record must not overlap a list; any number of threads may call at once. */
 uint64_t doonamurk_write(uint64_t k, const uint64_t *exposures, size_t n, const int64_t *increments, size_t c,
                          const uint64_t *indices, size_t e, const uint64_t *reporting, size_t b, uint64_t weight,
-                         const uint64_t *ulae, size_t u, uint8_t *record, size_t record_len);
+                         const uint64_t *ulae, size_t u, uint64_t tail, uint8_t *record, size_t record_len);
 
 #ifdef __cplusplus
 }

@@ -1,4 +1,5 @@
-/* Tests the C functions on Taylor's motor account, on document 01's two years, on refusals, and from several threads at once. Says which check fails, and ends with status 1. */
+/* Tests the C functions on Taylor's motor account, on document 01's two years, also with payments after the last year, on refusals, and from several threads at
+ * once. Says which check fails, and ends with status 1. */
 #include "doonamurk.h"
 
 #include <pthread.h>
@@ -18,7 +19,7 @@ static void check(int holds, const char *what)
 #define MOTOR_K 3
 static const uint64_t motor_exposures[] = {1, 1, 1, 1};
 static const int64_t motor_increments[] = {504, 282, 90, 48, 580, 292, 97, 595, 332, 662};
-static const uint64_t motor_indices[] = {1100000, 1210000, 1331000};
+static const uint64_t motor_indices[] = {1100000, 1210000, 1331000, 1000000};
 static const uint64_t motor_reporting[] = {700000, 200000, 80000, 20000};
 static const uint64_t motor_ulae[] = {20, 25, 30, 35};
 
@@ -28,8 +29,8 @@ static uint64_t write_motor(uint64_t k, uint64_t exposure, size_t cells, uint8_t
     uint64_t exposures[4];
     memcpy(exposures, motor_exposures, sizeof exposures);
     exposures[0] = exposure;
-    return doonamurk_write(k, exposures, 4, motor_increments, cells, motor_indices, 3, motor_reporting, 4, 500000,
-                           motor_ulae, 4, record, record_len);
+    return doonamurk_write(k, exposures, 4, motor_increments, cells, motor_indices, 4, motor_reporting, 4, 500000,
+                           motor_ulae, 4, 0, record, record_len);
 }
 
 static void fill(int64_t *list, size_t n)
@@ -48,9 +49,9 @@ static int filled(const int64_t *list, size_t from, size_t n)
 
 static void sizes(void)
 {
-    check(doonamurk_record_bytes(1) == 38 && doonamurk_record_bytes(15) == DOONAMURK_RECORD_MAX, "bytes of a record");
-    check(doonamurk_field_count(1) == 12 && doonamurk_field_count(15) == DOONAMURK_FIELDS_MAX, "fields of a record");
-    check(doonamurk_result_count(1) == 20 && doonamurk_result_count(15) == DOONAMURK_RESULTS_MAX, "entries of a result list");
+    check(doonamurk_record_bytes(1) == 45 && doonamurk_record_bytes(15) == DOONAMURK_RECORD_MAX, "bytes of a record");
+    check(doonamurk_field_count(1) == 14 && doonamurk_field_count(15) == DOONAMURK_FIELDS_MAX, "fields of a record");
+    check(doonamurk_result_count(1) == 22 && doonamurk_result_count(15) == DOONAMURK_RESULTS_MAX, "entries of a result list");
 }
 
 /* The places by name, for every k: sections follow one another to the end of the list, and so do the cells of each. */
@@ -83,30 +84,50 @@ static void named_sections(void)
     check(list[doonamurk_section_start(k, DOONAMURK_COMPLETED_CUMULATIVES) + doonamurk_future_cell(k, 3, 3)] == 1195, "a completed cumulative");
 }
 
+/* The record of document 01's two years, with the indices and the amount still to be paid for year 0 to choose. */
+static void write_two_years(uint64_t next_index, uint64_t last_index, uint64_t tail, uint8_t *record)
+{
+    const uint64_t exposures[] = {1, 1}, indices[] = {next_index, last_index}, reporting[] = {800000, 200000}, ulae[] = {6, 10};
+    const int64_t increments[] = {60, 40, 66};
+    check(doonamurk_write(1, exposures, 2, increments, 3, indices, 2, reporting, 2, 500000, ulae, 2, tail, record, 45) == 0,
+          "the two years are written");
+}
+
 static void two_years(void)
 {
     static const int64_t printed[] = {6000, 4000, 6600, 622641509, 377358491, 9636, 10600, 11660, 44, 0,
-                                      44, 44, 0, 22, 0, 3, 3, 96385, 1666666, 109};
-    const uint64_t exposures[] = {1, 1}, indices[] = {1100000}, reporting[] = {800000, 200000}, ulae[] = {6, 10};
-    const int64_t increments[] = {60, 40, 66};
-    uint8_t record[38];
-    int64_t results[20];
-    check(doonamurk_write(1, exposures, 2, increments, 3, indices, 1, reporting, 2, 500000, ulae, 2, record, 38) == 0,
-          "the two years are written");
-    check(doonamurk_run(record, 38, results, 20) == 0, "the two years are accepted");
+                                      44, 44, 0, 22, 0, 3, 3, 96385, 1666666, 109, 0, 0};
+    uint8_t record[45];
+    int64_t results[22];
+    write_two_years(1100000, 1000000, 0, record);
+    check(doonamurk_run(record, 45, results, 22) == 0, "the two years are accepted");
     check(memcmp(results, printed, sizeof printed) == 0, "the two years have the printed list");
+}
+
+/* The two years with 100 still to be paid for year 0, which the indices carry to 110 for year 1. */
+static void tail_payments(void)
+{
+    static const int64_t tails[] = {100, 110}, provisions[] = {100, 154}, reserves[] = {4, 9};
+    uint8_t record[45];
+    int64_t results[22], fields[14];
+    write_two_years(1100000, 1210000, 100, record);
+    check(doonamurk_run(record, 45, results, 22) == 0, "an amount still to be paid is accepted");
+    check(memcmp(results + doonamurk_section_start(1, DOONAMURK_TAIL_PAYMENTS), tails, sizeof tails) == 0, "payments after the last year");
+    check(memcmp(results + doonamurk_section_start(1, DOONAMURK_PROVISIONS), provisions, sizeof provisions) == 0, "provisions with them");
+    check(memcmp(results + doonamurk_section_start(1, DOONAMURK_ULAE_RESERVES), reserves, sizeof reserves) == 0, "ULAE reserves with them");
+    check(doonamurk_read(record, 45, fields, 14) == 0 && fields[7] == 1210000 && fields[13] == 100, "the last index and the amount are read");
 }
 
 /* Averages that lie halfway between two hundredths go to the even one, negative ones too. */
 static void halves(void)
 {
     static const int64_t averages[] = {5012, -12, 38, 62, 5038, 88, -38, 5062, 112, 5088};
-    const uint64_t exposures[] = {8, 8, 8, 8}, indices[] = {1000000, 1000000, 1000000}, reporting[] = {1000000, 0, 0, 0}, ulae[] = {0, 0, 0, 0};
+    const uint64_t exposures[] = {8, 8, 8, 8}, indices[] = {1000000, 1000000, 1000000, 1000000}, reporting[] = {1000000, 0, 0, 0}, ulae[] = {0, 0, 0, 0};
     const int64_t increments[] = {401, -1, 3, 5, 403, 7, -3, 405, 9, 407};
     uint8_t record[DOONAMURK_RECORD_MAX];
     int64_t results[DOONAMURK_RESULTS_MAX];
     size_t bytes = doonamurk_record_bytes(3);
-    check(doonamurk_write(3, exposures, 4, increments, 10, indices, 3, reporting, 4, 0, ulae, 4, record, bytes) == 0, "halves are written");
+    check(doonamurk_write(3, exposures, 4, increments, 10, indices, 4, reporting, 4, 0, ulae, 4, 0, record, bytes) == 0, "halves are written");
     check(doonamurk_run(record, bytes, results, DOONAMURK_RESULTS_MAX) == 0, "halves are accepted");
     check(memcmp(results, averages, sizeof averages) == 0, "halves go to the even hundredth");
 }
@@ -173,12 +194,17 @@ static void refusals(void)
         {{0, 40, 66}, {6, 10}, 13, "refused 13: the two years with first cell 0"},
         {{60, 40, 66}, {6, 161}, 12, "refused 12: the two years with U 6, 161"},
     };
-    const uint64_t exposures[] = {1, 1}, indices[] = {1100000}, reporting[] = {800000, 200000};
+    const uint64_t exposures[] = {1, 1}, indices[] = {1100000, 1000000}, reporting[] = {800000, 200000};
     for (size_t i = 0; i < sizeof marked / sizeof *marked; i++) {
-        check(doonamurk_write(1, exposures, 2, marked[i].cells, 3, indices, 1, reporting, 2, 500000, marked[i].ulae, 2, changed, 38) == 0,
+        check(doonamurk_write(1, exposures, 2, marked[i].cells, 3, indices, 2, reporting, 2, 500000, marked[i].ulae, 2, 0, changed, 45) == 0,
               "a changed two years is written");
-        refused(marked[i].number, changed, 38, 20, marked[i].what);
+        refused(marked[i].number, changed, 45, 22, marked[i].what);
     }
+    /* An average of 10^9 and 100 hundredths, and one of 10^9 that the indices carry to 6 * 10^9. */
+    write_two_years(1000000, 1000000, 10000001, changed);
+    refused(18, changed, 45, 22, "refused 18: an average still to be paid above 10^9");
+    write_two_years(1, 6, 10000000, changed);
+    refused(19, changed, 45, 22, "refused 19: an average carried to year 1 above 5 * 10^9");
 }
 
 static void refused_writes(void)
@@ -200,9 +226,15 @@ static void refused_writes(void)
     }
     const uint64_t reporting[] = {700000, 200000, 80000, 20001};
     memcpy(record, before, sizeof record);
-    uint64_t answer = doonamurk_write(MOTOR_K, motor_exposures, 4, motor_increments, 10, motor_indices, 3, reporting, 4, 500000,
-                                      motor_ulae, 4, record, doonamurk_record_bytes(MOTOR_K));
+    uint64_t answer = doonamurk_write(MOTOR_K, motor_exposures, 4, motor_increments, 10, motor_indices, 4, reporting, 4, 500000,
+                                      motor_ulae, 4, 0, record, doonamurk_record_bytes(MOTOR_K));
     check(answer == 5 && memcmp(record, before, sizeof record) == 0, "write refused 5: reporting shares of 1,000,001");
+    answer = doonamurk_write(MOTOR_K, motor_exposures, 4, motor_increments, 10, motor_indices, 3, motor_reporting, 4, 500000,
+                             motor_ulae, 4, 0, record, doonamurk_record_bytes(MOTOR_K));
+    check(answer == 2 && memcmp(record, before, sizeof record) == 0, "write refused 2: an index too few");
+    answer = doonamurk_write(MOTOR_K, motor_exposures, 4, motor_increments, 10, motor_indices, 4, motor_reporting, 4, 500000,
+                             motor_ulae, 4, 10000000001, record, doonamurk_record_bytes(MOTOR_K));
+    check(answer == 4 && memcmp(record, before, sizeof record) == 0, "write refused 4: an amount still to be paid above 10^10");
 }
 
 #define THREADS 4
@@ -257,6 +289,7 @@ int main(void)
     places();
     named_sections();
     two_years();
+    tail_payments();
     halves();
     motor_account();
     refusals();

@@ -21,10 +21,11 @@ import os
 from pathlib import Path
 
 K_MAX = 15
-RECORD_MAX = 790
-FIELDS_MAX = 201
-RESULTS_MAX = 489
+RECORD_MAX = 797
+FIELDS_MAX = 203
+RESULTS_MAX = 505
 
+# In the order in which they are asked.
 QUESTIONS = {
     1: "Is there a first byte, and is k at least 1?",
     2: "Is the length just what k calls for, and every filling bit zero?",
@@ -36,6 +37,8 @@ QUESTIONS = {
     8: "Is T_h - v_h at least 1 for every h from 1 to k?",
     9: "Is every running share at least 1?",
     10: "Is every level at most 10^9?",
+    18: "Is the average of what is still to be paid for year 0 after year k at most 10^9?",
+    19: "Is the average of what is still to be paid after year k, carried to each year by the indices, at most 5 * 10^9?",
     11: "Is every ultimate at most 10^12?",
     12: "Is the total of paid increments at least 1, and the total of the ULAE totals at most that?",
     13: "Is every chain-ladder base at least 1, and every development factor at most 50,000,000?",
@@ -70,17 +73,17 @@ def cells(k):
 
 def record_bytes(k):
     """The bytes of a record with years 0 to k, for k from 1 to 15."""
-    return (98 + 97 * k + 35 * cells(k) + 7) // 8
+    return (155 + 97 * k + 35 * cells(k) + 7) // 8
 
 
 def field_count(k):
     """The fields of a record with years 0 to k, for k from 1 to 15."""
-    return cells(k) + 4 * k + 5
+    return cells(k) + 4 * k + 7
 
 
 def result_count(k):
     """The entries of a result list with years 0 to k, for k from 1 to 15."""
-    return 3 * cells(k) + 5 * k + 6
+    return 3 * cells(k) + 6 * k + 7
 
 
 # The sections of a result list in their order: name, the years of its entries, unit (docs/FORMAT.md has the same table).
@@ -98,6 +101,7 @@ SECTIONS = (
     ("ulae_ratio", "one", "millionths"),
     ("development_factors", "steps", "millionths"),
     ("completed_cumulatives", "future cells", "currency units"),
+    ("tail_payments", "years", "currency units"),
 )
 
 
@@ -145,7 +149,7 @@ def _load():
         call.argtypes = [byte_list, size, signed_list, size]
     library.doonamurk_write.restype = ctypes.c_uint64
     library.doonamurk_write.argtypes = [
-        ctypes.c_uint64, list_, size, signed_list, size, list_, size, list_, size, ctypes.c_uint64, list_, size, byte_list, size
+        ctypes.c_uint64, list_, size, signed_list, size, list_, size, list_, size, ctypes.c_uint64, list_, size, ctypes.c_uint64, byte_list, size
     ]
     return library
 
@@ -179,8 +183,8 @@ def _filled(call, record, count_of):
 def run(record):
     """The result list of a record, a list of whole numbers.
 
-    Refusals: raises Refused with the first of questions 1 to 14 that says no; question 3 never does, for the list is made as long as it must be.
-    Raises TypeError where the record is not bytes or memory of single bytes.
+    Refusals: raises Refused with the first of questions 1 to 14, 18 and 19 that says no; question 3 never does, for the list is made as long as it
+    must be. Raises TypeError where the record is not bytes or memory of single bytes.
     Ownership: the record is copied in and not changed or kept; the list is a new one, the caller's.
     Threads: any number may call at once, with the same record too."""
     return _filled(_library.doonamurk_run, record, result_count)
@@ -210,23 +214,23 @@ def _numbers(name, kind, values):
     return (kind * len(numbers))(*numbers)
 
 
-def write(k, exposures, increments, indices, reporting, weight, ulae):
-    """The record (bytes) of the given fields: k, k + 1 exposures, the paid increments row by row, k future indices, k + 1 reporting shares, the
-    reporting weight and k + 1 ULAE totals.
+def write(k, exposures, increments, indices, reporting, weight, ulae, tail):
+    """The record (bytes) of the given fields: k, k + 1 exposures, the paid increments row by row, k + 1 future indices, k + 1 reporting shares, the
+    reporting weight, k + 1 ULAE totals and the amount still to be paid for year 0 after year k.
 
     Refusals: raises Refused with the first of questions 1, 2, 4 and 5 that says no, OverflowError for a number that 64 bits cannot hold, and TypeError for one
     that is no whole number; the last two name the argument.
     Ownership: the numbers are copied in and no list is changed or kept; the record is new bytes, the caller's.
     Threads: any number may call at once, with the same lists too as long as none of them is changed meanwhile."""
     natural = ctypes.c_uint64
-    k, weight = _numbers("k", natural, [k])[0], _numbers("weight", natural, [weight])[0]
+    k, weight, tail = (_numbers(name, natural, [value])[0] for name, value in (("k", k), ("weight", weight), ("tail", tail)))
     # A k past 15 is refused under question 1 whatever the buffer, so it need not be large.
     record = (ctypes.c_uint8 * record_bytes(min(k, K_MAX)))()
     lists = [_numbers(*argument) for argument in
              (("exposures", natural, exposures), ("increments", ctypes.c_int64, increments), ("indices", natural, indices),
               ("reporting", natural, reporting), ("ulae", natural, ulae))]
     n, c, e, b, u = ((values, len(values)) for values in lists)
-    number = _library.doonamurk_write(k, *n, *c, *e, *b, weight, *u, record, len(record))
+    number = _library.doonamurk_write(k, *n, *c, *e, *b, weight, *u, tail, record, len(record))
     if number:
         raise Refused(number, WRITE_QUESTIONS[number])
     return bytes(record)

@@ -1,4 +1,4 @@
-"""Taylor's motor account, document 01's two years, refusals, and the way from fields to a record and back.
+"""Taylor's motor account, document 01's two years, payments after the last year, refusals, and the way from fields to a record and back.
 
     python3 -m unittest discover bindings/python
 """
@@ -22,13 +22,14 @@ MOTOR = dict(
     k=3,
     exposures=[1, 1, 1, 1],
     increments=[504, 282, 90, 48, 580, 292, 97, 595, 332, 662],
-    indices=[1100000, 1210000, 1331000],
+    indices=[1100000, 1210000, 1331000, 1000000],
     reporting=[700000, 200000, 80000, 20000],
     weight=500000,
     ulae=[20, 25, 30, 35],
+    tail=0,
 )
-TWO_YEARS = dict(k=1, exposures=[1, 1], increments=[60, 40, 66], indices=[1100000], reporting=[800000, 200000], weight=500000, ulae=[6, 10])
-TWO_YEARS_PRINTED = [6000, 4000, 6600, 622641509, 377358491, 9636, 10600, 11660, 44, 0, 44, 44, 0, 22, 0, 3, 3, 96385, 1666666, 109]
+TWO_YEARS = dict(k=1, exposures=[1, 1], increments=[60, 40, 66], indices=[1100000, 1000000], reporting=[800000, 200000], weight=500000, ulae=[6, 10], tail=0)
+TWO_YEARS_PRINTED = [6000, 4000, 6600, 622641509, 377358491, 9636, 10600, 11660, 44, 0, 44, 44, 0, 22, 0, 3, 3, 96385, 1666666, 109, 0, 0]
 SHARES = [583475514, 287767456, 86614799, 42142231]
 LEVELS = [86378, 98939, 101998, 113900]
 
@@ -47,9 +48,9 @@ class Calls(unittest.TestCase):
 
     def test_sizes(self):
         for count, first, last in (
-            (doonamurk.record_bytes, 38, doonamurk.RECORD_MAX),
-            (doonamurk.field_count, 12, doonamurk.FIELDS_MAX),
-            (doonamurk.result_count, 20, doonamurk.RESULTS_MAX),
+            (doonamurk.record_bytes, 45, doonamurk.RECORD_MAX),
+            (doonamurk.field_count, 14, doonamurk.FIELDS_MAX),
+            (doonamurk.result_count, 22, doonamurk.RESULTS_MAX),
         ):
             self.assertEqual((count(1), count(doonamurk.K_MAX)), (first, last))
 
@@ -67,21 +68,27 @@ class Calls(unittest.TestCase):
         self.assertEqual(doonamurk.run(doonamurk.write(**TWO_YEARS)), TWO_YEARS_PRINTED)
 
     def test_halves_go_to_the_even_hundredth(self):
-        record = doonamurk.write(3, [8] * 4, [401, -1, 3, 5, 403, 7, -3, 405, 9, 407], [1000000] * 3, [1000000, 0, 0, 0], 0, [0] * 4)
+        record = doonamurk.write(3, [8] * 4, [401, -1, 3, 5, 403, 7, -3, 405, 9, 407], [1000000] * 4, [1000000, 0, 0, 0], 0, [0] * 4, 0)
         self.assertEqual(doonamurk.run(record)[:10], [5012, -12, 38, 62, 5038, 88, -38, 5062, 112, 5088])
+
+    def test_payments_after_the_last_year(self):
+        named = doonamurk.sections(doonamurk.run(doonamurk.write(**{**TWO_YEARS, "indices": [1100000, 1210000], "tail": 100})))
+        self.assertEqual(named["tail_payments"], {0: 100, 1: 110})
+        self.assertEqual(named["provisions"], {0: 100, 1: 154})
+        self.assertEqual((named["not_reported"], named["ulae_reserves"]), ({0: 0, 1: 44}, {0: 4, 1: 9}))
 
     def test_round_trip(self):
         record = doonamurk.write(**MOTOR)
         fields = doonamurk.read(record)
-        self.assertEqual(fields, [3, *MOTOR["exposures"], *MOTOR["increments"], *MOTOR["indices"], *MOTOR["reporting"], 500000, *MOTOR["ulae"]])
-        back = doonamurk.write(fields[0], fields[1:5], fields[5:15], fields[15:18], fields[18:22], fields[22], fields[23:])
+        self.assertEqual(fields, [3, *MOTOR["exposures"], *MOTOR["increments"], *MOTOR["indices"], *MOTOR["reporting"], 500000, *MOTOR["ulae"], 0])
+        back = doonamurk.write(fields[0], fields[1:5], fields[5:15], fields[15:19], fields[19:23], fields[23], fields[24:28], fields[28])
         self.assertEqual(back, record)
 
     def test_refused_records(self):
         record = doonamurk.write(**MOTOR)
         for number, bad in (
             (1, b""),
-            (1, bytes(38)),
+            (1, bytes(45)),
             (2, record[:-1]),
             (2, record + b"\0"),
             (2, record[:-1] + bytes([record[-1] | 1])),
@@ -110,12 +117,12 @@ class Calls(unittest.TestCase):
             self.assertEqual(call(packed, len(bad), lent, room), number)
             self.assertEqual(list(lent), pattern)
         natural = ctypes.c_uint64
-        for number, k, exposure, length in ((1, 16, 1, 38), (2, 1, 1, 37), (4, 1, 0, 38)):
-            lent = (ctypes.c_uint8 * 38)(*range(38))
+        for number, k, exposure, length in ((1, 16, 1, 45), (2, 1, 1, 44), (4, 1, 0, 45)):
+            lent = (ctypes.c_uint8 * 45)(*range(45))
             n, c = (natural * 2)(exposure, 1), (ctypes.c_int64 * 3)(60, 40, 66)
-            e, b, u = (natural * 1)(1100000), (natural * 2)(800000, 200000), (natural * 2)(6, 10)
-            self.assertEqual(library.doonamurk_write(k, n, 2, c, 3, e, 1, b, 2, 500000, u, 2, lent, length), number)
-            self.assertEqual(bytes(lent), bytes(range(38)))
+            e, b, u = (natural * 2)(1100000, 1000000), (natural * 2)(800000, 200000), (natural * 2)(6, 10)
+            self.assertEqual(library.doonamurk_write(k, n, 2, c, 3, e, 2, b, 2, 500000, u, 2, 0, lent, length), number)
+            self.assertEqual(bytes(lent), bytes(range(45)))
 
     def test_what_a_record_may_be(self):
         record = doonamurk.write(**MOTOR)
@@ -137,8 +144,15 @@ class Calls(unittest.TestCase):
         self.assertEqual(shown.stdout.strip(), str(here))
 
     def test_marked_refusals(self):
-        for number, change in ((8, dict(increments=[60, 40, 0])), (13, dict(increments=[0, 40, 66])), (12, dict(ulae=[6, 161]))):
-            self.refused(number, doonamurk.run, doonamurk.write(**{**TWO_YEARS, **change}))
+        for number, change in (
+            (8, dict(increments=[60, 40, 0])),
+            (13, dict(increments=[0, 40, 66])),
+            (12, dict(ulae=[6, 161])),
+            (18, dict(tail=10000001)),
+            (19, dict(indices=[1, 6], tail=10000000)),
+        ):
+            refusal = self.refused(number, doonamurk.run, doonamurk.write(**{**TWO_YEARS, **change}))
+            self.assertEqual(refusal.question, doonamurk.QUESTIONS[number])
 
     def test_refused_writes(self):
         for number, change in (
@@ -147,21 +161,23 @@ class Calls(unittest.TestCase):
             (1, dict(k=2**64 - 1)),
             (2, dict(increments=[504])),
             (2, dict(ulae=[])),
+            (2, dict(indices=MOTOR["indices"][:3])),
             (4, dict(exposures=[0, 1, 1, 1])),
             (4, dict(weight=1000001)),
+            (4, dict(tail=10**10 + 1)),
             (4, dict(increments=[-(2**63)] + MOTOR["increments"][1:])),
             (5, dict(reporting=[700000, 200000, 80000, 20001])),
         ):
             self.refused(number, doonamurk.write, **{**MOTOR, **change})
 
     def test_numbers_past_64_bits_are_not_cut(self):
-        for change in (dict(k=2**64 + 3), dict(k=-1), dict(weight=2**64), dict(exposures=[2**64 + 1, 1, 1, 1]), dict(ulae=[-1, 0, 0, 0])):
+        for change in (dict(k=2**64 + 3), dict(k=-1), dict(weight=2**64), dict(tail=-1), dict(exposures=[2**64 + 1, 1, 1, 1]), dict(ulae=[-1, 0, 0, 0])):
             with self.assertRaisesRegex(OverflowError, f"^{next(iter(change))}: number 1 is "):
                 doonamurk.write(**{**MOTOR, **change})
 
     def test_a_wrong_type_names_its_argument(self):
-        for change in (dict(k="3"), dict(k=3.0), dict(weight=None), dict(exposures=[1, 1, 1, 1.5]), dict(increments=5), dict(indices=["1100000"] * 3),
-                       dict(reporting=[None] * 4), dict(ulae="20")):
+        for change in (dict(k="3"), dict(k=3.0), dict(weight=None), dict(exposures=[1, 1, 1, 1.5]), dict(increments=5), dict(indices=["1100000"] * 4),
+                       dict(reporting=[None] * 4), dict(ulae="20"), dict(tail=[0])):
             with self.assertRaisesRegex(TypeError, f"^{next(iter(change))}: whole numbers are due"):
                 doonamurk.write(**{**MOTOR, **change})
         with self.assertRaisesRegex(TypeError, "^record: bytes are due, not str"):
@@ -183,6 +199,7 @@ class Calls(unittest.TestCase):
             "ulae_ratio": 96385,
             "development_factors": {0: 1666666},
             "completed_cumulatives": {(1, 1): 109},
+            "tail_payments": {0: 0, 1: 0},
         })
         motor = doonamurk.sections(doonamurk.run(doonamurk.write(**MOTOR)))
         self.assertEqual(list(motor["shares"].values()), SHARES)
@@ -191,7 +208,7 @@ class Calls(unittest.TestCase):
             numbered = list(range(doonamurk.result_count(k)))
             back = [e for entries in doonamurk.sections(numbered).values() for e in (entries.values() if isinstance(entries, dict) else [entries])]
             self.assertEqual(back, numbered)
-        with self.assertRaisesRegex(ValueError, "^results: no result list has 19 entries"):
+        with self.assertRaisesRegex(ValueError, "^results: no result list has 21 entries"):
             doonamurk.sections(TWO_YEARS_PRINTED[1:])
 
     def test_a_refusal_pickles_and_copies(self):

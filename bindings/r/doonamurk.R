@@ -13,21 +13,24 @@
 # A refusal is an R error of class "doonamurk_refused" with the number of the first question that says no. The record, the lists and the questions are
 # in docs/FORMAT.md.
 
+# By their numbers, in the order in which they are asked.
 doonamurk_questions <- c(
-  "Is there a first byte, and is k at least 1?",
-  "Is the length just what k calls for, and every filling bit zero?",
-  "Does the list hold all entries?",
-  "Is every field in its range?",
-  "Do the reporting shares sum to 1,000,000?",
-  "Is every given cumulative from 0 to 10^11?",
-  "Is every column and every diagonal of the averages at least 0, and their total at most 10^9?",
-  "Is T_h - v_h at least 1 for every h from 1 to k?",
-  "Is every running share at least 1?",
-  "Is every level at most 10^9?",
-  "Is every ultimate at most 10^12?",
-  "Is the total of paid increments at least 1, and the total of the ULAE totals at most that?",
-  "Is every chain-ladder base at least 1, and every development factor at most 50,000,000?",
-  "Is every completed cumulative at most 10^11?"
+  "1" = "Is there a first byte, and is k at least 1?",
+  "2" = "Is the length just what k calls for, and every filling bit zero?",
+  "3" = "Does the list hold all entries?",
+  "4" = "Is every field in its range?",
+  "5" = "Do the reporting shares sum to 1,000,000?",
+  "6" = "Is every given cumulative from 0 to 10^11?",
+  "7" = "Is every column and every diagonal of the averages at least 0, and their total at most 10^9?",
+  "8" = "Is T_h - v_h at least 1 for every h from 1 to k?",
+  "9" = "Is every running share at least 1?",
+  "10" = "Is every level at most 10^9?",
+  "18" = "Is the average of what is still to be paid for year 0 after year k at most 10^9?",
+  "19" = "Is the average of what is still to be paid after year k, carried to each year by the indices, at most 5 * 10^9?",
+  "11" = "Is every ultimate at most 10^12?",
+  "12" = "Is the total of paid increments at least 1, and the total of the ULAE totals at most that?",
+  "13" = "Is every chain-ladder base at least 1, and every development factor at most 50,000,000?",
+  "14" = "Is every completed cumulative at most 10^11?"
 )
 
 # The writer asks these two otherwise.
@@ -50,7 +53,7 @@ doonamurk_k <- function(record) if (length(record) == 0) 0 else as.integer(recor
 
 # The R error of a refusal: its number, and the question in words.
 doonamurk_refused <- function(number, questions = doonamurk_questions) {
-  message <- sprintf("refused %d: %s", number, questions[number])
+  message <- sprintf("refused %d: %s", number, questions[[as.character(number)]])
   structure(class = c("doonamurk_refused", "error", "condition"), list(message = message, call = NULL, number = number))
 }
 
@@ -66,13 +69,13 @@ doonamurk_filled <- function(name, record, count) {
 }
 
 # The result list of a record (a raw vector), in whole numbers, all below 2^53 and so exact.
-# Refusals: an error of class "doonamurk_refused" whose number is the first of questions 1 to 14 that says no; never 3, for the list is made as long as
-# it must be. Another vector than a raw one is a plain error.
+# Refusals: an error of class "doonamurk_refused" whose number is the first of questions 1 to 14, 18 and 19 that says no; never 3, for the list is made
+# as long as it must be. Another vector than a raw one is a plain error.
 # Ownership: the record is copied in and not changed or kept; the list is a new vector.
 # Threads: the engine could be called from many at once, but R calls from its one thread; for more cores start more R processes.
 doonamurk_run <- function(record) {
   k <- doonamurk_k(record)
-  doonamurk_filled("doonamurk_r_run", record, 3 * doonamurk_cells(k) + 5 * k + 6)
+  doonamurk_filled("doonamurk_r_run", record, 3 * doonamurk_cells(k) + 6 * k + 7)
 }
 
 # The fields of a record (a raw vector) in its order, k first, increments signed.
@@ -81,7 +84,7 @@ doonamurk_run <- function(record) {
 # Threads: as above.
 doonamurk_read <- function(record) {
   k <- doonamurk_k(record)
-  doonamurk_filled("doonamurk_r_read", record, doonamurk_cells(k) + 4 * k + 5)
+  doonamurk_filled("doonamurk_r_read", record, doonamurk_cells(k) + 4 * k + 7)
 }
 
 # The triangle that a list of cells by row fills in a matrix of origin years by development years, NA where `given` is FALSE.
@@ -96,7 +99,7 @@ doonamurk_triangle <- function(k, given, entries) {
 # The result list of a record (as doonamurk_run gives it) as a named list of its sections: matrices of origin years by development years, NA where there
 # is no cell, vectors named by their years, and single numbers. docs/FORMAT.md has the sections, their years and units.
 doonamurk_sections <- function(results) {
-  k <- which(3 * doonamurk_cells(1:15) + 5 * (1:15) + 6 == length(results))
+  k <- which(3 * doonamurk_cells(1:15) + 6 * (1:15) + 7 == length(results))
   if (length(k) != 1) stop("results: no result list has ", length(results), " entries")
   place <- 0
   take <- function(count) {
@@ -118,7 +121,8 @@ doonamurk_sections <- function(results) {
     total_ulae_reserve = take(1),
     ulae_ratio = take(1),
     development_factors = years(0, k),
-    completed_cumulatives = doonamurk_triangle(k, !given, take(doonamurk_cells(k) - k - 1))
+    completed_cumulatives = doonamurk_triangle(k, !given, take(doonamurk_cells(k) - k - 1)),
+    tail_payments = years(0, k + 1)
   )
 }
 
@@ -130,22 +134,25 @@ doonamurk_whole <- function(name, values, least = 0) {
 }
 
 # The record (a raw vector) of figures: exposures of the origin years 0 to k; paid increments as a matrix of k + 1 origin years by k + 1 development
-# years, NA below the diagonal; k future indices, k + 1 reporting shares, the reporting weight and k + 1 ULAE totals.
+# years, NA below the diagonal; k + 1 future indices, k + 1 reporting shares, the reporting weight, k + 1 ULAE totals and the amount still to be paid for
+# year 0 after year k.
 # Refusals: an error of class "doonamurk_refused" whose number is the first of questions 1, 2, 4 and 5 that says no. A matrix that is not a triangle, or
 # numbers that are not whole, are plain errors that name the argument.
-doonamurk_write <- function(exposures, paid, indices, reporting, weight, ulae) {
+doonamurk_write <- function(exposures, paid, indices, reporting, weight, ulae, tail) {
   if (!is.matrix(paid) || nrow(paid) != ncol(paid)) stop("paid: a square matrix of origin years by development years is due", call. = FALSE)
   k <- nrow(paid) - 1
   given <- outer(0:k, 0:k, `+`) <= k
   if (any(is.na(paid[given]))) stop("paid: a cell up to the diagonal is NA", call. = FALSE)
   if (any(!is.na(paid[!given]))) stop("paid: a cell below the diagonal is not NA", call. = FALSE)
   if (length(weight) != 1) stop("weight: one number is due", call. = FALSE)
+  if (length(tail) != 1) stop("tail: one number is due", call. = FALSE)
   numbers <- list(
     doonamurk_whole("exposures", exposures), doonamurk_whole("paid", t(paid)[t(given)], -2^53), doonamurk_whole("indices", indices),
-    doonamurk_whole("reporting", reporting), doonamurk_whole("weight", weight), doonamurk_whole("ulae", ulae)
+    doonamurk_whole("reporting", reporting), doonamurk_whole("weight", weight), doonamurk_whole("ulae", ulae),
+    doonamurk_whole("tail", tail)
   )
   # A k outside 1 to 15 is refused under question 1 whatever the buffer, so it need not be large.
-  bytes <- if (k > 15) 1 else (98 + 97 * k + 35 * doonamurk_cells(k) + 7) %/% 8
+  bytes <- if (k > 15) 1 else (155 + 97 * k + 35 * doonamurk_cells(k) + 7) %/% 8
   out <- .C("doonamurk_r_write", as.double(k), unlist(numbers), lengths(numbers), record = raw(bytes), as.integer(bytes), answer = 0L)
   if (out$answer < 0) stop("there is no memory for the lists")
   if (out$answer > 0) stop(doonamurk_refused(out$answer, doonamurk_write_questions))

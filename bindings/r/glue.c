@@ -26,8 +26,8 @@ static int hand_out(const int64_t *list, double *out, size_t n)
     return 0;
 }
 
-/* The result list of a record. results has *results_len doubles, as many as are to be filled at most. *answer is 0, or 1 to 14, the first question that
- * says no, or -1; results is filled only where it is 0. */
+/* The result list of a record. results has *results_len doubles, as many as are to be filled at most. *answer is 0, or 1 to 14, 18 or 19, the first
+ * question that says no, or -1; results is filled only where it is 0. */
 void doonamurk_r_run(const unsigned char *record, const int *record_len, double *results, const int *results_len, int *answer)
 {
     int64_t list[DOONAMURK_RESULTS_MAX];
@@ -56,21 +56,22 @@ static uint64_t *whole(const double *values, size_t n)
     return numbers;
 }
 
-/* The record of the years 0 to *k. numbers has the exposures, increments, indices, reporting shares, the weight and the ULAE totals one after another,
- * counts how many of each; all are whole and at most 2^53 in size, and none but the increments is below zero. *answer is 0, or 1, 2, 4 or 5, or -1 where
- * there is no memory; record is filled only where it is 0. */
+/* The record of the years 0 to *k. numbers has the exposures, increments, indices, reporting shares, the weight, the ULAE totals and the amount still to be
+ * paid one after another, counts how many of each; all are whole and at most 2^53 in size, and none but the increments is below zero. *answer is 0, or 1, 2,
+ * 4 or 5, or -1 where there is no memory; record is filled only where it is 0. */
 void doonamurk_r_write(const double *k, const double *numbers, const int *counts, unsigned char *record, const int *record_len, int *answer)
 {
     const double *paid = numbers + counts[0], *indices = paid + counts[1], *reporting = indices + counts[2], *weight = reporting + counts[3];
+    const double *ulae = weight + 1, *tail = ulae + counts[5];
     uint64_t *n = whole(numbers, (size_t)counts[0]), *e = whole(indices, (size_t)counts[2]), *b = whole(reporting, (size_t)counts[3]);
-    uint64_t *u = whole(weight + 1, (size_t)counts[5]);
+    uint64_t *u = whole(ulae, (size_t)counts[5]);
     int64_t *p = malloc(((size_t)counts[1] + 1) * sizeof *p);
     *answer = -1;
     if (n && e && b && u && p) {
         for (int i = 0; i < counts[1]; i++)
             p[i] = (int64_t)paid[i];
         *answer = (int)doonamurk_write((uint64_t)*k, n, (size_t)counts[0], p, (size_t)counts[1], e, (size_t)counts[2], b, (size_t)counts[3],
-                                       (uint64_t)*weight, u, (size_t)counts[5], record, (size_t)*record_len);
+                                       (uint64_t)*weight, u, (size_t)counts[5], (uint64_t)*tail, record, (size_t)*record_len);
     }
     free(n);
     free(e);

@@ -1,4 +1,5 @@
-# Taylor's motor account, document 01's two years and refusals. From the repository's root, after bindings/build and with the glue compiled:
+# Taylor's motor account, document 01's two years, payments after the last year and refusals. From the repository's root, after bindings/build and
+# with the glue compiled:
 #
 #     Rscript bindings/r/test.R
 #
@@ -13,25 +14,25 @@ refused <- function(call) tryCatch({ call; 0 }, doonamurk_refused = function(ref
 motor <- record("examples/motor_account.rec")
 results <- doonamurk_run(motor)
 stopifnot(
-  length(results) == 51,
+  length(results) == 55,
   results[11:14] == c(583475514, 287767456, 86614799, 42142231),
   results[15:18] == c(86378, 98939, 101998, 113900)
 )
 
 fields <- doonamurk_read(motor)
 stopifnot(
-  length(fields) == 27,
+  length(fields) == 29,
   fields[1:5] == c(3, 1, 1, 1, 1),
   fields[6:15] == c(504, 282, 90, 48, 580, 292, 97, 595, 332, 662)
 )
 
 two_years <- doonamurk_run(record("examples/two_years.rec"))
 stopifnot(two_years == c(
-  6000, 4000, 6600, 622641509, 377358491, 9636, 10600, 11660, 44, 0, 44, 44, 0, 22, 0, 3, 3, 96385, 1666666, 109
+  6000, 4000, 6600, 622641509, 377358491, 9636, 10600, 11660, 44, 0, 44, 44, 0, 22, 0, 3, 3, 96385, 1666666, 109, 0, 0
 ))
 
 longest <- doonamurk_run(record("examples/liability_book.rec"))
-stopifnot(length(longest) == 489, longest == floor(longest), sum(longest[137:152]) == 1e9)
+stopifnot(length(longest) == 505, longest == floor(longest), sum(longest[137:152]) == 1e9)
 
 filled <- motor
 filled[length(filled)] <- as.raw(as.integer(filled[length(filled)]) + 1L)
@@ -39,7 +40,7 @@ no_claims <- motor
 no_claims[1:3] <- as.raw(c(0x30, 0, 0))
 stopifnot(
   refused(doonamurk_run(raw(0))) == 1,
-  refused(doonamurk_run(raw(38))) == 1,
+  refused(doonamurk_run(raw(45))) == 1,
   refused(doonamurk_run(motor[-1])) == 1,
   refused(doonamurk_run(head(motor, -1))) == 2,
   refused(doonamurk_run(filled)) == 2,
@@ -52,18 +53,18 @@ stopifnot(words == "refused 1: Is there a first byte, and is k at least 1?")
 
 # A refusal leaves the lent vector: the functions of the glue themselves, on a vector that holds a pattern.
 left <- function(name, bytes, bytes_len, room, number) {
-  pattern <- -1000.5 - seq_len(489)
+  pattern <- -1000.5 - seq_len(505)
   out <- .C(name, bytes, as.integer(bytes_len), lent = pattern, as.integer(room), answer = 0L)
   out$answer == number && identical(out$lent, pattern)
 }
 stopifnot(
-  left("doonamurk_r_run", as.raw(0), 0, 489, 1),
-  left("doonamurk_r_run", motor, length(motor) - 1, 489, 2),
-  left("doonamurk_r_run", motor, length(motor), 50, 3),
-  left("doonamurk_r_run", no_claims, length(no_claims), 489, 4),
-  left("doonamurk_r_read", motor, length(motor) - 1, 489, 2),
-  left("doonamurk_r_read", motor, length(motor), 26, 3),
-  left("doonamurk_r_read", no_claims, length(no_claims), 489, 4)
+  left("doonamurk_r_run", as.raw(0), 0, 505, 1),
+  left("doonamurk_r_run", motor, length(motor) - 1, 505, 2),
+  left("doonamurk_r_run", motor, length(motor), 54, 3),
+  left("doonamurk_r_run", no_claims, length(no_claims), 505, 4),
+  left("doonamurk_r_read", motor, length(motor) - 1, 505, 2),
+  left("doonamurk_r_read", motor, length(motor), 28, 3),
+  left("doonamurk_r_read", no_claims, length(no_claims), 505, 4)
 )
 
 # Sections by name and years.
@@ -71,21 +72,36 @@ named <- doonamurk_sections(results)
 stopifnot(
   identical(names(named), c(
     "averages", "shares", "levels", "future_levels", "payments", "provisions", "total_provision", "not_reported", "ulae_reserves",
-    "total_ulae_reserve", "ulae_ratio", "development_factors", "completed_cumulatives"
+    "total_ulae_reserve", "ulae_ratio", "development_factors", "completed_cumulatives", "tail_payments"
   )),
   identical(unname(named$averages["2", ]), c(59500, 33200, NA, NA)), named$averages["0", "3"] == 4800, named$averages["3", "0"] == 66200,
   named$shares["3"] == 42142231, names(named$future_levels) == c("4", "5", "6"), named$future_levels["5"] == 137819,
   named$payments["3", "1"] == 360, named$payments["2", "2"] == 108, is.na(named$payments["2", "1"]), sum(is.na(named$payments)) == 10,
   named$provisions == c(0, 52, 166, 542), named$total_provision == 760, named$total_ulae_reserve == 19, named$ulae_ratio == 31591,
-  named$development_factors["0"] == 1539606, named$completed_cumulatives["3", "3"] == 1195
+  named$development_factors["0"] == 1539606, named$completed_cumulatives["3", "3"] == 1195, named$tail_payments == c(0, 0, 0, 0)
 )
 stopifnot(inherits(tryCatch(doonamurk_sections(results[-1]), error = identity), "error"))
 
 # The record of figures, the triangle as a matrix.
 paid <- rbind(c(504, 282, 90, 48), c(580, 292, 97, NA), c(595, 332, NA, NA), c(662, NA, NA, NA))
-write_motor <- function(exposures = rep(1, 4), paid_ = paid, indices = c(1100000, 1210000, 1331000), reporting = c(700000, 200000, 80000, 20000),
-                        weight = 500000, ulae = c(20, 25, 30, 35)) doonamurk_write(exposures, paid_, indices, reporting, weight, ulae)
+write_motor <- function(exposures = rep(1, 4), paid_ = paid, indices = c(1100000, 1210000, 1331000, 1000000), reporting = c(700000, 200000, 80000, 20000),
+                        weight = 500000, ulae = c(20, 25, 30, 35), tail = 0) {
+  doonamurk_write(exposures, paid_, indices, reporting, weight, ulae, tail)
+}
 stopifnot(identical(write_motor(), motor))
+
+# The two years with 100 still to be paid for year 0, which the indices carry to 110 for year 1; an average too large, and one that they carry too far.
+write_two_years <- function(indices, tail) {
+  doonamurk_write(c(1, 1), rbind(c(60, 40), c(66, NA)), indices, c(800000, 200000), 500000, c(6, 10), tail)
+}
+after <- doonamurk_sections(doonamurk_run(write_two_years(c(1100000, 1210000), 100)))
+words <- tryCatch(doonamurk_run(write_two_years(c(1, 6), 10000000)), doonamurk_refused = conditionMessage)
+stopifnot(
+  after$tail_payments == c(100, 110), after$provisions == c(100, 154), after$ulae_reserves == c(4, 9),
+  refused(doonamurk_run(write_two_years(c(1000000, 1000000), 10000001))) == 18,
+  refused(doonamurk_run(write_two_years(c(1, 6), 10000000))) == 19,
+  words == "refused 19: Is the average of what is still to be paid after year k, carried to each year by the indices, at most 5 * 10^9?"
+)
 
 # Averages that lie halfway between two hundredths go to the even one, negative ones too.
 halves <- write_motor(exposures = rep(8, 4), paid_ = rbind(c(401, -1, 3, 5), c(403, 7, -3, NA), c(405, 9, NA, NA), c(407, NA, NA, NA)))
@@ -95,8 +111,10 @@ stopifnot(
   refused(write_motor(paid_ = replace(matrix(NA_real_, 17, 17), outer(0:16, 0:16, `+`) <= 16, 1))) == 1,
   refused(write_motor(exposures = 1)) == 2,
   refused(write_motor(ulae = numeric(0))) == 2,
+  refused(write_motor(indices = c(1100000, 1210000, 1331000))) == 2,
   refused(write_motor(exposures = c(0, 1, 1, 1))) == 4,
   refused(write_motor(paid_ = replace(paid, 1, -10000000001))) == 4,
+  refused(write_motor(tail = 10000000001)) == 4,
   refused(write_motor(reporting = c(700000, 200000, 80000, 20001))) == 5
 )
 negative <- write_motor(paid_ = replace(paid, 5, -282))
@@ -106,6 +124,7 @@ stopifnot(
   grepl("^weight: ", says(write_motor(weight = 0.5))),
   grepl("^exposures: ", says(write_motor(exposures = c(1, NA, 1, 1)))),
   grepl("^indices: ", says(write_motor(indices = "1100000"))),
+  grepl("^tail: ", says(write_motor(tail = c(0, 0)))),
   grepl("^ulae: ", says(write_motor(ulae = c(-1, 0, 0, 0)))),
   grepl("^paid: a cell up to the diagonal is NA", says(write_motor(paid_ = replace(paid, 1, NA)))),
   grepl("^paid: a cell below the diagonal is not NA", says(write_motor(paid_ = replace(paid, 16, 0)))),

@@ -15,6 +15,6 @@ for line in sys.stdin:
     times = []
     for _ in range(int(sys.argv[1])):
         start = time.perf_counter_ns()
-        answer, results = model.run(record, 489)
+        answer, results = model.run(record, model.result_count(15))
         times.append(time.perf_counter_ns() - start)
     print(answer, sum(results or []), int(statistics.median(times)))

@@ -9,11 +9,11 @@ use std::fmt;
 /// The largest k: years run from 0 to at most 15.
 pub const K_MAX: usize = 15;
 /// The bytes of the longest record, that of k = 15.
-pub const RECORD_MAX: usize = 790;
+pub const RECORD_MAX: usize = 797;
 /// The fields of the longest record.
-pub const FIELDS_MAX: usize = 201;
+pub const FIELDS_MAX: usize = 203;
 /// The entries of the longest result list.
-pub const RESULTS_MAX: usize = 489;
+pub const RESULTS_MAX: usize = 505;
 
 /// The cells of a triangle with years 0 to k.
 pub const fn cells(k: usize) -> usize {
@@ -22,17 +22,17 @@ pub const fn cells(k: usize) -> usize {
 
 /// The bytes of a record with years 0 to k, for k from 1 to 15.
 pub const fn record_bytes(k: usize) -> usize {
-    (98 + 97 * k + 35 * cells(k)).div_ceil(8)
+    (155 + 97 * k + 35 * cells(k)).div_ceil(8)
 }
 
 /// The fields of a record with years 0 to k, for k from 1 to 15.
 pub const fn field_count(k: usize) -> usize {
-    cells(k) + 4 * k + 5
+    cells(k) + 4 * k + 7
 }
 
 /// The entries of a result list with years 0 to k, for k from 1 to 15.
 pub const fn result_count(k: usize) -> usize {
-    3 * cells(k) + 5 * k + 6
+    3 * cells(k) + 6 * k + 7
 }
 
 mod engine {
@@ -62,6 +62,7 @@ mod engine {
             weight: u64,
             ulae: *const u64,
             u: usize,
+            tail: u64,
             record: *mut u8,
             record_len: usize,
         ) -> u64;
@@ -89,7 +90,7 @@ impl Refused {
         self.call
     }
 
-    /// The number of the question, 1 to 14.
+    /// The number of the question, 1 to 14, 18 or 19.
     pub fn number(&self) -> u64 {
         self.number
     }
@@ -114,6 +115,10 @@ impl Refused {
             (_, 8) => "Is T_h - v_h at least 1 for every h from 1 to k?",
             (_, 9) => "Is every running share at least 1?",
             (_, 10) => "Is every level at most 10^9?",
+            (_, 18) => {
+                "Is the average of what is still to be paid for year 0 after year k at most 10^9?"
+            }
+            (_, 19) => "Is the average of what is still to be paid after year k, carried to each year by the indices, at most 5 * 10^9?",
             (_, 11) => "Is every ultimate at most 10^12?",
             (_, 12) => {
                 "Is the total of paid increments at least 1, and the total of the ULAE totals at most that?"
@@ -150,8 +155,8 @@ fn k_of(record: &[u8]) -> usize {
 
 /// Runs from a record to its result list.
 ///
-/// `Ok` fills the first [`result_count`] entries of `results`; entries past them keep what they held. `Err` names the first of the questions 1 to 14
-/// that says no, and leaves all of `results` as it was. `record` may be any bytes of any length; `results` may be longer than the list
+/// `Ok` fills the first [`result_count`] entries of `results`; entries past them keep what they held. `Err` names the first of the questions 1 to 14,
+/// 18 and 19 that says no, and leaves all of `results` as it was. `record` may be any bytes of any length; `results` may be longer than the list
 /// ([`RESULTS_MAX`] holds every list), and is refused under question 3 where it is shorter. Both stay the caller's, nothing is kept. Safe to call
 /// from any number of threads.
 pub fn run(record: &[u8], results: &mut [i64]) -> Result<(), Refused> {
@@ -203,6 +208,8 @@ pub struct Sections<'a> {
     pub development_factors: &'a [i64],
     /// Completed cumulatives of the chain ladder, by [`future_cell`].
     pub completed_cumulatives: &'a [i64],
+    /// What is paid after year k, origin years 0 to k; the provisions include it.
+    pub tail_payments: &'a [i64],
 }
 
 /// The place of origin year i and development year j, i + j at most k, within a section of cells.
@@ -244,6 +251,7 @@ pub fn sections(k: usize, results: &[i64]) -> Option<Sections<'_>> {
         ulae_ratio: next(1)[0],
         development_factors: next(k),
         completed_cumulatives: next(future),
+        tail_payments: next(years),
     })
 }
 
@@ -277,7 +285,7 @@ pub struct Fields<'a> {
     pub exposures: &'a [u64],
     /// The paid increments, row by row, [`cells`] of them, each -10^10 to 10^10.
     pub increments: &'a [i64],
-    /// The k future indices in millionths, each 1 to 5,000,000.
+    /// The k + 1 future indices in millionths, each 1 to 5,000,000.
     pub indices: &'a [u64],
     /// The k + 1 reporting shares in millionths; they sum to 1,000,000.
     pub reporting: &'a [u64],
@@ -285,6 +293,8 @@ pub struct Fields<'a> {
     pub weight: u64,
     /// The ULAE totals of payment years 0 to k, each 0 to 10^10.
     pub ulae: &'a [u64],
+    /// The amount still to be paid for year 0 after year k, 0 to 10^10.
+    pub tail: u64,
 }
 
 /// Writes the record of the given fields.
@@ -308,6 +318,7 @@ pub fn write(fields: &Fields, record: &mut [u8]) -> Result<(), Refused> {
             fields.weight,
             fields.ulae.as_ptr(),
             fields.ulae.len(),
+            fields.tail,
             record.as_mut_ptr(),
             record.len(),
         )

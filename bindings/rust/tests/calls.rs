@@ -1,4 +1,4 @@
-//! Taylor's motor account, document 01's two years, refusals, threads, and the way from fields to a record and back.
+//! Taylor's motor account, document 01's two years, payments after the last year, refusals, threads, and the way from fields to a record and back.
 
 use doonamurk::{
     cell, cells, field_count, future_cell, read, read_to_vec, record_bytes, result_count, run,
@@ -10,20 +10,22 @@ const MOTOR: Fields = Fields {
     k: 3,
     exposures: &[1, 1, 1, 1],
     increments: &[504, 282, 90, 48, 580, 292, 97, 595, 332, 662],
-    indices: &[1_100_000, 1_210_000, 1_331_000],
+    indices: &[1_100_000, 1_210_000, 1_331_000, 1_000_000],
     reporting: &[700_000, 200_000, 80_000, 20_000],
     weight: 500_000,
     ulae: &[20, 25, 30, 35],
+    tail: 0,
 };
 
 const TWO_YEARS: Fields = Fields {
     k: 1,
     exposures: &[1, 1],
     increments: &[60, 40, 66],
-    indices: &[1_100_000],
+    indices: &[1_100_000, 1_000_000],
     reporting: &[800_000, 200_000],
     weight: 500_000,
     ulae: &[6, 10],
+    tail: 0,
 };
 
 fn motor() -> Vec<u8> {
@@ -32,9 +34,9 @@ fn motor() -> Vec<u8> {
 
 #[test]
 fn sizes_are_those_of_the_paper() {
-    assert_eq!((record_bytes(1), record_bytes(K_MAX)), (38, RECORD_MAX));
-    assert_eq!((field_count(1), field_count(K_MAX)), (12, FIELDS_MAX));
-    assert_eq!((result_count(1), result_count(K_MAX)), (20, RESULTS_MAX));
+    assert_eq!((record_bytes(1), record_bytes(K_MAX)), (45, RECORD_MAX));
+    assert_eq!((field_count(1), field_count(K_MAX)), (14, FIELDS_MAX));
+    assert_eq!((result_count(1), result_count(K_MAX)), (22, RESULTS_MAX));
     assert_eq!(cells(K_MAX), 136);
 }
 
@@ -67,6 +69,7 @@ fn sections_by_name() {
         (760, 19, 31_591)
     );
     assert_eq!(named.completed_cumulatives[future_cell(3, 3, 3)], 1_195);
+    assert_eq!(named.tail_payments, &[0; 4]);
     assert_eq!(sections(3, &results[1..]), None);
     assert_eq!(
         (sections(0, &results), sections(16, &[0; 999])),
@@ -92,9 +95,26 @@ fn two_years_have_the_printed_list() {
     let record = write_to_vec(&TWO_YEARS).expect("written");
     let printed = [
         6000, 4000, 6600, 622641509, 377358491, 9636, 10600, 11660, 44, 0, 44, 44, 0, 22, 0, 3, 3,
-        96385, 1666666, 109,
+        96385, 1666666, 109, 0, 0,
     ];
     assert_eq!(run_to_vec(&record).expect("accepted"), printed);
+}
+
+#[test]
+fn payments_after_the_last_year() {
+    let record = write_to_vec(&Fields {
+        indices: &[1_100_000, 1_210_000],
+        tail: 100,
+        ..TWO_YEARS
+    })
+    .expect("written");
+    let results = run_to_vec(&record).expect("accepted");
+    let named = sections(1, &results).expect("a whole list");
+    assert_eq!(named.tail_payments, &[100, 110]);
+    assert_eq!(named.provisions, &[100, 154]);
+    assert_eq!(named.not_reported, &[0, 44]);
+    assert_eq!(named.ulae_reserves, &[4, 9]);
+    assert_eq!(named.payments, &[44]);
 }
 
 #[test]
@@ -103,10 +123,11 @@ fn halves_go_to_the_even_hundredth() {
         k: 3,
         exposures: &[8; 4],
         increments: &[401, -1, 3, 5, 403, 7, -3, 405, 9, 407],
-        indices: &[1_000_000; 3],
+        indices: &[1_000_000; 4],
         reporting: &[1_000_000, 0, 0, 0],
         weight: 0,
         ulae: &[0; 4],
+        tail: 0,
     })
     .expect("written");
     let averages = [5012, -12, 38, 62, 5038, 88, -38, 5062, 112, 5088];
@@ -131,7 +152,7 @@ fn a_refused_run_or_read_leaves_the_buffer() {
     no_claims[1..3].fill(0);
     let refused: [(&[u8], u64); 5] = [
         (&[], 1),
-        (&[0x0f; 38], 1),
+        (&[0x0f; 45], 1),
         (&record[1..], 1),
         (&filled, 2),
         (&no_claims, 4),
@@ -160,7 +181,7 @@ fn a_short_buffer_is_refused_and_left() {
 
 #[test]
 fn marked_refusals_of_the_engine() {
-    let changed: [(Fields, u64); 3] = [
+    let changed: [(Fields, u64); 5] = [
         (
             Fields {
                 increments: &[60, 40, 0],
@@ -182,17 +203,33 @@ fn marked_refusals_of_the_engine() {
             },
             12,
         ),
+        (
+            Fields {
+                tail: 10_000_001,
+                ..TWO_YEARS
+            },
+            18,
+        ),
+        (
+            Fields {
+                indices: &[1, 6],
+                tail: 10_000_000,
+                ..TWO_YEARS
+            },
+            19,
+        ),
     ];
     for (fields, number) in changed {
         let record = write_to_vec(&fields).expect("written");
         let refusal = run_to_vec(&record).expect_err("refused");
         assert_eq!(refusal.number(), number);
+        assert!(refusal.question().ends_with('?'));
     }
 }
 
 #[test]
 fn a_refused_write_leaves_the_buffer() {
-    let calls: [(Fields, usize, u64); 6] = [
+    let calls: [(Fields, usize, u64); 8] = [
         (Fields { k: 0, ..MOTOR }, 0, 1),
         (Fields { k: 16, ..MOTOR }, 0, 1),
         (
@@ -204,6 +241,22 @@ fn a_refused_write_leaves_the_buffer() {
             2,
         ),
         (MOTOR, 1, 2),
+        (
+            Fields {
+                indices: &[1_100_000, 1_210_000, 1_331_000],
+                ..MOTOR
+            },
+            0,
+            2,
+        ),
+        (
+            Fields {
+                tail: 10_000_000_001,
+                ..MOTOR
+            },
+            0,
+            4,
+        ),
         (
             Fields {
                 exposures: &[0, 1, 1, 1],
@@ -261,10 +314,11 @@ fn fields_come_back_from_their_record() {
         k: list[0] as u64,
         exposures: &natural(1, 4),
         increments: &list[5..15],
-        indices: &natural(15, 3),
-        reporting: &natural(18, 4),
-        weight: list[22] as u64,
-        ulae: &natural(23, 4),
+        indices: &natural(15, 4),
+        reporting: &natural(19, 4),
+        weight: list[23] as u64,
+        ulae: &natural(24, 4),
+        tail: list[28] as u64,
     });
     assert_eq!(back, Ok(record));
 }

@@ -1,12 +1,13 @@
--- How large a future level, a payment and a provision can be. Assumes nothing.
+-- How large a future level, a payment and a row of payments can be. Assumes nothing.
 use mathlib.Core.List.{List}
 use Prim.Native.Nat.{ℕ, _+_, _-_, _*_, _/_, _≤_, _<_}
 use native.Mathlib.Nat.{mul-le-mul}
 use native.Mathlib.Omega.{arith}
 use lib.ListN.{getD}
+use Rattle.rules.specs.Lists.{total}
 use Rattle.rules.specs.Record.{million}
 use Rattle.rules.specs.Separation.{billion}
-use Rattle.rules.specs.Completion.{paymentOf, payment, paymentRow, provision}
+use Rattle.rules.specs.Completion.{paymentOf, payment, paymentRow}
 use Rattle.completion.specs.Asked.{Completable, mostPayment}
 use Rattle.laws.proofs.Totals.{total-each}
 
@@ -29,7 +30,7 @@ module _ (k : ℕ) (n r l : List ℕ) (c : Completable k n r l) where
   unfolding payment
   cell-most i j = payment-most (getD n i 0) (getD r j 0) (getD l (i + j - k - 1) 0) (c .exposures i) (c .shares j) (c .levels (i + j - k - 1))
 
-  -- a provision is of at most fifteen payments
-  pub provision-most : (i : ℕ) → i < 16 → provision k n r l i ≤ 15 * mostPayment
-  unfolding provision paymentRow
-  provision-most i h = omega (arith, total-each _ mostPayment i (λ m l. cell-most i (k + 1 - i + m)))
+  -- a row has at most fifteen payments
+  pub row-most : (i : ℕ) → i < 16 → total (paymentRow k n r l i) ≤ 15 * mostPayment
+  unfolding paymentRow
+  row-most i h = omega (arith, total-each _ mostPayment i (λ m l. cell-most i (k + 1 - i + m)))

@@ -16,10 +16,10 @@ pub record Completable (k : ℕ) (n r l : List ℕ) : Type 0 where
   pub shares : (j : ℕ) → getD r j 0 ≤ billion
   pub levels : (t : ℕ) → getD l t 0 ≤ 5 * billion
 
--- the most of a payment: 1,000,000 claims at 5 × 10^9 hundredths
+-- the most of a payment and of a tail payment: 1,000,000 claims at 5 × 10^9 hundredths
 abbrev pub mostPayment : ℕ
 mostPayment = 50 * mostUltimate
 
--- the rows whose ultimate is asked for, c the paid cumulatives: up to the first that is above the most
-unfoldable pub rowsAsked : ℕ → List ℕ → List ℕ → List ℕ → List ℕ → ℕ
-rowsAsked k n r l c = asked (λ i. leb (ultimate c (padded 16 0 (provisions k n r l)) i) mostUltimate) (k + 1)
+-- the rows whose ultimate is asked for, z the tail payments and c the paid cumulatives: up to the first that is above the most
+unfoldable pub rowsAsked : ℕ → List ℕ → List ℕ → List ℕ → List ℕ → List ℕ → ℕ
+rowsAsked k n r l z c = asked (λ i. leb (ultimate c (padded 16 0 (provisions k n r l z)) i) mostUltimate) (k + 1)

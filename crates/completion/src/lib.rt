@@ -1,4 +1,4 @@
-// Completing the triangle: future levels, payments and provisions, and question 11.
+// Completing the triangle: future levels, payments and, with the tail payments, provisions; and question 11.
 use rules::BILLION;
 use rules::MILLION;
 use rules::MOST_ULTIMATE;
@@ -6,7 +6,7 @@ ghost use mathlib.Core.Path.{_≡_};
 ghost use Prim.Native.Nat.{ℕ, _+_, _*_, _≤_, _<_};
 ghost use lib.ListN.{getD};
 ghost use lib.Seq.{sets};
-ghost use Rattle.rules.specs.Lists.{upTo, padded, joined};
+ghost use Rattle.rules.specs.Lists.{total, upTo, padded, joined};
 ghost use Rattle.rules.specs.Record.{million, mostIndex};
 ghost use Rattle.rules.specs.Triangle.{mostCumulative};
 ghost use Rattle.rules.specs.Separation.{billion};
@@ -43,7 +43,7 @@ fn put_row(
     i: usize,
 ) -> u64
     requires { ⌜ Completable k (now exposures) (now shares) (now levels) × ((i ≤ k) × (at + i ≤ 120)) ⌝ }
-    ensures { λ r. ⌜ (r ≡ provision k (now (exposures .entry)) (now (shares .entry)) (now (levels .entry)) i)
+    ensures { λ r. ⌜ (r ≡ total (paymentRow k (now (exposures .entry)) (now (shares .entry)) (now (levels .entry)) i))
         × ((r ≤ 15 * mostPayment)
         × (now (all .exit) ≡ sets (now (all .entry)) at (paymentRow k (now (exposures .entry)) (now (shares .entry)) (now (levels .entry)) i))) ⌝ }
 {
@@ -58,31 +58,33 @@ fn put_row(
     sum
 }
 
-// The payments and provisions of the rows, as far as question 11 says yes of the ultimates: the row whose ultimate is too large is the last.
+// The payments of the rows, and their provisions, which have the tail payments too, as far as question 11 says yes of the ultimates: the row whose ultimate is too large is the last.
 pub fn complete(
     k: usize,
     exposures: &[u64; 16],
     shares: &[u64; 16],
     levels: &[u64; 16],
+    tails: &[u64; 16],
     paid: &[u64; 16],
     payments: &mut [u64; 120],
     sums: &mut [u64; 16],
 ) -> bool
-    requires { ⌜ Completable k (now exposures) (now shares) (now levels) × ((i : ℕ) → getD (now paid) i 0 ≤ mostCumulative) ⌝ }
-    ensures { λ r. ⌜ (r ≡ ultimatesPass k (now (paid .entry)) (padded 16 0 (provisions k (now (exposures .entry)) (now (shares .entry)) (now (levels .entry)))))
+    requires { ⌜ Completable k (now exposures) (now shares) (now levels)
+        × (((i : ℕ) → getD (now tails) i 0 ≤ mostPayment) × ((i : ℕ) → getD (now paid) i 0 ≤ mostCumulative)) ⌝ }
+    ensures { λ r. ⌜ (r ≡ ultimatesPass k (now (paid .entry)) (padded 16 0 (provisions k (now (exposures .entry)) (now (shares .entry)) (now (levels .entry)) (now (tails .entry)))))
         × ((now (payments .exit)
         ≡ sets (now (payments .entry)) 0
         (joined (upTo (paymentRow k (now (exposures .entry)) (now (shares .entry)) (now (levels .entry)))
-        (rowsAsked k (now (exposures .entry)) (now (shares .entry)) (now (levels .entry)) (now (paid .entry))))))
+        (rowsAsked k (now (exposures .entry)) (now (shares .entry)) (now (levels .entry)) (now (tails .entry)) (now (paid .entry))))))
         × (now (sums .exit)
         ≡ sets (now (sums .entry)) 0
-        (upTo (provision k (now (exposures .entry)) (now (shares .entry)) (now (levels .entry)))
-        (rowsAsked k (now (exposures .entry)) (now (shares .entry)) (now (levels .entry)) (now (paid .entry)))))) ⌝ }
+        (upTo (provision k (now (exposures .entry)) (now (shares .entry)) (now (levels .entry)) (now (tails .entry)))
+        (rowsAsked k (now (exposures .entry)) (now (shares .entry)) (now (levels .entry)) (now (tails .entry)) (now (paid .entry)))))) ⌝ }
 {
     let mut at: usize = 0;
     let n = k + 1;
     for i in 0..n {
-        let sum = put_row(payments, at, exposures, shares, levels, k, i);
+        let sum = put_row(payments, at, exposures, shares, levels, k, i) + tails[i];
         sums[i] = sum;
         if paid[i] + sum > MOST_ULTIMATE {
             return false;

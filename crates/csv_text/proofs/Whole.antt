@@ -3,7 +3,7 @@
 use mathlib.Core.Path.{_≡_}
 use Prim.Native.Nat.{ℕ, _+_}
 use native.Mathlib.Omega.{arith}
-use Rattle.rules.specs.Results.{averageSection, shareSection, levelSection, futureLevelSection, paymentSection, provisionSection, provisionTotalSection, notReportedSection, reserveSection, reserveTotalSection, ratioSection, factorSection, completedSection, sectionStart, resultCount}
+use Rattle.rules.specs.Results.{averageSection, shareSection, levelSection, futureLevelSection, paymentSection, provisionSection, provisionTotalSection, notReportedSection, reserveSection, reserveTotalSection, ratioSection, factorSection, completedSection, tailSection, sectionStart, resultCount}
 use Rattle.laws.proofs.Joined.{future-cells}
 use Rattle.listing.proofs.Known.{known}
 use Rattle.listing.proofs.Counts.{results-count}
@@ -30,7 +30,8 @@ pub record WholeList (k : ℕ) : Type 0 where
   pub reserve : endOf k reserveTotalSection alone ≡ sectionStart k ratioSection
   pub ratio : endOf k ratioSection alone ≡ sectionStart k factorSection
   pub factors : endOf k factorSection (byYear 0 k) ≡ sectionStart k completedSection
-  pub last : endOf k completedSection (futureCells k) ≡ resultCount k
+  pub completed : endOf k completedSection (futureCells k) ≡ sectionStart k tailSection
+  pub last : endOf k tailSection (byOrigin k) ≡ resultCount k
 
 pub whole-list : (k : ℕ) → WholeList k
 whole-list k =
@@ -54,5 +55,6 @@ whole-list k =
       reserve = omega arith;
       ratio = omega arith;
       factors = omega (arith, entries-level 1 0 k);
+      completed = omega arith;
       last = omega (arith, results-count k);
     }

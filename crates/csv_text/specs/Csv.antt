@@ -2,7 +2,7 @@
 use Prim.Native.Nat.{ℕ, _+_}
 use mathlib.Core.List.{List, _++_}
 use lib.IntN.{ℤ}
-use Rattle.rules.specs.Results.{averageSection, shareSection, levelSection, futureLevelSection, paymentSection, provisionSection, provisionTotalSection, notReportedSection, reserveSection, reserveTotalSection, ratioSection, factorSection, completedSection, sectionStart}
+use Rattle.rules.specs.Results.{averageSection, shareSection, levelSection, futureLevelSection, paymentSection, provisionSection, provisionTotalSection, notReportedSection, reserveSection, reserveTotalSection, ratioSection, factorSection, completedSection, tailSection, sectionStart}
 use Rattle.composing.specs.Text.{ascii}
 use Rattle.csv_rows.specs.Csv.{givenCells, futureCells, byOrigin, byYear, alone, csvSection}
 
@@ -48,7 +48,12 @@ ladderLines k list =
     csvSection list (ascii "development factor") millionths (byYear 0 k) (sectionStart k factorSection)
     ++ csvSection list (ascii "completed cumulative") currency (futureCells k) (sectionStart k completedSection)
 
+-- the tail payments
+unfoldable pub tailLines : ℕ → List ℤ → List ℕ
+tailLines k list = csvSection list (ascii "tail payment") currency (byOrigin k) (sectionStart k tailSection)
+
 -- the whole, from the result list of the years 0 to k
 unfoldable pub csvOf : ℕ → List ℤ → List ℕ
 csvOf k list =
-    ascii "section,origin year,development or payment year,value,unit\n" ++ (separationLines k list ++ (completionLines k list ++ (expenseLines k list ++ ladderLines k list)))
+    ascii "section,origin year,development or payment year,value,unit\n"
+    ++ (separationLines k list ++ (completionLines k list ++ (expenseLines k list ++ (ladderLines k list ++ tailLines k list))))

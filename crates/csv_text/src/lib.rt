@@ -13,7 +13,7 @@ ghost use mathlib.Core.Path.{_≡_};
 ghost use Prim.Native.Nat.{_<_};
 ghost use Rattle.composing.specs.Text.{Put};
 ghost use Rattle.listing.specs.Starts.{startsOf};
-ghost use Rattle.csv_text.specs.Csv.{separationLines, completionLines, expenseLines, ladderLines, csvOf};
+ghost use Rattle.csv_text.specs.Csv.{separationLines, completionLines, expenseLines, ladderLines, tailLines, csvOf};
 
 // The averages, the shares and the levels.
 fn put_separation(
@@ -179,6 +179,28 @@ fn put_ladder(
     )
 }
 
+// The tail payments.
+fn put_tails(
+    out: &mut [u8],
+    at: usize,
+    list: &[i64; MOST_ENTRIES],
+    k: usize,
+    places: Starts,
+) -> usize
+    requires { ⌜ (k < 16) × (places ≡ startsOf k) ⌝ }
+    ensures { λ r. ⌜ Put (now (out .entry)) (now (out .exit)) at r (tailLines k (now (list .entry))) ⌝ }
+{
+    put_section(
+        out,
+        at,
+        list,
+        b"tail payment",
+        b"currency units",
+        by_origin(k),
+        places.tails,
+    )
+}
+
 // The whole list, from the start of the buffer on.
 pub fn put_csv(out: &mut [u8], list: &[i64; MOST_ENTRIES], k: usize) -> usize
     requires { ⌜ k < 16 ⌝ }
@@ -193,5 +215,6 @@ pub fn put_csv(out: &mut [u8], list: &[i64; MOST_ENTRIES], k: usize) -> usize
     let b = put_separation(out, a, list, k, places);
     let c = put_completion(out, b, list, k, places);
     let d = put_expense(out, c, list, k, places);
-    put_ladder(out, d, list, k, places)
+    let e = put_ladder(out, d, list, k, places);
+    put_tails(out, e, list, k, places)
 }

@@ -1,17 +1,21 @@
--- What the rows and the separation leave: the square, its totals, the column sums, the paid cumulatives and the factors of the figures. Assumes nothing.
-use Prim.Native.Nat.{ℕ, _+_}
-use mathlib.Core.Path.{_≡_, _∙_}
+-- What the rows, the separation and the tail leave: the square, its totals, the column sums, the paid cumulatives, the factors and the tail payments of the figures.
+-- Assumes nothing.
+use Prim.Native.Nat.{ℕ, _+_, _<_}
+use native.Mathlib.Omega.{arith}
+use mathlib.Core.Path.{_≡_, refl, _∙_}
 use mathlib.Core.Bool.{true}
 use mathlib.Core.List.{List, map}
 use lib.IntN.{ℤ, pos}
 use lib.ListN.{getD, replicate}
 use lib.Seq.{sets}
-use Rattle.rules.specs.Lists.{upTo, padded}
-use Rattle.rules.specs.Questions.{afterCall}
+use lib.Dec.{leb}
+use Rattle.rules.specs.Lists.{upTo, padded, every}
+use Rattle.rules.specs.Questions.{firstNo, afterCall}
 use Rattle.rules.specs.Record.{figures, Figures, increment, valueOf, lastYearOf, figuresOf}
 use Rattle.rules.specs.Triangle.{cumulativesPass, averageRow, averagesOf, paidTo, TotalsSoFar}
 use Rattle.rules.specs.Separation.{separateAnswer, separated}
-use Rattle.rules.specs.Results.{squareOf, factorsIn, paidIn}
+use Rattle.rules.specs.Tail.{tailAverage, tailPayment, tailPayments, mostTailAverage, tailAveragesPass, tailQuestions}
+use Rattle.rules.specs.Results.{squareOf, factorsIn, firstTailAverageOf, paidIn, tailsIn}
 use Rattle.rules.specs.declared.Factors.{Factors}
 use Rattle.triangle.specs.Columns.{columnSum, rowsPassing}
 use Rattle.triangle.proofs.Square.{cells-bounded}
@@ -19,6 +23,12 @@ use Rattle.triangle.proofs.Passed.{rows-all}
 use Rattle.totals.proofs.Square.{zero-outside}
 use Rattle.totals.proofs.SoFar.{all-passed}
 use Rattle.separation.specs.Walk.{Summed}
+use Rattle.laws.proofs.Lists.{length-upTo}
+use Rattle.laws.proofs.Joined.{sets-filled}
+use Rattle.laws.proofs.Questions.{yes-said}
+use Rattle.entries.proofs.Leading.{leading-all}
+use Rattle.tail.specs.Tailable.{yearsCarried, tailsCarried}
+use Rattle.engine.specs.Stages.{Tailed}
 use Rattle.reading.specs.Reading.{Sound, rowRead}
 use Rattle.reading.proofs.FiguresRead.{Filled}
 
@@ -55,11 +65,21 @@ pub factors-are : (f : Figures) (g : Factors) → g ≡ separated (squareOf f) (
 unfolding separated afterCall factorsIn
 factors-are f g h a = rw (h, a)
 
+-- the tail payments, where questions 18 and 19 have said yes
+pub tails-are : (f : Figures) → f .k < 16 → (z : List ℕ) → z ≡ sets (replicate 16 0) 0 (tailsCarried (f .k) (f .exposures) (firstTailAverageOf f) (f .indices))
+    → firstNo (tailQuestions (f .k) (firstTailAverageOf f) (f .indices)) ≡ 0 → Tailed f z
+unfolding tailsIn tailPayments tailQuestions tailsCarried yearsCarried tailAveragesPass every
+tails-are f few z e passed =
+    let qs = tailQuestions (f .k) (firstTailAverageOf f) (f .indices) in
+    let one = tailPayment (f .exposures) (firstTailAverageOf f) (f .indices) in
+    let all = leading-all (λ i. leb (tailAverage (firstTailAverageOf f) (f .indices) i) mostTailAverage) (f .k + 1) (yes-said 19 qs refl passed) in
+    record { passed = passed; tails = e ∙ rw (yes-said 18 qs refl passed, all) (sets-filled 16 0 (upTo one (f .k + 1)) (omega (arith, length-upTo one (f .k + 1)))) }
+
 -- what was read are the figures of the record
-pub figures-are : (s : List ℕ) → Filled s → (k : ℕ) (n : List ℕ) (p : List ℤ) (e b : List ℕ) (w : ℕ) (u : List ℕ) → k ≡ lastYearOf s
+pub figures-are : (s : List ℕ) → Filled s → (k : ℕ) (n : List ℕ) (p : List ℤ) (e b : List ℕ) (w : ℕ) (u : List ℕ) (a : ℕ) → k ≡ lastYearOf s
     → n ≡ sets (replicate 16 0) 0 (rowRead s 1) → p ≡ sets (replicate 136 (pos 0)) 0 (map (valueOf increment) (rowRead s 2))
     → e ≡ sets (replicate 16 0) 0 (rowRead s 3) → b ≡ sets (replicate 16 0) 0 (rowRead s 4) → w ≡ getD (rowRead s 5) 0 0
-    → u ≡ sets (replicate 16 0) 0 (rowRead s 6) → figures k n p e b w u ≡ figuresOf s
+    → u ≡ sets (replicate 16 0) 0 (rowRead s 6) → a ≡ getD (rowRead s 7) 0 0 → figures k n p e b w u a ≡ figuresOf s
 unfolding figuresOf
-figures-are s h k n p e b w u ek en ep ee eb ew eu =
-    rw (ek, en ∙ h .exposures, ep ∙ h .increments, ee ∙ h .indices, eb ∙ h .reporting, ew ∙ h .weight, eu ∙ h .ulae)
+figures-are s h k n p e b w u a ek en ep ee eb ew eu ea =
+    rw (ek, en ∙ h .exposures, ep ∙ h .increments, ee ∙ h .indices, eb ∙ h .reporting, ew ∙ h .weight, eu ∙ h .ulae, ea ∙ h .tail)

@@ -1,6 +1,6 @@
 -- What each stage after the separation requires, and that it leaves the figures' own arrays and answers. Assumes nothing.
 use Prim.Native.Nat.{ℕ, _+_, _-_, _*_, _≤_, _<_}
-use native.Mathlib.Nat.{le-trans}
+use native.Mathlib.Nat.{le-trans, mul-le-mul}
 use native.Mathlib.Omega.{arith}
 use borrow.Author.Tests.{leb-true}
 use mathlib.Core.Path.{_≡_, refl, sym, ap₂, _∙_}
@@ -14,25 +14,26 @@ use Rattle.rules.specs.Lists.{total, upTo, padded, joined, every}
 use Rattle.rules.specs.Record.{Figures, cells, mostAmount}
 use Rattle.rules.specs.Triangle.{mostCumulative, paidTo}
 use Rattle.rules.specs.Separation.{billion, shareOf, levelOf, factorsOf, levelsPass, totalsPass, separationQuestions, separateAnswer}
+use Rattle.rules.specs.Tail.{tailAverage, tailPayment, tailPayments, mostTailAverage, tailAveragesPass, tailQuestions}
 use Rattle.rules.specs.Completion.{futureLevel, futureLevels, paymentRow, payments, provision, provisions, ultimate, mostUltimate, ultimatesPass}
 use Rattle.rules.specs.Expense.{paidTotal, ulaeTotal, ratioPass, ratioOf}
 use Rattle.rules.specs.Ladder.{developed, base, developmentFactor, developmentFactors, mostFactor, factorPasses, factorsPass, completedRow, completedAll, completedPass}
-use Rattle.rules.specs.Results.{squareOf, latestOf, factorsIn, paidIn, levelsIn, provisionsIn, developmentIn, ratioIn, sections, resultsOf}
-use Rattle.laws.proofs.Lists.{length-upTo, upTo-ext, every-same, total-most, both-left, take-padded}
+use Rattle.rules.specs.Results.{squareOf, latestOf, factorsIn, firstTailAverageOf, paidIn, levelsIn, tailsIn, provisionsIn, developmentIn, ratioIn, sections, resultsOf}
+use Rattle.laws.proofs.Lists.{length-upTo, upTo-ext, every-upTo, every-same, total-most, both-left, take-padded}
 use Rattle.laws.proofs.Padded.{filled-at}
 use Rattle.laws.proofs.Joined.{sets-filled, future-length, future-cells, future-most}
 use Rattle.laws.proofs.Questions.{said, yes-said}
 use Rattle.totals.proofs.TotalsMost.{diagonal-most, latest-level}
 use Rattle.totals.proofs.Square.{zero-outside}
 use Rattle.triangle.proofs.Passed.{column-developed, column-base, paid-most, column-sum-most, paid-total}
-use Rattle.completion.specs.Asked.{Completable, rowsAsked}
+use Rattle.completion.specs.Asked.{Completable, mostPayment, rowsAsked}
 use Rattle.entries.specs.Leading.{leading, passing}
 use Rattle.entries.proofs.Leading.{leading-all, asked-all, passing-all}
 use Rattle.ladder.specs.Columns.{developedIn, baseIn, Ladderable}
 use Rattle.allowance.proofs.Rates.{ratio-most}
 use Rattle.results.proofs.SectionPlaces.{length-payments, length-completed}
-use Rattle.results.proofs.Limits.{shares-most, levels-most, ahead-most, ultimates-most, addable-payments, addable-provisions, factors-most, addable-completed}
-use Rattle.engine.specs.Stages.{Separated, Printable, printedList}
+use Rattle.results.proofs.Limits.{shares-most, levels-most, ahead-most, ultimates-most, addable-payments, addable-tails, addable-provisions, factors-most, addable-completed, most-list}
+use Rattle.engine.specs.Stages.{Separated, Tailed, Printable, printedList}
 
 module _ (f : Figures) (s : List (List ℤ)) (v c r l : List ℕ) (h : Separated f s v c r l) where
   abbrev k : ℕ
@@ -84,30 +85,42 @@ module _ (f : Figures) (s : List (List ℤ)) (v c r l : List ℕ) (h : Separated
       levels = rw ahead-is (ahead-most f latest-most (h .sound .indices));
     }
 
-    -- question 11
-    pub eleven-is : ultimatesPass (f .k) c (padded 16 0 (provisions (f .k) (f .exposures) r a)) ≡ ultimatesPass (f .k) (paidIn f) (provisionsIn f)
-    unfolding provisionsIn
-    eleven-is = rw (h .paid, h .shares, ahead-is)
+    -- question 11, with the tail payments z
+    module _ (z : List ℕ) (t : Tailed f z) where
+      pub eleven-is : ultimatesPass (f .k) c (padded 16 0 (provisions (f .k) (f .exposures) r a z)) ≡ ultimatesPass (f .k) (paidIn f) (provisionsIn f)
+      unfolding provisionsIn
+      eleven-is = rw (h .paid, h .shares, ahead-is, t .tails)
 
-    module _ (eleven : ultimatesPass (f .k) (paidIn f) (provisionsIn f) ≡ true) where
-      -- every row was completed
-      all-rows : rowsAsked (f .k) (f .exposures) r a c ≡ f .k + 1
-      unfolding rowsAsked ultimatesPass
-      all-rows = asked-all (λ i. leb (ultimate c (padded 16 0 (provisions k (f .exposures) r a)) i) mostUltimate) (k + 1) (eleven-is ∙ eleven)
+      module _ (eleven : ultimatesPass (f .k) (paidIn f) (provisionsIn f) ≡ true) where
+        -- every row was completed
+        all-rows : rowsAsked (f .k) (f .exposures) r a z c ≡ f .k + 1
+        unfolding rowsAsked ultimatesPass
+        all-rows = asked-all (λ i. leb (ultimate c (padded 16 0 (provisions k (f .exposures) r a z)) i) mostUltimate) (k + 1) (eleven-is ∙ eleven)
 
-      pub payments-are : (y : List ℕ) → y ≡ sets (replicate 120 0) 0 (joined (upTo (paymentRow (f .k) (f .exposures) r a) (rowsAsked (f .k) (f .exposures) r a c)))
-          → y ≡ padded 120 0 (payments (f .k) (f .exposures) (factorsIn f .shares) (levelsIn f))
-      unfolding payments
-      payments-are y p =
-          let row = paymentRow k (f .exposures) (factorsIn f .shares) (levelsIn f) in
-          let size = future-length row (length-payments k (f .exposures) (factorsIn f .shares) (levelsIn f)) (k + 1) in
-          p ∙ rw (all-rows, h .shares, ahead-is) (sets-filled 120 0 (joined (upTo row (k + 1))) (omega (arith, size, future-most (k + 1) (omega (arith, h .sound .few)))))
+        pub payments-are : (y : List ℕ) → y ≡ sets (replicate 120 0) 0 (joined (upTo (paymentRow (f .k) (f .exposures) r a) (rowsAsked (f .k) (f .exposures) r a z c)))
+            → y ≡ padded 120 0 (payments (f .k) (f .exposures) (factorsIn f .shares) (levelsIn f))
+        unfolding payments
+        payments-are y p =
+            let row = paymentRow k (f .exposures) (factorsIn f .shares) (levelsIn f) in
+            let size = future-length row (length-payments k (f .exposures) (factorsIn f .shares) (levelsIn f)) (k + 1) in
+            p ∙ rw (all-rows, h .shares, ahead-is) (sets-filled 120 0 (joined (upTo row (k + 1))) (omega (arith, size, future-most (k + 1) (omega (arith, h .sound .few)))))
 
-      pub provisions-are : (q : List ℕ) → q ≡ sets (replicate 16 0) 0 (upTo (provision (f .k) (f .exposures) r a) (rowsAsked (f .k) (f .exposures) r a c)) → q ≡ provisionsIn f
-      unfolding provisionsIn provisions
-      provisions-are q p =
-          let one = provision k (f .exposures) (factorsIn f .shares) (levelsIn f) in
-          p ∙ rw (all-rows, h .shares, ahead-is) (sets-filled 16 0 (upTo one (k + 1)) (omega (arith, length-upTo one (k + 1), h .sound .few)))
+        pub provisions-are : (q : List ℕ) → q ≡ sets (replicate 16 0) 0 (upTo (provision (f .k) (f .exposures) r a z) (rowsAsked (f .k) (f .exposures) r a z c)) → q ≡ provisionsIn f
+        unfolding provisionsIn provisions
+        provisions-are q p =
+            let one = provision k (f .exposures) (factorsIn f .shares) (levelsIn f) (tailsIn f) in
+            p ∙ rw (all-rows, h .shares, ahead-is, t .tails) (sets-filled 16 0 (upTo one (k + 1)) (omega (arith, length-upTo one (k + 1), h .sound .few)))
+
+  -- no tail payment is above the most of a payment
+  pub tails-fit : (z : List ℕ) → Tailed f z → (i : ℕ) → getD z i 0 ≤ mostPayment
+  unfolding tailsIn tailPayments tailPayment tailQuestions tailAveragesPass every
+  tails-fit z t =
+      let nineteen = yes-said 19 (tailQuestions k (firstTailAverageOf f) (f .indices)) refl (t .passed) in
+      rw (t .tails)
+      (most-list mostPayment 16 (k + 1) (tailPayment (f .exposures) (firstTailAverageOf f) (f .indices))
+      (λ i l.
+      let low = leb-true (tailAverage (firstTailAverageOf f) (f .indices) i) mostTailAverage (every-upTo (λ i. leb (tailAverage (firstTailAverageOf f) (f .indices) i) mostTailAverage) (λ i. i) (k + 1) i nineteen l) in
+      omega (arith, mul-le-mul (h .sound .exposures-most i) low)))
 
   -- question 12
   pub spent-fits : ulaeTotal (f .k) (f .ulae) ≤ 16 * mostAmount
@@ -239,9 +252,13 @@ module _ (f : Figures) where
       take-padded 120 (cells (f .k) - (f .k + 1)) 0 (joined (upTo row (f .k + 1)))
       (omega (arith, future-length row (length-payments (f .k) (f .exposures) (factorsIn f .shares) (levelsIn f)) (f .k + 1), future-cells (f .k)))
 
-  take-provisions : take (f .k + 1) (provisionsIn f) ≡ provisions (f .k) (f .exposures) (factorsIn f .shares) (levelsIn f)
+  take-provisions : take (f .k + 1) (provisionsIn f) ≡ provisions (f .k) (f .exposures) (factorsIn f .shares) (levelsIn f) (tailsIn f)
   unfolding provisionsIn provisions
-  take-provisions = take-padded 16 (f .k + 1) 0 _ (length-upTo (provision (f .k) (f .exposures) (factorsIn f .shares) (levelsIn f)) (f .k + 1))
+  take-provisions = take-padded 16 (f .k + 1) 0 _ (length-upTo (provision (f .k) (f .exposures) (factorsIn f .shares) (levelsIn f) (tailsIn f)) (f .k + 1))
+
+  take-tails : take (f .k + 1) (tailsIn f) ≡ tailPayments (f .k) (f .exposures) (firstTailAverageOf f) (f .indices)
+  unfolding tailsIn tailPayments
+  take-tails = take-padded 16 (f .k + 1) 0 _ (length-upTo (tailPayment (f .exposures) (firstTailAverageOf f) (f .indices)) (f .k + 1))
 
   take-factors : take (f .k) (developmentIn f) ≡ developmentFactors (f .k) (developed (f .k) (f .increments)) (base (f .k) (f .increments))
   unfolding developmentIn developmentFactors
@@ -254,8 +271,8 @@ module _ (f : Figures) where
       take-padded 120 (cells (f .k) - (f .k + 1)) 0 (joined (upTo row (f .k + 1)))
       (omega (arith, future-length row (length-completed (f .k) (paidIn f) (developmentIn f)) (f .k + 1), future-cells (f .k)))
 
-module _ (f : Figures) (s : List (List ℤ)) (v c r l : List ℕ) (h : Separated f s v c r l) (a y q : List ℕ) (p : ℕ) (m x : List ℕ) (w : Worked f a y q p m x) where
-  pub printable : Printable (f .k) r l a y q c (f .reporting) (f .weight) p m x
+module _ (f : Figures) (s : List (List ℤ)) (v c r l : List ℕ) (h : Separated f s v c r l) (a y q : List ℕ) (p : ℕ) (m x : List ℕ) (w : Worked f a y q p m x) (z : List ℕ) (t : Tailed f z) where
+  pub printable : Printable (f .k) r l a y q c (f .reporting) (f .weight) p m x z
   unfolding ratioIn
   printable = record {
     few = h .sound .few;
@@ -273,10 +290,11 @@ module _ (f : Figures) (s : List (List ℤ)) (v c r l : List ℕ) (h : Separated
     };
     factors = rw (w .factors) (λ j. le-trans (factors-most f (w .thirteen) j) (omega arith));
     completed = rw (w .completed) (addable-completed (completedAll (f .k) (paidIn f) (developmentIn f)) (w .fourteen));
+    tails = rw (t .tails) (addable-tails f (w .eleven));
   }
 
   -- the list that is put is the figures' own
-  pub printed-is : printedList (f .k) s r l a y q c (f .reporting) (f .weight) p m x ≡ resultsOf f
+  pub printed-is : printedList (f .k) s r l a y q c (f .reporting) (f .weight) p m x z ≡ resultsOf f
   unfolding printedList resultsOf sections
   printed-is =
-      rw (h .square, h .paid, h .shares, h .levels, w .ahead, w .payments, w .provisions, w .ratio, w .factors, w .completed, take-shares f, take-levels f, take-ahead f, take-payments f, take-provisions f, take-factors f, take-completed f)
+      rw (h .square, h .paid, h .shares, h .levels, w .ahead, w .payments, w .provisions, w .ratio, w .factors, w .completed, t .tails, take-shares f, take-levels f, take-ahead f, take-payments f, take-provisions f, take-factors f, take-completed f, take-tails f)

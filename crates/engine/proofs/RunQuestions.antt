@@ -11,7 +11,8 @@ use Rattle.rules.specs.Questions.{firstNo, afterCall}
 use Rattle.rules.specs.Record.{Figures}
 use Rattle.rules.specs.Results.{resultsOf}
 use Rattle.rules.specs.Separation.{separationQuestions}
-use Rattle.rules.specs.Engine.{completionQuestions, ratioQuestions, ladderQuestions, laterQuestions, figureQuestions}
+use Rattle.rules.specs.Tail.{tailQuestions}
+use Rattle.rules.specs.Engine.{completionQuestions, ratioQuestions, ladderQuestions, lastQuestions, laterQuestions, figureQuestions}
 use Rattle.laws.proofs.Questions.{numbered, yes-said, later-answer, first-answer, after-refusal}
 use Rattle.results.proofs.Demanded.{Answered}
 use Rattle.engine.specs.Stages.{Answers}
@@ -50,7 +51,7 @@ module _ (f : Figures) (out : List ℤ) where
 
 -- what the third demand asks of an accepted run
 pub answered : (f : Figures) → firstNo (figureQuestions f) ≡ 0 → Answered f
-unfolding figureQuestions separationQuestions laterQuestions completionQuestions ratioQuestions ladderQuestions every
+unfolding figureQuestions separationQuestions laterQuestions tailQuestions lastQuestions completionQuestions ratioQuestions ladderQuestions every
 answered f h =
     let qs = figureQuestions f in
     record { totals = yes-said 7 qs refl h; rests = yes-said 8 qs refl h; running = yes-said 9 qs refl h; ratio = yes-said 12 qs refl h }

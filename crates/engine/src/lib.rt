@@ -1,4 +1,4 @@
-// The engine: from a record to the result list, under questions 1 to 14. It asks every question and works everything out before it writes.
+// The engine: from a record to the result list, under questions 1 to 14, 18 and 19. It asks every question before it writes.
 use completion::fill_levels;
 use entries::sum_of;
 use expense::put_reserves;
@@ -7,13 +7,14 @@ use expense::ratio_passes;
 use ladder::development_factors;
 use listing::entries_of;
 use listing::put_completion;
-use listing::put_ladder;
+use listing::put_last;
 use listing::put_separation;
 use reading::last_year_of;
 use reading::opens;
 use reading::read;
 use rules::ACCEPTED;
 use separation::separate_totals;
+use tail::carry_tail;
 use triangle::fill_rows;
 ghost use mathlib.Core.Path.{_≡_};
 ghost use mathlib.Core.List.{_++_};
@@ -24,10 +25,10 @@ ghost use Rattle.rules.specs.Questions.{firstNo};
 ghost use Rattle.rules.specs.Record.{figures, lastYearOf, figuresOf};
 ghost use Rattle.rules.specs.Reading.{openingQuestions, fieldQuestions};
 ghost use Rattle.rules.specs.Results.{resultCount};
-ghost use Rattle.rules.specs.Engine.{laterQuestions, figureQuestions, holdsList, runAnswer, runInto};
+ghost use Rattle.rules.specs.Engine.{lastQuestions, figureQuestions, holdsList, runAnswer, runInto};
 ghost use Rattle.rules.specs.Demand.{ThirdDemand};
 ghost use Rattle.reading.specs.Reading.{Sound};
-ghost use Rattle.engine.specs.Stages.{Separated, Printable, printedList, Answers};
+ghost use Rattle.engine.specs.Stages.{Separated, Tailed, Printable, printedList, Answers};
 
 // The whole list.
 fn put_results<'a>(
@@ -45,21 +46,22 @@ fn put_results<'a>(
     ratio: u64,
     factors: &[u64; 16],
     completed: &[u64; 120],
+    tails: &[u64; 16],
 )
-    requires { ⌜ Printable k (now shares) (now levels) (now ahead) (now payments) (now provisions) (now paid) (now reporting) weight ratio (now factors) (now completed)
+    requires { ⌜ Printable k (now shares) (now levels) (now ahead) (now payments) (now provisions) (now paid) (now reporting) weight ratio (now factors) (now completed) (now tails)
         × (resultCount k ≤ length (now out)) ⌝ }
     ensures { λ _. ⌜ now (out .exit)
         ≡ sets (now (out .entry)) 0
         (printedList k (now (square .entry)) (now (shares .entry)) (now (levels .entry)) (now (ahead .entry)) (now (payments .entry)) (now (provisions .entry)) (now (paid .entry))
-        (now (reporting .entry)) weight ratio (now (factors .entry)) (now (completed .entry))) ⌝ }
+        (now (reporting .entry)) weight ratio (now (factors .entry)) (now (completed .entry)) (now (tails .entry))) ⌝ }
 {
     let a = put_separation(out, square, shares, levels, k);
     let b = put_completion(out, a, ahead, payments, provisions, k);
     let c = put_reserves(out, b, k, paid, provisions, reporting, weight, ratio);
-    put_ladder(out, c, factors, completed, k);
+    put_last(out, c, factors, completed, tails, k);
 }
 
-// Questions 11 to 14 of figures whose separation was accepted, and the list where all say yes. The latest diagonal is the latest level.
+// Questions 11 to 14 of figures whose separation was accepted and whose tail was carried on, and the list where all say yes. The latest diagonal is the latest level.
 fn finish<'a>(
     k: usize,
     exposures: &[u64; 16],
@@ -68,17 +70,19 @@ fn finish<'a>(
     reporting: &[u64; 16],
     weight: u64,
     ulae: &[u64; 16],
+    tail: u64,
     square: &[[i64; 16]; 16],
     sums: &[u64; 16],
     paid: &[u64; 16],
     shares: &'a [u64; 16],
     levels: &'a [u64; 16],
+    tails: &[u64; 16],
     out: &mut [i64],
 ) -> u64
-    requires { ⌜ Separated (figures k (now exposures) (now increments) (now indices) (now reporting) weight (now ulae)) (now square) (now sums) (now paid) (now shares) (now levels)
-        × (resultCount k ≤ length (now out)) ⌝ }
-    ensures { λ r. ⌜ Answers (laterQuestions (figures k (now (exposures .entry)) (now (increments .entry)) (now (indices .entry)) (now (reporting .entry)) weight (now (ulae .entry))))
-        (figures k (now (exposures .entry)) (now (increments .entry)) (now (indices .entry)) (now (reporting .entry)) weight (now (ulae .entry))) (now (out .entry)) (now (out .exit)) r ⌝ }
+    requires { ⌜ Separated (figures k (now exposures) (now increments) (now indices) (now reporting) weight (now ulae) tail) (now square) (now sums) (now paid) (now shares) (now levels)
+        × (Tailed (figures k (now exposures) (now increments) (now indices) (now reporting) weight (now ulae) tail) (now tails) × (resultCount k ≤ length (now out))) ⌝ }
+    ensures { λ r. ⌜ Answers (lastQuestions (figures k (now (exposures .entry)) (now (increments .entry)) (now (indices .entry)) (now (reporting .entry)) weight (now (ulae .entry)) tail))
+        (figures k (now (exposures .entry)) (now (increments .entry)) (now (indices .entry)) (now (reporting .entry)) weight (now (ulae .entry)) tail) (now (out .entry)) (now (out .exit)) r ⌝ }
 {
     let n = k + 1;
     let mut ahead = [0u64; 16];
@@ -90,6 +94,7 @@ fn finish<'a>(
         exposures,
         shares,
         &ahead,
+        tails,
         paid,
         &mut payments,
         &mut provisions,
@@ -124,11 +129,12 @@ fn finish<'a>(
         ratio_of(total, spent),
         &factors,
         &completed,
+        tails,
     );
     ACCEPTED
 }
 
-// Questions 6 to 14 of figures that have passed 4 and 5, and the list where all say yes.
+// The questions from 6 on of figures that have passed 4 and 5, and the list where all say yes.
 pub fn run_figures(
     k: usize,
     exposures: &[u64; 16],
@@ -137,11 +143,12 @@ pub fn run_figures(
     reporting: &[u64; 16],
     weight: u64,
     ulae: &[u64; 16],
+    tail: u64,
     out: &mut [i64],
 ) -> u64
-    requires { ⌜ Sound (figures k (now exposures) (now increments) (now indices) (now reporting) weight (now ulae)) × (resultCount k ≤ length (now out)) ⌝ }
-    ensures { λ r. ⌜ Answers (figureQuestions (figures k (now (exposures .entry)) (now (increments .entry)) (now (indices .entry)) (now (reporting .entry)) weight (now (ulae .entry))))
-        (figures k (now (exposures .entry)) (now (increments .entry)) (now (indices .entry)) (now (reporting .entry)) weight (now (ulae .entry))) (now (out .entry)) (now (out .exit)) r ⌝ }
+    requires { ⌜ Sound (figures k (now exposures) (now increments) (now indices) (now reporting) weight (now ulae) tail) × (resultCount k ≤ length (now out)) ⌝ }
+    ensures { λ r. ⌜ Answers (figureQuestions (figures k (now (exposures .entry)) (now (increments .entry)) (now (indices .entry)) (now (reporting .entry)) weight (now (ulae .entry)) tail))
+        (figures k (now (exposures .entry)) (now (increments .entry)) (now (indices .entry)) (now (reporting .entry)) weight (now (ulae .entry)) tail) (now (out .entry)) (now (out .exit)) r ⌝ }
 {
     let mut square = [[0i64; 16]; 16];
     let mut sums = [0u64; 16];
@@ -164,6 +171,11 @@ pub fn run_figures(
     if separation.answer != ACCEPTED {
         return separation.answer;
     }
+    let mut tails = [0u64; 16];
+    let carried = carry_tail(k, tail, exposures, indices, &mut tails);
+    if carried != ACCEPTED {
+        return carried;
+    }
     let factors = separation.factors;
     finish(
         k,
@@ -173,16 +185,18 @@ pub fn run_figures(
         reporting,
         weight,
         ulae,
+        tail,
         &square,
         &sums,
         &paid,
         &factors.shares,
         &factors.levels,
+        &tails,
         out,
     )
 }
 
-// Questions 4 to 14 of a record that has passed 1, 2 and 3, and the list where all say yes.
+// The questions from 4 on of a record that has passed 1, 2 and 3, and the list where all say yes.
 fn run_record(packed: &[u8], out: &mut [i64]) -> u64
     requires { ⌜ (firstNo (openingQuestions (now packed)) ≡ 0) × (resultCount (lastYearOf (now packed)) ≤ length (now out)) ⌝ }
     ensures { λ r. ⌜ Answers (fieldQuestions (now (packed .entry)) ++ figureQuestions (figuresOf (now (packed .entry)))) (figuresOf (now (packed .entry))) (now (out .entry)) (now (out .exit)) r ⌝ }
@@ -211,6 +225,7 @@ fn run_record(packed: &[u8], out: &mut [i64]) -> u64
         &reporting,
         opened.weight,
         &ulae,
+        opened.tail,
         out,
     )
 }
@@ -223,7 +238,7 @@ fn holds_list(s: &[u8], m: usize) -> bool
     entries_of(last_year_of(s)) <= m
 }
 
-// Fills the result list of the record and answers 0, or leaves the buffer and answers the number of the first of questions 1 to 14 that says no.
+// Fills the result list of the record and answers 0, or leaves the buffer and answers the number of the first question, in their order, that says no.
 // Entries of a longer buffer keep what they held. Of every accepted run the third demand holds.
 #[no_mangle]
 pub extern "C" fn doonamurk_run(packed: &[u8], results: &mut [i64]) -> u64

@@ -36,10 +36,11 @@ pub record Starts (k : ℕ) : Type 0 where
   pub exposures : startOf k 1 ≡ 4
   pub increments : startOf k 2 ≡ 24 + 20 * k
   pub indices : startOf k 3 ≡ 24 + 20 * k + 35 * cells k
-  pub reporting : startOf k 4 ≡ 24 + 43 * k + 35 * cells k
-  pub weight : startOf k 5 ≡ 44 + 63 * k + 35 * cells k
-  pub ulae : startOf k 6 ≡ 64 + 63 * k + 35 * cells k
-  pub end : bitCount k ≡ startOf k 6 + 34 * (k + 1)
+  pub reporting : startOf k 4 ≡ 47 + 43 * k + 35 * cells k
+  pub weight : startOf k 5 ≡ 67 + 63 * k + 35 * cells k
+  pub ulae : startOf k 6 ≡ 87 + 63 * k + 35 * cells k
+  pub tail : startOf k 7 ≡ 121 + 97 * k + 35 * cells k
+  pub end : bitCount k ≡ startOf k 7 + 34
 
 pub starts : (k : ℕ) → Starts k
 unfolding startOf bitCount widths layout total
@@ -50,16 +51,17 @@ starts k = record {
   reporting = omega (arith, bits-of-rows (take 4 (layout k)));
   weight = omega (arith, bits-of-rows (take 5 (layout k)));
   ulae = omega (arith, bits-of-rows (take 6 (layout k)));
-  end = omega (arith, bits-of-rows (take 6 (layout k)), bits-of-rows (layout k));
+  tail = omega (arith, bits-of-rows (take 7 (layout k)));
+  end = omega (arith, bits-of-rows (take 7 (layout k)), bits-of-rows (layout k));
 }
 
 -- how many fields the record has
-pub fields-count : (k : ℕ) → fieldCount k ≡ cells k + 4 * k + 5
+pub fields-count : (k : ℕ) → fieldCount k ≡ cells k + 4 * k + 7
 unfolding fieldCount layout total
 fields-count k = omega (arith, length-of-rows (layout k))
 
--- the bits are at most 6313
-pub bits-most : (k : ℕ) → k < 16 → bitCount k ≤ 6313
+-- the bits are at most 6370
+pub bits-most : (k : ℕ) → k < 16 → bitCount k ≤ 6370
 bits-most k h =
     let s = starts k in
     omega (arith, cells-most k h)
@@ -69,8 +71,8 @@ pub bytes-room : (k : ℕ) → (bitCount k ≤ 8 * byteCount k) × ((8 * byteCou
 unfolding byteCount fillingCount
 bytes-room k = omega arith
 
--- a record with k at least 1 has at least 38 bytes
-pub bytes-least : (k : ℕ) → 1 ≤ k → 38 ≤ byteCount k
+-- a record with k at least 1 has at least 45 bytes
+pub bytes-least : (k : ℕ) → 1 ≤ k → 45 ≤ byteCount k
 unfolding byteCount
 bytes-least k h =
     let m : 2 * 3 ≤ (k + 1) * (k + 2) = mul-le-mul {n₁ = 2} {m₁ = 3} (omega arith) (omega arith) in

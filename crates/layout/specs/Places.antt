@@ -18,5 +18,6 @@ placesOf k = record {
   reporting = startOf k 4;
   weight = startOf k 5;
   ulae = startOf k 6;
+  tail = startOf k 7;
   end = bitCount k;
 }

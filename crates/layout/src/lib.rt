@@ -12,6 +12,7 @@ pub struct Places {
     pub reporting: usize,
     pub weight: usize,
     pub ulae: usize,
+    pub tail: usize,
     pub end: usize,
 }
 
@@ -29,10 +30,11 @@ pub fn places_of(k: usize) -> Places
     let cells = cells_of(k);
     let increments = 24 + 20 * k;
     let indices = increments + 35 * cells;
-    let reporting = indices + 23 * k;
+    let reporting = indices + 23 * (k + 1);
     let weight = reporting + 20 * (k + 1);
     let ulae = weight + 20;
-    let end = ulae + 34 * (k + 1);
+    let tail = ulae + 34 * (k + 1);
+    let end = tail + 34;
     Places {
         cells,
         increments,
@@ -40,6 +42,7 @@ pub fn places_of(k: usize) -> Places
         reporting,
         weight,
         ulae,
+        tail,
         end,
     }
 }
@@ -57,5 +60,5 @@ pub fn fields_of(k: usize) -> usize
     requires { ⌜ k < 16 ⌝ }
     ensures { λ r. ⌜ (r ≡ fieldCount k) × (r ≤ mostFields) ⌝ }
 {
-    cells_of(k) + 4 * k + 5
+    cells_of(k) + 4 * k + 7
 }

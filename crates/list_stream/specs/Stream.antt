@@ -30,9 +30,9 @@ rowsText s n = joined (upTo (λ i. listRow (recordAt s i)) n)
 unfoldable pub wholeAt : List ℕ → ℕ → Bool
 wholeAt s p = leb (p + 2) (length s) && leb (p + 2 + lengthAt s p) (length s)
 
--- the most bytes of a row: 489 entries of a sign, at most 20 digits and the byte after them
+-- the most bytes of a row: 505 entries of a sign, at most 20 digits and the byte after them
 abbrev pub mostRow : ℕ
-mostRow = 10758
+mostRow = 11110
 
 -- the first `count` records of s stand before place `from`, and all of their rows are in the buffer and end before place `end`. A record is taken where it
 -- is whole and the buffer has room for the longest row after those before it, and the first that is not ends it: so `count` is fixed

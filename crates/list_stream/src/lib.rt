@@ -8,7 +8,7 @@ ghost use Rattle.list_runs.specs.Runs.{listRow};
 ghost use Rattle.list_stream.specs.Stream.{lengthAt, wholeAt, RowsPut};
 
 // The most bytes of a row.
-const MOST_ROW: usize = 10_758;
+const MOST_ROW: usize = 11_110;
 
 // How many records were taken, the place after them, and the place after their rows.
 pub struct Taken {

@@ -9,9 +9,9 @@ use Rattle.laws.proofs.TriangleRows.{cells-least}
 
 -- the sections' counts summed
 sum-of-counts : (k c : ℕ) → k + 1 ≤ c
-    → c + (k + 1 + (k + 1 + (k + (c - (k + 1) + (k + 1 + (1 + (k + 1 + (k + 1 + (1 + (1 + (k + (c - (k + 1) + 0)))))))))))) ≡ 3 * c + 5 * k + 6
+    → c + (k + 1 + (k + 1 + (k + (c - (k + 1) + (k + 1 + (1 + (k + 1 + (k + 1 + (1 + (1 + (k + (c - (k + 1) + (k + 1 + 0))))))))))))) ≡ 3 * c + 6 * k + 7
 sum-of-counts k c h = omega arith
 
-pub results-count : (k : ℕ) → resultCount k ≡ 3 * cells k + 5 * k + 6
+pub results-count : (k : ℕ) → resultCount k ≡ 3 * cells k + 6 * k + 7
 unfolding resultCount sectionCounts total
 results-count k = sum-of-counts k (cells k) (omega (arith, cells-least k))

@@ -6,7 +6,7 @@ use mathlib.Core.Path.{_≡_, refl, ap}
 use Rattle.rules.specs.Triangle.{futureStart}
 use Rattle.rules.specs.Lists.{total}
 use Rattle.rules.specs.Record.{cells}
-use Rattle.rules.specs.Results.{averageSection, shareSection, levelSection, futureLevelSection, paymentSection, provisionSection, provisionTotalSection, notReportedSection, reserveSection, reserveTotalSection, ratioSection, factorSection, completedSection, sectionCounts, sectionStart}
+use Rattle.rules.specs.Results.{averageSection, shareSection, levelSection, futureLevelSection, paymentSection, provisionSection, provisionTotalSection, notReportedSection, reserveSection, reserveTotalSection, ratioSection, factorSection, completedSection, tailSection, sectionCounts, sectionStart}
 use Rattle.laws.proofs.TriangleRows.{cells-least}
 use Rattle.listing.specs.declared.Starts.{Starts}
 use Rattle.listing.specs.Starts.{startsOf}
@@ -26,6 +26,7 @@ pub record SectionsKnown (k : ℕ) : Type 0 where
   pub ratio : sectionStart k ratioSection ≡ 2 * cells k + 4 * (k + 1) + k + 2
   pub factors : sectionStart k factorSection ≡ 2 * cells k + 4 * (k + 1) + k + 3
   pub completed : sectionStart k completedSection ≡ 2 * cells k + 4 * (k + 1) + 2 * k + 3
+  pub tails : sectionStart k tailSection ≡ 3 * cells k + 3 * (k + 1) + 2 * k + 3
 
 pub known : (k : ℕ) → SectionsKnown k
 unfolding sectionStart total sectionCounts
@@ -45,6 +46,7 @@ known k =
       ratio = omega arith;
       factors = omega arith;
       completed = omega arith;
+      tails = omega arith;
     }
 
 -- starts that are those of the sections
@@ -61,6 +63,7 @@ pub record At (s : Starts) (k : ℕ) : Type 0 where
   pub ratio : s .ratio ≡ sectionStart k ratioSection
   pub factors : s .factors ≡ sectionStart k factorSection
   pub completed : s .completed ≡ sectionStart k completedSection
+  pub tails : s .tails ≡ sectionStart k tailSection
 
 pub at-starts : (s : Starts) (k : ℕ) → s ≡ startsOf k → At s k
 unfolding startsOf
@@ -78,6 +81,7 @@ at-starts s k e =
       ratio = ap (λ (z : Starts). z .ratio) e;
       factors = ap (λ (z : Starts). z .factors) e;
       completed = ap (λ (z : Starts). z .completed) e;
+      tails = ap (λ (z : Starts). z .tails) e;
     }
 
 -- the cells past the diagonal of the rows before i

@@ -6,7 +6,7 @@ use lib.ListN.{getD}
 use Rattle.rules.specs.Lists.{upTo}
 use Rattle.rules.specs.Triangle.{cellOf}
 use Rattle.rules.specs.Completion.{mostUltimate}
-use Rattle.rules.specs.Results.{shareSection, levelSection, futureLevelSection, paymentSection, provisionSection, provisionTotalSection, notReportedSection, reserveSection, reserveTotalSection, ratioSection, factorSection, completedSection, sectionStart}
+use Rattle.rules.specs.Results.{shareSection, levelSection, futureLevelSection, paymentSection, provisionSection, provisionTotalSection, notReportedSection, reserveSection, reserveTotalSection, ratioSection, factorSection, completedSection, tailSection, sectionStart}
 use Rattle.listing.specs.declared.Starts.{Starts}
 
 unfoldable pub startsOf : ℕ → Starts
@@ -23,6 +23,7 @@ startsOf k = record {
   ratio = sectionStart k ratioSection;
   factors = sectionStart k factorSection;
   completed = sectionStart k completedSection;
+  tails = sectionStart k tailSection;
 }
 
 -- row i of the averages, the first entries of row i of a square s

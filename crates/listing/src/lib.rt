@@ -6,12 +6,13 @@ use entries::put_naturals;
 use entries::sum_of;
 use layout::cells_of;
 ghost use mathlib.Core.Path.{_≡_};
+ghost use mathlib.Core.List.{_++_};
 ghost use Prim.Native.Nat.{_+_, _-_, _*_, _≤_, _<_};
 ghost use lib.ListN.{length, take};
 ghost use lib.Seq.{sets};
 ghost use Rattle.rules.specs.Lists.{joined, upTo};
 ghost use Rattle.rules.specs.Record.{cells};
-ghost use Rattle.rules.specs.Results.{resultCount, separationSections, completionSections, ladderSections, mostEntries};
+ghost use Rattle.rules.specs.Results.{resultCount, separationSections, completionSections, ladderSections, tailSections, mostEntries};
 ghost use Rattle.listing.specs.Starts.{startsOf, averageRowOf, Addable};
 
 // Where the sections after the averages start.
@@ -28,6 +29,7 @@ pub struct Starts {
     pub ratio: usize,
     pub factors: usize,
     pub completed: usize,
+    pub tails: usize,
 }
 
 pub fn starts_of(k: usize) -> Starts
@@ -48,6 +50,7 @@ pub fn starts_of(k: usize) -> Starts
     let ratio = reserve + 1;
     let factors = ratio + 1;
     let completed = factors + k;
+    let tails = completed + future;
     Starts {
         shares,
         levels,
@@ -61,6 +64,7 @@ pub fn starts_of(k: usize) -> Starts
         ratio,
         factors,
         completed,
+        tails,
     }
 }
 
@@ -69,7 +73,7 @@ pub fn entries_of(k: usize) -> usize
     requires { ⌜ k < 16 ⌝ }
     ensures { λ r. ⌜ (r ≡ resultCount k) × (r ≤ mostEntries) ⌝ }
 {
-    3 * cells_of(k) + 5 * k + 6
+    3 * cells_of(k) + 6 * k + 7
 }
 
 // The averages by row.
@@ -134,19 +138,25 @@ pub fn put_completion(
     put_natural(out, c, sum_of(provisions, n))
 }
 
-// The development factors and the completed cumulatives.
-pub fn put_ladder(
+// The development factors, the completed cumulatives and the tail payments, with which the list ends.
+pub fn put_last(
     out: &mut [i64],
     at: usize,
     factors: &[u64; 16],
     completed: &[u64; 120],
+    tails: &[u64; 16],
     k: usize,
 ) -> usize
-    requires { ⌜ (k < 16) × ((at + cells k - 1 ≤ length (now out)) × (Addable (now factors) × Addable (now completed))) ⌝ }
-    ensures { λ r. ⌜ (r ≡ at + cells k - 1)
+    requires { ⌜ (k < 16)
+        × ((at + cells k + k ≤ length (now out)) × (Addable (now factors) × (Addable (now completed) × Addable (now tails)))) ⌝ }
+    ensures { λ r. ⌜ (r ≡ at + cells k + k)
         × (now (out .exit)
-        ≡ sets (now (out .entry)) at (joined (ladderSections (take k (now (factors .entry))) (take (cells k - (k + 1)) (now (completed .entry)))))) ⌝ }
+        ≡ sets (now (out .entry)) at
+        (joined
+        (ladderSections (take k (now (factors .entry))) (take (cells k - (k + 1)) (now (completed .entry))) ++ tailSections (take (k + 1) (now (tails .entry)))))) ⌝ }
 {
+    let n = k + 1;
     let a = put_naturals(out, at, factors, k);
-    put_naturals(out, a, completed, cells_of(k) - (k + 1))
+    let b = put_naturals(out, a, completed, cells_of(k) - n);
+    put_naturals(out, b, tails, n)
 }

@@ -1,5 +1,5 @@
 -- The report of an accepted run as a page of text: tables with a line for each year. Numbers are entries of the result list, found by the places of its
--- sections, and amounts paid. Assumes nothing.
+-- sections, amounts paid, and sums of these. Assumes nothing.
 use Prim.Native.Nat.{ℕ, zero, suc, _+_}
 use mathlib.Core.List.{List, _++_}
 use lib.IntN.{ℤ, natAbs}

@@ -20,7 +20,7 @@ ghost use Rattle.listing.specs.Starts.{startsOf, Addable};
 ghost use Rattle.rows.specs.Rows.{entry};
 ghost use Rattle.tables.specs.Tables.{lineEnd};
 ghost use Rattle.factors_table.specs.Factors.{factorsTable};
-ghost use Rattle.amounts_table.specs.Amounts.{amountsTable};
+ghost use Rattle.amounts_table.specs.Amounts.{TailsAddable};
 ghost use Rattle.page.specs.Page.{averagesTable, paymentsTable, completedTable, developmentTable, ratioLine, pageOf};
 
 // The averages, the shares and levels, and the completed payments.
@@ -126,7 +126,7 @@ pub fn put_page(
     ladder: &[u64; 16],
     k: usize,
 ) -> usize
-    requires { ⌜ (k < 16) × (Addable (now paid) × Addable (now ladder)) ⌝ }
+    requires { ⌜ (k < 16) × (TailsAddable k (now list) × (Addable (now paid) × Addable (now ladder))) ⌝ }
     ensures { λ r. ⌜ Put (now (out .entry)) (now (out .exit)) at r (pageOf k (now (list .entry)) (now (paid .entry)) (now (ladder .entry))) ⌝ }
 {
     let places = starts_of(k);

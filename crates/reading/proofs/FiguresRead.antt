@@ -13,14 +13,14 @@ use lib.Seq.{sets}
 use Rattle.rules.specs.Lists.{total, padded, every, between}
 use Rattle.rules.specs.Packing.{Fit}
 use Rattle.rules.specs.Questions.{firstNo}
-use Rattle.rules.specs.Record.{million, mostAmount, increment, valueOf, inRange, negativeZero, bitsInRange, lastYearOf, fieldsOf, cells, reportingIn, figuresOf}
+use Rattle.rules.specs.Record.{million, mostIndex, mostAmount, increment, valueOf, inRange, negativeZero, bitsInRange, lastYearOf, fieldsOf, cells, reportingIn, figuresOf}
 use Rattle.rules.specs.Reading.{sharesSum, openingQuestions, fieldQuestions}
 use Rattle.entries.proofs.Leading.{passing-all}
 use Rattle.laws.proofs.Lists.{both-left, both-right, every-at, at-most, take-padded}
 use Rattle.laws.proofs.Joined.{sets-filled, padded-all}
 use Rattle.laws.proofs.TriangleRows.{cells-most}
 use Rattle.packing.proofs.Pack.{length-row}
-use Rattle.packing.specs.Field.{rowAt}
+use Rattle.packing.specs.Field.{fieldAt, rowAt}
 use Rattle.layout.specs.Places.{startOf, placesOf}
 use Rattle.reading.specs.Reading.{rowRead, Sound}
 use Rattle.reading.proofs.RowsRead.{WholeRecord, whole-record}
@@ -36,6 +36,7 @@ pub record Filled (s : List ℕ) : Type 0 where
   pub reporting : sets (replicate 16 0) 0 (rowRead s 4) ≡ figuresOf s .reporting
   pub weight : getD (rowRead s 5) 0 0 ≡ figuresOf s .weight
   pub ulae : sets (replicate 16 0) 0 (rowRead s 6) ≡ figuresOf s .ulae
+  pub tail : getD (rowRead s 7) 0 0 ≡ figuresOf s .tail
 
 -- an increment whose code is in range has a size in range, and so have all of them
 size-most : (x : ℕ) → bitsInRange increment x ≡ true → natAbs (valueOf increment x) ≤ mostAmount
@@ -65,22 +66,26 @@ module _ (least most : ℕ) (xs : List ℕ) (h : every (between least most) xs �
       rw (List·getD-append xs (replicate (16 - length xs) 0) 0 i l)
       (leb-true least x (both-left (leb least x) (leb x most) (every-at (between least most) xs i 0 l h)))
 
+-- a row of one number up to most
+one-most : (s : List ℕ) (at w most : ℕ) → every (between 0 most) (rowAt s at w 1) ≡ true → fieldAt s at w ≤ most
+one-most s at w most h = rw (one-row s at w) at (at-most 0 most (rowAt s at w 1) h 0)
+
 -- a row that is in range is read whole
-module _ (s : List ℕ) (p : Passed s 7) {i : ℕ} {test : ℕ → Bool} {row : List ℕ} (t : Tested s i test row) where
-  in-range : i < 7 → every test row ≡ true
+module _ (s : List ℕ) (p : Passed s 8) {i : ℕ} {test : ℕ → Bool} {row : List ℕ} (t : Tested s i test row) where
+  in-range : i < 8 → every test row ≡ true
   in-range l = sym (t .same) ∙ p i l
 
-  read-whole : i < 7 → rowRead s i ≡ row
+  read-whole : i < 8 → rowRead s i ≡ row
   read-whole l = t .read (λ j m. p j (omega arith)) ∙ passing-all test row (in-range l)
 
-module _ (s : List ℕ) (h : WholeRecord s) (p : Passed s 7) where
+module _ (s : List ℕ) (h : WholeRecord s) (p : Passed s 8) where
   abbrev k : ℕ
   k = lastYearOf s
 
   rows-found : PlacesFound s (lastYearOf s) (placesOf (lastYearOf s))
   rows-found = places-found h (lastYearOf s) (placesOf (lastYearOf s)) refl refl
 
-  fill : (i w n at : ℕ) (test : ℕ → Bool) (xs : List ℕ) → i < 7 → n ≤ 16 → Tested s i test (rowAt s at w n) → xs ≡ rowAt s at w n
+  fill : (i w n at : ℕ) (test : ℕ → Bool) (xs : List ℕ) → i < 8 → n ≤ 16 → Tested s i test (rowAt s at w n) → xs ≡ rowAt s at w n
       → sets (replicate 16 0) 0 (rowRead s i) ≡ padded 16 0 xs
   fill i w n at test xs l few t e =
       rw (read-whole s p t l, e) (sets-filled 16 0 (rowAt s at w n) (omega (arith, length-row s at w n)))
@@ -98,10 +103,11 @@ module _ (s : List ℕ) (h : WholeRecord s) (p : Passed s 7) where
             rw (read-whole s p (f .increments) (omega arith), l .increments)
             (sets-filled 136 (pos 0) (map (valueOf increment) cells-row)
             (omega (arith, length-map cells-row (valueOf increment), length-row s (startOf k 2) 35 (cells k), cells-most k few)));
-        indices = fill 3 23 k _ _ _ (omega arith) (omega arith) (f .indices) (l .indices);
+        indices = fill 3 23 (k + 1) _ _ _ (omega arith) (omega arith) (f .indices) (l .indices);
         reporting = fill 4 20 (k + 1) _ _ _ (omega arith) (omega arith) (f .reporting) (l .reporting);
         weight = rw (read-whole s p (f .weight) (omega arith), one-row s (startOf k 5) 20) (sym (l .weight));
         ulae = fill 6 34 (k + 1) _ _ _ (omega arith) (omega arith) (f .ulae) (l .ulae);
+        tail = rw (read-whole s p (f .tail) (omega arith), one-row s (startOf k 7) 34) (sym (l .tail));
       }
 
   figures-sound : sharesSum s ≡ true → Sound (figuresOf s)
@@ -112,6 +118,8 @@ module _ (s : List ℕ) (h : WholeRecord s) (p : Passed s 7) where
       let n = rowAt s 4 20 (k + 1) in
       let c = rowAt s (startOf k 2) 35 (cells k) in
       let n-range = in-range s p (f .exposures) (omega arith) in
+      let e = rowAt s (startOf k 3) 23 (k + 1) in
+      let e-range = in-range s p (f .indices) (omega arith) in
       record {
         some = h .some;
         few = h .few;
@@ -121,13 +129,15 @@ module _ (s : List ℕ) (h : WholeRecord s) (p : Passed s 7) where
             rw (l .increments)
             (padded-all (λ (z : ℤ). natAbs z ≤ mostAmount) (pos 0) zero-le 136 (pos 0) zero-le (map (valueOf increment) c)
             (sizes-most c (in-range s p (f .increments) (omega arith))));
-        indices = rw (l .indices) (up-to _ _ _ (in-range s p (f .indices) (omega arith)));
+        indices = rw (l .indices) (up-to 1 mostIndex e e-range);
+        firstIndex = rw (l .indices) (from 1 mostIndex e e-range 0 (omega (arith, length-row s (startOf k 3) 23 (k + 1))));
         reporting = rw (l .reporting) (up-to _ _ _ (in-range s p (f .reporting) (omega arith)));
         reporting-sum =
             rw (take-padded 16 (k + 1) 0 (reportingIn k (fieldsOf s)) (rw (l .reporting) (length-row s (startOf k 4) 20 (k + 1))))
             (eqb-true (total (reportingIn k (fieldsOf s))) million sum);
-        weight = rw (l .weight) (rw (one-row s (startOf k 5) 20) at (at-most 0 million (rowAt s (startOf k 5) 20 1) (in-range s p (f .weight) (omega arith)) 0));
+        weight = rw (l .weight) (one-most s (startOf k 5) 20 million (in-range s p (f .weight) (omega arith)));
         ulae = rw (l .ulae) (up-to _ _ _ (in-range s p (f .ulae) (omega arith)));
+        tail = rw (l .tail) (one-most s (startOf k 7) 34 mostAmount (in-range s p (f .tail) (omega arith)));
       }
 
 -- what is read of an accepted record

@@ -6,7 +6,7 @@ use mathlib.Core.Bool.{Bool, false, cond}
 use mathlib.Core.List.{List, [], _∷_, map}
 use lib.IntN.{ℤ, pos, natAbs}
 use lib.ListN.{getD}
-use Rattle.rules.specs.Record.{Kind, layout, section, cells, increment, valueOf, lastYearOf, codesOf, fieldsOf, exposuresIn, incrementsIn, indicesIn, reportingIn, weightIn, ulaeIn, exposure, index, reporting, weight, ulae, signedOf}
+use Rattle.rules.specs.Record.{Kind, layout, section, cells, increment, valueOf, lastYearOf, codesOf, fieldsOf, exposuresIn, incrementsIn, indicesIn, reportingIn, weightIn, ulaeIn, tailIn, exposure, index, reporting, weight, ulae, tail, signedOf}
 use Rattle.packing.specs.Field.{fieldAt, rowAt}
 use Rattle.rules.specs.Lists.{upTo}
 use Rattle.layout.specs.Places.{startOf}
@@ -36,23 +36,29 @@ pub record Codes (s : List ℕ) (k : ℕ) : Type 0 where
   pub years : section (layout k) 0 (codesOf s) ≡ rowAt s 0 4 1
   pub exposures : section (layout k) 1 (codesOf s) ≡ rowAt s 4 20 (k + 1)
   pub increments : section (layout k) 2 (codesOf s) ≡ rowAt s (startOf k 2) 35 (cells k)
-  pub indices : section (layout k) 3 (codesOf s) ≡ rowAt s (startOf k 3) 23 k
+  pub indices : section (layout k) 3 (codesOf s) ≡ rowAt s (startOf k 3) 23 (k + 1)
   pub reporting : section (layout k) 4 (codesOf s) ≡ rowAt s (startOf k 4) 20 (k + 1)
   pub weight : section (layout k) 5 (codesOf s) ≡ rowAt s (startOf k 5) 20 1
   pub ulae : section (layout k) 6 (codesOf s) ≡ rowAt s (startOf k 6) 34 (k + 1)
+  pub tail : section (layout k) 7 (codesOf s) ≡ rowAt s (startOf k 7) 34 1
 
 -- the lists by their places
 pub record Lists (s : List ℕ) (k : ℕ) : Type 0 where
   pub exposures : exposuresIn k (fieldsOf s) ≡ rowAt s 4 20 (k + 1)
   pub increments : incrementsIn k (fieldsOf s) ≡ map (valueOf increment) (rowAt s (startOf k 2) 35 (cells k))
-  pub indices : indicesIn k (fieldsOf s) ≡ rowAt s (startOf k 3) 23 k
+  pub indices : indicesIn k (fieldsOf s) ≡ rowAt s (startOf k 3) 23 (k + 1)
   pub reporting : reportingIn k (fieldsOf s) ≡ rowAt s (startOf k 4) 20 (k + 1)
   pub weight : weightIn k (fieldsOf s) ≡ fieldAt s (startOf k 5) 20
   pub ulae : ulaeIn k (fieldsOf s) ≡ rowAt s (startOf k 6) 34 (k + 1)
+  pub tail : tailIn k (fieldsOf s) ≡ fieldAt s (startOf k 7) 34
 
 -- a row that starts at the same place
 same-place : (s : List ℕ) {a b : ℕ} (w n : ℕ) → a ≡ b → rowAt s a w n ≡ rowAt s b w n
 same-place s w n e = rw e
+
+-- the value of a row of one field
+one-value : (κ : Kind) → κ .signed ≡ false → (s : List ℕ) {a b : ℕ} (w : ℕ) → a ≡ b → getD (map natAbs (map (valueOf κ) (rowAt s a w 1))) 0 0 ≡ fieldAt s b w
+one-value κ e s {a} {b} w q = rw (unsigned κ e (rowAt s a w 1), q, one-row s b w)
 
 module _ (s : List ℕ) (h : WholeRecord s) where
   pub codes : Codes s (lastYearOf s)
@@ -64,22 +70,24 @@ module _ (s : List ℕ) (h : WholeRecord s) where
         years = codes-row s h 0;
         exposures = codes-row s h 1;
         increments = codes-row s h 2 ∙ same-place s 35 (cells k) (omega arith);
-        indices = codes-row s h 3 ∙ same-place s 23 k (omega arith);
+        indices = codes-row s h 3 ∙ same-place s 23 (k + 1) (omega arith);
         reporting = codes-row s h 4 ∙ same-place s 20 (k + 1) (omega arith);
         weight = codes-row s h 5 ∙ same-place s 20 1 (omega arith);
         ulae = codes-row s h 6 ∙ same-place s 34 (k + 1) (omega arith);
+        tail = codes-row s h 7 ∙ same-place s 34 1 (omega arith);
       }
 
   pub lists : Lists s (lastYearOf s)
-  unfolding layout exposuresIn incrementsIn indicesIn reportingIn weightIn ulaeIn
+  unfolding layout exposuresIn incrementsIn indicesIn reportingIn weightIn ulaeIn tailIn
   lists =
       let k = lastYearOf s in
       let at = starts k in
       record {
         exposures = rw (fields-row s h 1) (unsigned exposure refl (rowAt s 4 20 (k + 1)));
         increments = rw (fields-row s h 2) (ap (map (valueOf increment)) (same-place s 35 (cells k) (omega arith)));
-        indices = rw (fields-row s h 3) (unsigned index refl (rowAt s _ 23 k) ∙ same-place s 23 k (omega arith));
+        indices = rw (fields-row s h 3) (unsigned index refl (rowAt s _ 23 (k + 1)) ∙ same-place s 23 (k + 1) (omega arith));
         reporting = rw (fields-row s h 4) (unsigned reporting refl (rowAt s _ 20 (k + 1)) ∙ same-place s 20 (k + 1) (omega arith));
-        weight = rw (fields-row s h 5) (ap (λ (l : List ℕ). getD l 0 0) (unsigned weight refl (rowAt s _ 20 1) ∙ same-place s 20 1 (omega arith) ∙ one-row s (startOf k 5) 20));
+        weight = rw (fields-row s h 5) (one-value weight refl s 20 (omega arith));
         ulae = rw (fields-row s h 6) (unsigned ulae refl (rowAt s _ 34 (k + 1)) ∙ same-place s 34 (k + 1) (omega arith));
+        tail = rw (fields-row s h 7) (one-value tail refl s 34 (omega arith));
       }

@@ -86,17 +86,17 @@ module _ (s : List ℕ) where
 
 module _ (s : List ℕ) (h : WholeRecord s) where
   -- question 4
-  pub in-ranges : Passed s 7 → inRanges s ≡ true
+  pub in-ranges : Passed s 8 → inRanges s ≡ true
   unfolding layout rowFits
   in-ranges p =
       rw (ranges-are s h)
       (rows-pass bitsInRange (layout (lastYearOf s)) (rows s h) (λ i l. rw (codes-row s h i) at (p i l)))
 
-  pub out-of-range : (i : ℕ) → i < 7 → fits s i ≡ false → inRanges s ≡ false
+  pub out-of-range : (i : ℕ) → i < 8 → fits s i ≡ false → inRanges s ≡ false
   unfolding layout rowFits
   out-of-range i l e = rw (ranges-are s h) (row-fails bitsInRange (layout (lastYearOf s)) (rows s h) i l (rw (codes-row s h i) at e))
 
-  pub ranges-pass : inRanges s ≡ true → Passed s 7
+  pub ranges-pass : inRanges s ≡ true → Passed s 8
   unfolding layout rowFits
   ranges-pass e i l = rw (codes-row s h i) (row-passes bitsInRange (layout (lastYearOf s)) (rows s h) i l (rw (ranges-are s h) at e))
 
@@ -124,10 +124,11 @@ module _ (s : List ℕ) (h : WholeRecord s) where
 pub record RowsInside (s : List ℕ) (k : ℕ) (p : Places) : Type 0 where
   pub exposures : RowInside s 4 20 (k + 1)
   pub increments : RowInside s (p .increments) 35 (p .cells)
-  pub indices : RowInside s (p .indices) 23 k
+  pub indices : RowInside s (p .indices) 23 (k + 1)
   pub reporting : RowInside s (p .reporting) 20 (k + 1)
   pub weight : RowInside s (p .weight) 20 1
   pub ulae : RowInside s (p .ulae) 34 (k + 1)
+  pub tail : RowInside s (p .tail) 34 1
   pub few : p .cells ≤ 136
 
 pub within : {s : List ℕ} → WholeRecord s → (k : ℕ) (p : Places) → k ≡ lastYearOf s → p ≡ placesOf k → RowsInside s k p
@@ -139,10 +140,11 @@ within {s} h k p e q =
     rw (q, e) (record {
       exposures = row-within s h 4 20 (y + 1) (omega arith) (omega arith) (omega arith);
       increments = row-within s h _ 35 (cells y) (omega arith) (omega arith) (omega arith);
-      indices = row-within s h _ 23 y (omega arith) (omega arith) (omega arith);
+      indices = row-within s h _ 23 (y + 1) (omega arith) (omega arith) (omega arith);
       reporting = row-within s h _ 20 (y + 1) (omega arith) (omega arith) (omega arith);
       weight = row-within s h _ 20 1 (omega arith) (omega arith) (omega arith);
       ulae = row-within s h _ 34 (y + 1) (omega arith) (omega arith) (omega arith);
+      tail = row-within s h _ 34 1 (omega arith) (omega arith) (omega arith);
       few = few;
     })
 
@@ -150,10 +152,11 @@ within {s} h k p e q =
 pub record PlacesFound (s : List ℕ) (k : ℕ) (p : Places) : Type 0 where
   pub exposures : Tested s 1 (between 1 million) (rowAt s 4 20 (k + 1))
   pub increments : Tested s 2 (bitsInRange increment) (rowAt s (p .increments) 35 (p .cells))
-  pub indices : Tested s 3 (between 1 mostIndex) (rowAt s (p .indices) 23 k)
+  pub indices : Tested s 3 (between 1 mostIndex) (rowAt s (p .indices) 23 (k + 1))
   pub reporting : Tested s 4 (between 0 million) (rowAt s (p .reporting) 20 (k + 1))
   pub weight : Tested s 5 (between 0 million) (rowAt s (p .weight) 20 1)
   pub ulae : Tested s 6 (between 0 mostAmount) (rowAt s (p .ulae) 34 (k + 1))
+  pub tail : Tested s 7 (between 0 mostAmount) (rowAt s (p .tail) 34 1)
 
 pub places-found : {s : List ℕ} → WholeRecord s → (k : ℕ) (p : Places) → k ≡ lastYearOf s → p ≡ placesOf k → PlacesFound s k p
 unfolding layout placesOf
@@ -166,4 +169,5 @@ places-found {s} h k p e q =
       reporting = tested-plain s 4 20 0 million _ (omega arith) refl (at .reporting);
       weight = tested-plain s 5 20 0 million _ (omega arith) refl (at .weight);
       ulae = tested-plain s 6 34 0 mostAmount _ (omega arith) refl (at .ulae);
+      tail = tested-plain s 7 34 0 mostAmount _ (omega arith) refl (at .tail);
     })

@@ -12,7 +12,7 @@ use lib.ListN.{length, getD, take, length-append, length-map}
 use lib.Seq.{sets, length-sets, getD-take}
 use Rattle.rules.specs.Lists.{total, padded, every, between}
 use Rattle.rules.specs.Questions.{firstNo}
-use Rattle.rules.specs.Record.{Figures, million, layout, cells, lastYear, increment, weight, valueOf, lastYearOf, fieldsOf, figuresOf}
+use Rattle.rules.specs.Record.{Kind, Figures, million, layout, cells, lastYear, increment, weight, tail, valueOf, lastYearOf, fieldsOf, figuresOf}
 use Rattle.rules.specs.Reading.{inRanges, sharesSum, fieldQuestions}
 use Rattle.entries.specs.Leading.{passing}
 use Rattle.entries.proofs.Leading.{passing-all}
@@ -24,9 +24,10 @@ use Rattle.packing.proofs.Pack.{length-row}
 use Rattle.layout.specs.Places.{startOf, placesOf}
 use Rattle.layout.specs.declared.Places.{Places}
 use Rattle.layout.proofs.RecordSizes.{starts}
-use Rattle.reading.specs.Reading.{triangleFields, assumptionFields}
+use Rattle.reading.specs.Reading.{rowRead, triangleFields, assumptionFields}
 use Rattle.reading.proofs.RowsRead.{WholeRecord, fields-are, years-field}
 use Rattle.reading.proofs.ListsRead.{lists, values, one-row}
+use Rattle.reading.proofs.Ranges.{fits, Passed, Tested}
 
 -- questions 4 and 5
 module _ (s : List ℕ) where
@@ -46,20 +47,19 @@ module _ (s : List ℕ) where
   unfolding fieldQuestions every
   fields-yes e = (yes-said 4 (fieldQuestions s) refl e, yes-said 5 (fieldQuestions s) refl e)
 
--- a row of one field, in range and out of range
-pub one-in : (s : List ℕ) (at w most x : ℕ) → x ≡ fieldAt s at w → x ≤ most
-    → (every (between 0 most) (rowAt s at w 1) ≡ true) × (getD (passing (between 0 most) (rowAt s at w 1)) 0 0 ≡ x)
-unfolding every passing
-one-in s at w most x e h =
-    let yes : between 0 most x ≡ true = rw (le-leb 0 x (omega arith), le-leb x most h) in
-    rw (one-row s at w, ← e, yes) (refl, refl)
+-- a row of one field x after rows in range: x is read where it is in range, and nothing where it is not
+module _ {s : List ℕ} {i most x : ℕ} (at w : ℕ) (t : Tested s i (between 0 most) (rowAt s at w 1)) (p : Passed s i) (e : x ≡ fieldAt s at w) where
+  pub one-in : x ≤ most → (fits s i ≡ true) × (x ≡ getD (rowRead s i) 0 0)
+  unfolding every passing
+  one-in h =
+      let yes : between 0 most x ≡ true = rw (le-leb 0 x (omega arith), le-leb x most h) in
+      rw (t .same, t .read p, one-row s at w, ← e, yes) (refl, refl)
 
-pub one-out : (s : List ℕ) (at w most x : ℕ) → x ≡ fieldAt s at w → most < x
-    → (every (between 0 most) (rowAt s at w 1) ≡ false) × (getD (passing (between 0 most) (rowAt s at w 1)) 0 0 ≡ 0)
-unfolding every passing
-one-out s at w most x e h =
-    let no : between 0 most x ≡ false = rw (le-leb 0 x (omega arith), lt-leb x most h) in
-    rw (one-row s at w, ← e, no) (refl, refl)
+  pub one-out : most < x → (fits s i ≡ false) × (0 ≡ getD (rowRead s i) 0 0)
+  unfolding every passing
+  one-out h =
+      let no : between 0 most x ≡ false = rw (le-leb 0 x (omega arith), lt-leb x most h) in
+      rw (t .same, t .read p, one-row s at w, ← e, no) (refl, refl)
 
 -- a row that is in range, stored first in an array, and its numbers there
 pub row-stored : (s : List ℕ) (at w n least most : ℕ) (l l′ : List ℕ) → l′ ≡ sets l 0 (passing (between least most) (rowAt s at w n)) → n ≤ length l′
@@ -79,7 +79,7 @@ sum-at {s} h k p e q = rw (q, e, lists s h .reporting)
 
 -- the fields of a set of figures in the record's order
 abbrev pub listOf : Figures → List ℤ
-listOf f = triangleFields (f .k) (f .exposures) (f .increments) ++ assumptionFields (f .k) (f .indices) (f .reporting) (f .weight) (f .ulae)
+listOf f = triangleFields (f .k) (f .exposures) (f .increments) ++ assumptionFields (f .k) (f .indices) (f .reporting) (f .weight) (f .ulae) (f .tail)
 
 -- a list read is found again
 row-list : (s : List ℕ) (w l m n : ℕ) {a b : ℕ} → a ≡ b
@@ -87,12 +87,13 @@ row-list : (s : List ℕ) (w l m n : ℕ) {a b : ℕ} → a ≡ b
 row-list s w l m n {a} {b} e =
     rw (e, take-padded 16 n 0 (rowAt s b w n) (length-row s b w n)) (sym (values (record { signed = false; width = w; least = l; most = m }) refl (rowAt s b w n)))
 
+-- and so is a field that is a row of its own
+field-list : (s : List ℕ) (κ : Kind) → κ .signed ≡ false → (w : ℕ) {a b : ℕ} → a ≡ b → pos (fieldAt s a w) ∷ [] ≡ map (valueOf κ) (rowAt s b w 1)
+field-list s κ u w {a} {b} e = rw (e, values κ u (rowAt s b w 1), one-row s b w)
+
 module _ (s : List ℕ) (h : WholeRecord s) where
   years-list : map (valueOf lastYear) (rowAt s 0 4 1) ≡ pos (lastYearOf s) ∷ []
   years-list = rw (values lastYear refl (rowAt s 0 4 1), one-row s 0 4, years-field s h)
-
-  weight-list : {b : ℕ} → startOf (lastYearOf s) 5 ≡ b → pos (fieldAt s (startOf (lastYearOf s) 5) 20) ∷ [] ≡ map (valueOf weight) (rowAt s b 20 1)
-  weight-list {b} e = rw (e, values weight refl (rowAt s b 20 1), one-row s b 20)
 
   cells-list : {b : ℕ} → startOf (lastYearOf s) 2 ≡ b
       → take (cells (lastYearOf s)) (padded 136 (pos 0) (map (valueOf increment) (rowAt s (startOf (lastYearOf s) 2) 35 (cells (lastYearOf s)))))
@@ -109,13 +110,14 @@ module _ (s : List ℕ) (h : WholeRecord s) where
       let at = starts k in
       let l = lists s h in
       simp append-assoc
-      (rw (l .exposures, l .increments, l .indices, l .reporting, l .weight, l .ulae, fields-are s h, years-list)
+      (rw (l .exposures, l .increments, l .indices, l .reporting, l .weight, l .ulae, l .tail, fields-are s h, years-list)
       (ap (λ (xs : List ℤ). pos k ∷ xs)
       (ap₂ _++_ (row-list s 20 1 1000000 (k + 1) refl)
       (ap₂ _++_ (cells-list (omega arith))
-      (ap₂ _++_ (row-list s 23 1 5000000 k (omega arith))
+      (ap₂ _++_ (row-list s 23 1 5000000 (k + 1) (omega arith))
       (ap₂ _++_ (row-list s 20 0 1000000 (k + 1) (omega arith))
-      (ap₂ _++_ (weight-list (omega arith)) (row-list s 34 0 10000000000 (k + 1) (omega arith) ∙ sym (append-nil _)))))))))
+      (ap₂ _++_ (field-list s weight refl 20 (omega arith))
+      (ap₂ _++_ (row-list s 34 0 10000000000 (k + 1) (omega arith)) (field-list s tail refl 34 (omega arith) ∙ sym (append-nil _))))))))))
 
   figures-years : figuresOf s .k ≡ lastYearOf s
   unfolding figuresOf
@@ -134,13 +136,13 @@ module _ (s : List ℕ) (h : WholeRecord s) where
       (omega (arith, length-append (map pos n) c, length-map n pos, length-row s 4 20 (k + 1), cs))
 
   -- the fields put into a list from arrays that hold the figures
-  pub fields-put : (list : List ℤ) {k at w : ℕ} {n e b u : List ℕ} {p : List ℤ} → k ≡ lastYearOf s → n ≡ figuresOf s .exposures → p ≡ figuresOf s .increments
-      → e ≡ figuresOf s .indices → b ≡ figuresOf s .reporting → w ≡ figuresOf s .weight → u ≡ figuresOf s .ulae → at ≡ k + 2 + cells k
-      → sets (sets list 0 (triangleFields k n p)) at (assumptionFields k e b w u) ≡ sets list 0 (fieldsOf s)
-  fields-put list {k} {at} years a2 a3 a4 a5 a6 a7 place =
+  pub fields-put : (list : List ℤ) {k at w a : ℕ} {n e b u : List ℕ} {p : List ℤ} → k ≡ lastYearOf s → n ≡ figuresOf s .exposures → p ≡ figuresOf s .increments
+      → e ≡ figuresOf s .indices → b ≡ figuresOf s .reporting → w ≡ figuresOf s .weight → u ≡ figuresOf s .ulae → a ≡ figuresOf s .tail → at ≡ k + 2 + cells k
+      → sets (sets list 0 (triangleFields k n p)) at (assumptionFields k e b w u a) ≡ sets list 0 (fieldsOf s)
+  fields-put list {k} {at} years a2 a3 a4 a5 a6 a7 a8 place =
       let f = figuresOf s in
       let a1 = years ∙ sym figures-years in
       let long : at ≡ 0 + length (triangleFields (f .k) (f .exposures) (f .increments)) = place ∙ ap (λ (z : ℕ). z + 2 + cells z) a1 ∙ sym triangle-long ∙ sym (zero-add _) in
-      rw (a1, a2, a3, a4, a5, a6, a7)
-      (sets-append (triangleFields (f .k) (f .exposures) (f .increments)) (assumptionFields (f .k) (f .indices) (f .reporting) (f .weight) (f .ulae)) list 0 at long
+      rw (a1, a2, a3, a4, a5, a6, a7, a8)
+      (sets-append (triangleFields (f .k) (f .exposures) (f .increments)) (assumptionFields (f .k) (f .indices) (f .reporting) (f .weight) (f .ulae) (f .tail)) list 0 at long
       ∙ ap (sets list 0) list-same)

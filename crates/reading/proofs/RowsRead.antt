@@ -89,7 +89,7 @@ module _ (s : List ℕ) (h : WholeRecord s) where
   unfolding lastYearOf
   years-field =
       let room = bytes-least (lastYearOf s) (h .some) in
-      let long : 38 ≤ length s = omega (arith, h .long) in
+      let long : 45 ≤ length s = omega (arith, h .long) in
       let byte = field-byte s 0 (h .small) (omega arith) in
       let parts = field-append s 0 4 4 (omega arith) in
       omega (arith, byte, parts, field-lt s 4 4)

@@ -33,13 +33,14 @@ rowRead s i = getD (rowsRead (layout (lastYearOf s)) (codesOf s)) i []
 abbrev pub Signable : List ℕ → Type 0
 Signable xs = (i : ℕ) → getD xs i 0 < 2 ^ 63
 
--- the fields in the record's order from their arrays: k, the exposures n and the increments p; and the indices e, the reporting shares b, the weight w
--- and the ULAE totals u
+-- the fields in the record's order from their arrays: k, the exposures n and the increments p; and the indices e, the reporting shares b, the weight w,
+-- the ULAE totals u and the amount still to be paid a
 unfoldable pub triangleFields : ℕ → List ℕ → List ℤ → List ℤ
 triangleFields k n p = pos k ∷ (map pos (take (k + 1) n) ++ take (cells k) p)
 
-unfoldable pub assumptionFields : ℕ → List ℕ → List ℕ → ℕ → List ℕ → List ℤ
-assumptionFields k e b w u = map pos (take k e) ++ (map pos (take (k + 1) b) ++ (pos w ∷ map pos (take (k + 1) u)))
+unfoldable pub assumptionFields : ℕ → List ℕ → List ℕ → ℕ → List ℕ → ℕ → List ℤ
+assumptionFields k e b w u a =
+    map pos (take (k + 1) e) ++ (map pos (take (k + 1) b) ++ (pos w ∷ (map pos (take (k + 1) u) ++ (pos a ∷ []))))
 
 -- entries past the lists' ends are bounded too, since they are zero
 pub record Sound (f : Figures) : Type 0 where
@@ -49,7 +50,9 @@ pub record Sound (f : Figures) : Type 0 where
   pub exposures-most : (i : ℕ) → getD (f .exposures) i 0 ≤ million
   pub increments : (i : ℕ) → natAbs (getD (f .increments) i (pos 0)) ≤ mostAmount
   pub indices : (t : ℕ) → getD (f .indices) t 0 ≤ mostIndex
+  pub firstIndex : 1 ≤ getD (f .indices) 0 0
   pub reporting : (j : ℕ) → getD (f .reporting) j 0 ≤ million
   pub reporting-sum : total (take (f .k + 1) (f .reporting)) ≡ million
   pub weight : f .weight ≤ million
   pub ulae : (t : ℕ) → getD (f .ulae) t 0 ≤ mostAmount
+  pub tail : f .tail ≤ mostAmount

@@ -28,10 +28,11 @@ ghost use Rattle.entries.specs.Leading.{passing};
 ghost use Rattle.packing.specs.Field.{rowAt};
 ghost use Rattle.reading.specs.Reading.{RowInside, rowRead, Signable, triangleFields, assumptionFields};
 
-// The answer of questions 4 and 5, and the weight.
+// The answer of questions 4 and 5, the weight and the amount still to be paid.
 pub struct Opened {
     pub answer: u64,
     pub weight: u64,
+    pub tail: u64,
 }
 
 fn wide(x: u8) -> usize
@@ -169,7 +170,8 @@ pub fn opens(s: &[u8]) -> u64
     ACCEPTED
 }
 
-// Questions 4 and 5 of a record that has passed 1 and 2, and its weight. The other fields go into their lists, as far as question 4 says yes.
+// Questions 4 and 5 of a record that has passed 1 and 2, its weight and the amount still to be paid. The other fields go into their lists, as far as
+// question 4 says yes.
 pub fn read(
     s: &[u8],
     exposures: &mut [u64; 16],
@@ -185,7 +187,8 @@ pub fn read(
         × ((now (increments .exit) ≡ sets (now (increments .entry)) 0 (map (valueOf increment) (rowRead (now (s .entry)) 2)))
         × ((now (indices .exit) ≡ sets (now (indices .entry)) 0 (rowRead (now (s .entry)) 3))
         × ((now (reporting .exit) ≡ sets (now (reporting .entry)) 0 (rowRead (now (s .entry)) 4))
-        × (now (ulae .exit) ≡ sets (now (ulae .entry)) 0 (rowRead (now (s .entry)) 6))))))) ⌝ }
+        × ((now (ulae .exit) ≡ sets (now (ulae .entry)) 0 (rowRead (now (s .entry)) 6))
+        × (r .tail ≡ getD (rowRead (now (s .entry)) 7) 0 0))))))) ⌝ }
 {
     let k = last_year_of(s);
     let at = places_of(k);
@@ -194,24 +197,28 @@ pub fn read(
         return Opened {
             answer: 4,
             weight: 0,
+            tail: 0,
         };
     }
     if !fill_increments(s, at.increments, at.cells, increments) {
         return Opened {
             answer: 4,
             weight: 0,
+            tail: 0,
         };
     }
-    if !fill_row(s, at.indices, 23, k, 1, MOST_INDEX, indices) {
+    if !fill_row(s, at.indices, 23, n, 1, MOST_INDEX, indices) {
         return Opened {
             answer: 4,
             weight: 0,
+            tail: 0,
         };
     }
     if !fill_row(s, at.reporting, 20, n, 0, MILLION, reporting) {
         return Opened {
             answer: 4,
             weight: 0,
+            tail: 0,
         };
     }
     let weight = field(s, at.weight, 20);
@@ -219,17 +226,35 @@ pub fn read(
         return Opened {
             answer: 4,
             weight: 0,
+            tail: 0,
         };
     }
     if !fill_row(s, at.ulae, 34, n, 0, MOST_AMOUNT, ulae) {
-        return Opened { answer: 4, weight };
+        return Opened {
+            answer: 4,
+            weight,
+            tail: 0,
+        };
+    }
+    let tail = field(s, at.tail, 34);
+    if tail > MOST_AMOUNT {
+        return Opened {
+            answer: 4,
+            weight,
+            tail: 0,
+        };
     }
     if sum_of(reporting, n) != MILLION {
-        return Opened { answer: 5, weight };
+        return Opened {
+            answer: 5,
+            weight,
+            tail,
+        };
     }
     Opened {
         answer: ACCEPTED,
         weight,
+        tail,
     }
 }
 
@@ -244,23 +269,26 @@ fn put_triangle(k: usize, exposures: &[u64; 16], increments: &[i64; 136], list: 
     put_integers(list, b, increments, cells_of(k))
 }
 
-// The indices, the reporting shares, the weight and the ULAE totals go into the list from place `at` on.
+// The indices, the reporting shares, the weight, the ULAE totals and the amount still to be paid go into the list from place `at` on.
 fn put_assumptions(
     k: usize,
     indices: &[u64; 16],
     reporting: &[u64; 16],
     weight: u64,
     ulae: &[u64; 16],
+    tail: u64,
     list: &mut [i64],
     at: usize,
 )
-    requires { ⌜ (k < 16) × (Signable (now indices) × (Signable (now reporting) × ((weight < 2 ^ 63) × (Signable (now ulae) × (at + 3 * k + 3 ≤ length (now list)))))) ⌝ }
-    ensures { λ _. ⌜ now (list .exit) ≡ sets (now (list .entry)) at (assumptionFields k (now (indices .entry)) (now (reporting .entry)) weight (now (ulae .entry))) ⌝ }
+    requires { ⌜ (k < 16) × (Signable (now indices) × (Signable (now reporting) × ((weight < 2 ^ 63) × (Signable (now ulae) × ((tail < 2 ^ 63) × (at + 3 * k + 5 ≤ length (now list))))))) ⌝ }
+    ensures { λ _. ⌜ now (list .exit) ≡ sets (now (list .entry)) at (assumptionFields k (now (indices .entry)) (now (reporting .entry)) weight (now (ulae .entry)) tail) ⌝ }
 {
-    let a = put_naturals(list, at, indices, k);
-    let b = put_naturals(list, a, reporting, k + 1);
+    let n = k + 1;
+    let a = put_naturals(list, at, indices, n);
+    let b = put_naturals(list, a, reporting, n);
     let c = put_natural(list, b, weight);
-    put_naturals(list, c, ulae, k + 1);
+    let d = put_naturals(list, c, ulae, n);
+    put_natural(list, d, tail);
 }
 
 // Questions 4 and 5 of a record that has passed 1, 2 and 3, and its fields in their order where both say yes.
@@ -287,7 +315,16 @@ fn read_into(packed: &[u8], list: &mut [i64]) -> u64
     }
     let k = last_year_of(packed);
     let at = put_triangle(k, &exposures, &increments, list);
-    put_assumptions(k, &indices, &reporting, opened.weight, &ulae, list, at);
+    put_assumptions(
+        k,
+        &indices,
+        &reporting,
+        opened.weight,
+        &ulae,
+        opened.tail,
+        list,
+        at,
+    );
     ACCEPTED
 }
 

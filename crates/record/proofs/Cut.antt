@@ -4,12 +4,12 @@ use native.Mathlib.Nat.{suc-ne-zero}
 use native.Mathlib.Omega.{arith}
 use mathlib.Core.Path.{_≡_, refl, sym, ap, ap₂, _∙_}
 use mathlib.Core.Bool.{Bool, true, false, cond}
-use mathlib.Core.List.{List, [], _∷_, _++_, map, append-nil}
+use mathlib.Core.List.{List, [], _∷_, _++_, map}
 use lib.IntN.{ℤ, pos, natAbs}
 use lib.ListN.{length, getD, take, drop, length-append, length-drop, length-map, length-replicate, take-append-drop, List·getD-append}
 use lib.Seq.{sets, length-take-le, getD-take, take-append-le, drop-append-le, sets-eq}
 use Rattle.rules.specs.Lists.{total, every}
-use Rattle.rules.specs.Record.{Figures, figures, Kind, million, layout, kindsOf, section, fieldCount, byteCount, inRange, exposuresIn, incrementsIn, indicesIn, reportingIn, weightIn, ulaeIn}
+use Rattle.rules.specs.Record.{Figures, figures, Kind, million, layout, kindsOf, section, fieldCount, byteCount, inRange, exposuresIn, incrementsIn, indicesIn, reportingIn, weightIn, ulaeIn, tailIn}
 use Rattle.rules.specs.Writing.{givenAt, givenIn, givenFields}
 use Rattle.laws.proofs.Lists.{both-left, both-right, sizes-again}
 use Rattle.layout.proofs.LayoutSections.{join, Shaped, everyRow, length-join, section-join, every-join}
@@ -18,9 +18,9 @@ use Rattle.record.proofs.RecordAnswers.{Taken}
 use Rattle.record.proofs.Field.{not-below}
 use Rattle.record.proofs.Fields.{RecordFields}
 
--- the lists and the weight among the fields vs of a record of the years 0 to k
+-- the lists, the weight and the amount still to be paid among the fields vs of a record of the years 0 to k
 abbrev pub cutBy : ℕ → List ℤ → Figures
-cutBy k vs = figures k (exposuresIn k vs) (incrementsIn k vs) (indicesIn k vs) (reportingIn k vs) (weightIn k vs) (ulaeIn k vs)
+cutBy k vs = figures k (exposuresIn k vs) (incrementsIn k vs) (indicesIn k vs) (reportingIn k vs) (weightIn k vs) (ulaeIn k vs) (tailIn k vs)
 
 -- the rows of a list with an entry for each field of a layout
 abbrev pub sectionsOf : {A : Type 0} → List (ℕ × Kind) → List A → List (List A)
@@ -105,12 +105,13 @@ givenRows g =
     ∷ map pos (g .reporting)
     ∷ (pos (g .weight) ∷ [])
     ∷ map pos (g .ulae)
+    ∷ (pos (g .tail) ∷ [])
     ∷ []
 
 -- one row after another they are the fields
 pub join-given : (g : Figures) → join (givenRows g) ≡ givenFields g
 unfolding givenFields
-join-given g = rw (append-nil (map pos (g .ulae)))
+join-given g = refl
 
 -- a list of one entry
 single : {A : Type 0} (xs : List A) (d : A) → length xs ≡ 1 → getD xs 0 d ∷ [] ≡ xs
@@ -126,19 +127,22 @@ module _ (k : ℕ) (vs : List ℤ) (f : RecordFields k vs) where
 
   -- the rows of what is cut out are the rows of the fields
   cut-rows : givenRows (cutBy k vs) ≡ asGivenRows (layout k) (sectionsOf (layout k) vs)
-  unfolding layout section exposuresIn incrementsIn indicesIn reportingIn weightIn ulaeIn
+  unfolding layout section exposuresIn incrementsIn indicesIn reportingIn weightIn ulaeIn tailIn
   cut-rows =
       let row5 = section (layout k) 5 vs in
+      let row7 = section (layout k) 7 vs in
       let years : take 1 vs ≡ pos k ∷ [] = sym (single (take 1 vs) (pos 0) (cut-shaped .0)) ∙ rw (getD-take 1 vs 0 (pos 0) (omega arith), f .first) in
-      rw (years, ← single (map natAbs row5) 0 (length-map row5 natAbs ∙ cut-shaped .1 .1 .1 .1 .1 .0))
+      let weight = single (map natAbs row5) 0 (length-map row5 natAbs ∙ cut-shaped .1 .1 .1 .1 .1 .0) in
+      let tail = single (map natAbs row7) 0 (length-map row7 natAbs ∙ cut-shaped .1 .1 .1 .1 .1 .1 .1 .0) in
+      rw (years, ← weight, ← tail)
 
   -- the fields first in a list with more entries: what is found there is found among the fields
   given-first : (ys : List ℤ) → givenIn (vs ++ ys) ≡ cutBy k vs
-  unfolding givenAt fieldCount exposuresIn incrementsIn indicesIn reportingIn weightIn ulaeIn
+  unfolding givenAt fieldCount exposuresIn incrementsIn indicesIn reportingIn weightIn ulaeIn tailIn
   given-first ys =
       let first : getD (vs ++ ys) 0 (pos 0) ≡ pos k = List·getD-append vs ys (pos 0) 0 (omega (arith, f .size, fields-count k)) ∙ f .first in
       let row : (i : ℕ) → section (layout k) i (vs ++ ys) ≡ section (layout k) i vs = λ i. section-append (layout k) i vs ys (f .size) in
-      rw (first, row 1, row 2, row 3, row 4, row 5, row 6)
+      rw (first, row 1, row 2, row 3, row 4, row 5, row 6, row 7)
 
   -- and so of a list that they are stored into
   pub given-stored : (out : List ℤ) → fieldCount k ≤ length out → givenIn (sets out 0 vs) ≡ cutBy k vs
@@ -181,7 +185,7 @@ module _ (g : Figures) (m : ℕ) (t : Taken g m) where
       let indices = length-map (g .indices) pos ∙ t .indices in
       let reporting = length-map (g .reporting) pos ∙ t .reporting in
       let ulae = length-map (g .ulae) pos ∙ t .ulae in
-      (refl, (exposures, (t .increments, (indices, (reporting, (refl, (ulae, tt)))))))
+      (refl, (exposures, (t .increments, (indices, (reporting, (refl, (ulae, (refl, tt))))))))
 
   -- what a writer takes are the fields of a record
   pub given-fields : RecordFields (g .k) (givenFields g)
@@ -194,7 +198,7 @@ module _ (g : Figures) (m : ℕ) (t : Taken g m) where
 
   -- and they come back from them
   pub given-again : cutBy (g .k) (givenFields g) ≡ g
-  unfolding exposuresIn incrementsIn indicesIn reportingIn weightIn ulaeIn
+  unfolding exposuresIn incrementsIn indicesIn reportingIn weightIn ulaeIn tailIn
   given-again =
       let row = section-join (layout (g .k)) (givenRows g) given-shaped in
       rw (
@@ -205,6 +209,7 @@ module _ (g : Figures) (m : ℕ) (t : Taken g m) where
         row 4,
         row 5,
         row 6,
+        row 7,
         sizes-again (g .exposures),
         sizes-again (g .indices),
         sizes-again (g .reporting),

@@ -29,7 +29,7 @@ spread-wide (r ∷ rs) h = wide-row (r .0) (r .1) (kindsOf rs) (h .0) (spread-wi
 
 layout-wide : (k : ℕ) → AllWide (kindsOf (layout k))
 unfolding layout
-layout-wide k = spread-wide (layout k) (lit< tt, (lit< tt, (lit< tt, (lit< tt, (lit< tt, (lit< tt, (lit< tt, tt)))))))
+layout-wide k = spread-wide (layout k) (lit< tt, (lit< tt, (lit< tt, (lit< tt, (lit< tt, (lit< tt, (lit< tt, (lit< tt, tt))))))))
 
 -- the bits of values in range: they fit, the values come back from them, and they are in range
 pub record AllCoded (κs : List Kind) (vs : List ℤ) : Type 0 where

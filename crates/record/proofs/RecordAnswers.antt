@@ -69,7 +69,7 @@ pub record Taken (g : Figures) (m : ℕ) : Type 0 where
   pub size : m ≡ byteCount (g .k)
   pub exposures : length (g .exposures) ≡ g .k + 1
   pub increments : length (g .increments) ≡ cells (g .k)
-  pub indices : length (g .indices) ≡ g .k
+  pub indices : length (g .indices) ≡ g .k + 1
   pub reporting : length (g .reporting) ≡ g .k + 1
   pub ulae : length (g .ulae) ≡ g .k + 1
   pub ranges : everyField inRange (kindsOf (layout (g .k))) (givenFields g) ≡ true
@@ -86,14 +86,14 @@ writer-yes g m h =
     let l1 = both-right (eqb m (byteCount (g .k))) _ (q2 .0) in
     let l2 = both-right (eqb (length (g .exposures)) (g .k + 1)) _ l1 in
     let l3 = both-right (eqb (length (g .increments)) (cells (g .k))) _ l2 in
-    let l4 = both-right (eqb (length (g .indices)) (g .k)) _ l3 in
+    let l4 = both-right (eqb (length (g .indices)) (g .k + 1)) _ l3 in
     record {
       years = leb-true 1 (g .k) (both-left _ _ (q1 .0));
       most = leb-true (g .k) 15 (both-right (leb 1 (g .k)) _ (q1 .0));
       size = eqb-true m (byteCount (g .k)) (both-left _ _ (q2 .0));
       exposures = eqb-true (length (g .exposures)) (g .k + 1) (both-left _ _ l1);
       increments = eqb-true (length (g .increments)) (cells (g .k)) (both-left _ _ l2);
-      indices = eqb-true (length (g .indices)) (g .k) (both-left _ _ l3);
+      indices = eqb-true (length (g .indices)) (g .k + 1) (both-left _ _ l3);
       reporting = eqb-true (length (g .reporting)) (g .k + 1) (both-left _ _ l4);
       ulae = eqb-true (length (g .ulae)) (g .k + 1) (both-right (eqb (length (g .reporting)) (g .k + 1)) _ l4);
       ranges = q4 .0;
@@ -109,7 +109,7 @@ yes-writer g m t =
       eq-eqb m (byteCount (g .k)) (t .size),
       eq-eqb (length (g .exposures)) (g .k + 1) (t .exposures),
       eq-eqb (length (g .increments)) (cells (g .k)) (t .increments),
-      eq-eqb (length (g .indices)) (g .k) (t .indices),
+      eq-eqb (length (g .indices)) (g .k + 1) (t .indices),
       eq-eqb (length (g .reporting)) (g .k + 1) (t .reporting),
       eq-eqb (length (g .ulae)) (g .k + 1) (t .ulae),
       t .ranges,

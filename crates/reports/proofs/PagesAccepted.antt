@@ -12,21 +12,24 @@ use lib.ListN.{length, getD, drop, replicate, length-map, List·getD-append, Lis
 use Rattle.rules.specs.Lists.{upTo, padded}
 use Rattle.rules.specs.Record.{Figures, lastYearOf, figuresOf}
 use Rattle.rules.specs.Triangle.{futureStart}
-use Rattle.rules.specs.Completion.{mostUltimate}
+use Rattle.rules.specs.Completion.{mostUltimate, ultimatesPass}
 use Rattle.rules.specs.Ladder.{completedRow, completedAll, completedPass}
-use Rattle.rules.specs.Results.{completedSection, sectionStart, mostEntries, separationSections, completionSections, reserveSections, ladderSections, paidIn, developmentIn, sections, resultsOf}
+use Rattle.rules.specs.Results.{completedSection, sectionStart, mostEntries, separationSections, completionSections, reserveSections, ladderSections, tailSections, paidIn, provisionsIn, developmentIn, sections, resultsOf}
+use Rattle.rules.specs.Demand.{entryOf, printed}
 use Rattle.rules.specs.Engine.{runAnswer}
 use Rattle.laws.proofs.TriangleRows.{cells-most}
 use Rattle.laws.proofs.Joined.{future-length, future-cells}
 use Rattle.triangle.proofs.Passed.{paid-most}
 use Rattle.results.proofs.SectionPlaces.{section-entry, section-inside, length-completed}
-use Rattle.results.proofs.Limits.{most-list, completed-most}
+use Rattle.results.proofs.Printed.{tail-entry}
+use Rattle.results.proofs.Limits.{most-list, tail-most, completed-most}
 use Rattle.listing.specs.Starts.{Addable}
 use Rattle.listing.proofs.Known.{known, start-least}
+use Rattle.amounts_table.specs.Amounts.{TailsAddable}
 use Rattle.page.specs.Page.{ladderUltimate, pageOf}
 use Rattle.web_page.specs.Web.{webPageOf}
 use Rattle.outcomes.proofs.Passed.{accepted, cumulatives}
-use Rattle.outcomes.proofs.Accepted.{completed, filled}
+use Rattle.outcomes.proofs.Accepted.{ultimates, completed, filled}
 use Rattle.refusals.specs.Refusal.{refusalOf}
 use Rattle.outcomes.specs.Outcome.{filledBy}
 use Rattle.reports.specs.Report.{paidBy, webRefusal, reportOf, htmlReportOf, reportIn}
@@ -54,7 +57,7 @@ module _ (f : Figures) (rest : List ℤ) (q : completedPass (completedAll (f .k)
 
   pub completed-small : (j : ℕ) → j < futureStart (f .k + 1)
       → natAbs (getD (resultsOf f ++ rest) (sectionStart (f .k) completedSection + j) (pos 0)) ≤ mostUltimate
-  unfolding sections separationSections completionSections reserveSections ladderSections
+  unfolding sections separationSections completionSections reserveSections ladderSections tailSections
   completed-small j h =
       let inside : j < length (map pos all) = rw (length-map all pos) (omega (arith, all-length)) in
       let e =
@@ -62,6 +65,12 @@ module _ (f : Figures) (rest : List ℤ) (q : completedPass (completedAll (f .k)
       ∙ section-entry f completedSection j inside
       ∙ List·getD-map pos all j 0 in
       rw e (omega (arith, completed-most all q j))
+
+-- the tail payments in a list that begins with the results
+tails-in : (f : Figures) (rest : List ℤ) → ultimatesPass (f .k) (paidIn f) (provisionsIn f) ≡ true → TailsAddable (f .k) (resultsOf f ++ rest)
+unfolding printed entryOf
+tails-in f rest q i h =
+    rw (tail-entry f rest i (omega arith)) (tail-most f q i (omega arith))
 
 -- of an accepted run
 module _ (s : List ℕ) (ok : runAnswer s mostEntries ≡ 0) where
@@ -82,6 +91,10 @@ module _ (s : List ℕ) (ok : runAnswer s mostEntries ≡ 0) where
 
   ladder-small : (paid : List ℕ) → Addable paid → Addable (padded 16 0 (upTo (ladderUltimate (figuresOf s .k) (filledBy s) paid) (figuresOf s .k + 1)))
   ladder-small paid small = most-list mostUltimate 16 (figuresOf s .k + 1) (ladderUltimate (figuresOf s .k) (filledBy s) paid) (ladder-at paid small)
+
+  -- and so are the tail payments
+  pub tails-fit : (k : ℕ) (list : List ℤ) → k ≡ figuresOf s .k → list ≡ filledBy s → TailsAddable k list
+  tails-fit k list e g = rw (g, e, filled s ok) (tails-in (figuresOf s) _ (ultimates s ok))
 
   pub ladder-fits : (k : ℕ) (list : List ℤ) (paid ladder : List ℕ) → k ≡ figuresOf s .k → list ≡ filledBy s → Addable paid
       → ladder ≡ padded 16 0 (upTo (ladderUltimate k list paid) (k + 1)) → Addable ladder

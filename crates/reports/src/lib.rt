@@ -21,6 +21,7 @@ ghost use Rattle.rules.specs.Engine.{runAnswer};
 ghost use Rattle.composing.specs.Text.{Put};
 ghost use Rattle.refusals.specs.Refusal.{refusalOf};
 ghost use Rattle.listing.specs.Starts.{Addable};
+ghost use Rattle.amounts_table.specs.Amounts.{TailsAddable};
 ghost use Rattle.page.specs.Page.{ladderUltimate, pageOf};
 ghost use Rattle.web_page.specs.Web.{webPageOf};
 ghost use Rattle.outcomes.specs.Outcome.{filledBy};
@@ -60,7 +61,7 @@ fn put_form(
     k: usize,
     html: bool,
 ) -> usize
-    requires { ⌜ (k < 16) × (Addable (now paid) × Addable (now ladder)) ⌝ }
+    requires { ⌜ (k < 16) × (TailsAddable k (now list) × (Addable (now paid) × Addable (now ladder))) ⌝ }
     ensures { λ r. ⌜ Put (now (out .entry)) (now (out .exit)) 0 r
         (cond html (webPageOf k (now (list .entry)) (now (paid .entry)) (now (ladder .entry)))
         (pageOf k (now (list .entry)) (now (paid .entry)) (now (ladder .entry)))) ⌝ }

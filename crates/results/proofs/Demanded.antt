@@ -10,19 +10,20 @@ use Rattle.rules.specs.Record.{Figures}
 use Rattle.rules.specs.Triangle.{ZeroOutside, columnTotal, diagonalTotal, paidTo}
 use Rattle.rules.specs.Separation.{shareOf, levelOf, factorsOf, totalsPass, restsPass, runningPass}
 use Rattle.rules.specs.Exact.{Solves, NearExact, fromTo}
+use Rattle.rules.specs.Tail.{tailPayment, tailPayments}
 use Rattle.rules.specs.Completion.{futureLevel, futureLevels, provision, provisions}
 use Rattle.rules.specs.Expense.{paidTotal, ulaeTotal, ratioPass}
-use Rattle.rules.specs.Results.{shareSection, levelSection, squareOf, latestOf, factorsIn, paidIn, levelsIn, provisionsIn, ratioIn, resultsOf}
+use Rattle.rules.specs.Results.{shareSection, levelSection, squareOf, latestOf, factorsIn, firstTailAverageOf, paidIn, levelsIn, tailsIn, provisionsIn, ratioIn, resultsOf}
 use Rattle.rules.specs.Demand.{printed, printedSquare, Carried, ThirdDemand}
 use Rattle.laws.proofs.Totals.{total-same}
 use Rattle.laws.proofs.Padded.{filled-at}
 use Rattle.totals.proofs.TotalsMost.{diagonal-most}
 use Rattle.accuracy.proofs.Near.{near-exact, share-most}
 use Rattle.totals.proofs.Square.{zero-outside}
-use Rattle.allowance.proofs.Carried.{Basis, payment-near, provision-near, provisions-near, reserve-near, reserves-near}
+use Rattle.allowance.proofs.Carried.{Basis, payment-near, tail-near, provision-near, provisions-near, reserve-near, reserves-near}
 use Rattle.allowance.proofs.Rates.{Rates, ratio-most, reported-most}
 use Rattle.reading.specs.Reading.{Sound}
-use Rattle.results.proofs.Printed.{share-entry, level-entry, provision-entry, provisions-entry, reserve-entry, reserves-entry, ratio-entry, payment-entry, square-entry, nonnegative-entry}
+use Rattle.results.proofs.Printed.{share-entry, level-entry, tail-entry, provision-entry, provisions-entry, reserve-entry, reserves-entry, ratio-entry, payment-entry, square-entry, nonnegative-entry}
 
 -- the same shares and levels up to year k are as near
 near-same : (k : ℕ) (v d : ℕ → ℤ) (r l r′ l′ : ℕ → ℕ) → ((j : ℕ) → j ≤ k → r′ j ≡ r j) → ((j : ℕ) → j ≤ k → l′ j ≡ l j) → NearExact k v d r l → NearExact k v d r′ l′
@@ -59,9 +60,13 @@ module _ (f : Figures) where
   unfolding paidIn
   paid-at i h = filled-at 16 0 (paidTo (f .k) (f .increments)) (f .k + 1) i 0 (omega arith)
 
-  pub provision-at : (i : ℕ) → i ≤ f .k → getD (provisionsIn f) i 0 ≡ provision (f .k) (f .exposures) (factorsIn f .shares) (levelsIn f) i
+  pub tail-at : (i : ℕ) → i ≤ f .k → getD (tailsIn f) i 0 ≡ tailPayment (f .exposures) (firstTailAverageOf f) (f .indices) i
+  unfolding tailsIn tailPayments
+  tail-at i h = filled-at 16 0 (tailPayment (f .exposures) (firstTailAverageOf f) (f .indices)) (f .k + 1) i 0 (omega arith)
+
+  pub provision-at : (i : ℕ) → i ≤ f .k → getD (provisionsIn f) i 0 ≡ provision (f .k) (f .exposures) (factorsIn f .shares) (levelsIn f) (tailsIn f) i
   unfolding provisionsIn provisions
-  provision-at i h = filled-at 16 0 (provision (f .k) (f .exposures) (factorsIn f .shares) (levelsIn f)) (f .k + 1) i 0 (omega arith)
+  provision-at i h = filled-at 16 0 (provision (f .k) (f .exposures) (factorsIn f .shares) (levelsIn f) (tailsIn f)) (f .k + 1) i 0 (omega arith)
 
 module _ (f : Figures) (sound : Sound f) (yes : Answered f) where
   outside : ZeroOutside (squareOf f) (f .k)
@@ -72,12 +77,14 @@ module _ (f : Figures) (sound : Sound f) (yes : Answered f) where
   exact = near-exact (squareOf f) (f .k) outside (yes .totals) (yes .rests) (yes .running)
 
   basis : (D E : ℕ) (x y : ℕ → ℤ) → Solves (f .k) D E (columnTotal (squareOf f)) (diagonalTotal (squareOf f)) x y
-      → Basis f (latestOf f) (factorsIn f .shares) (levelsIn f) D x
+      → Basis f (latestOf f) (factorsIn f .shares) (levelsIn f) (tailsIn f) D x
   unfolding latestOf
   basis D E x y s = record {
     latest = diagonal-most (squareOf f) (f .k) (sound .few) outside (yes .totals) (f .k) (omega arith);
     indices = λ t h. sound .indices t;
     levels = level-at f;
+    first = sound .firstIndex;
+    tails = tail-at f;
     share-most = λ j h. rw (share-at f j h) (share-most (squareOf f) (f .k) j);
     share-near = λ j h. rw (share-at f j h) (exact .share-near D E x y s j h);
   }
@@ -101,20 +108,23 @@ module _ (f : Figures) (sound : Sound f) (yes : Answered f) where
         let d = latestOf f in
         let r = factorsIn f .shares in
         let l = levelsIn f in
+        let z = tailsIn f in
         let c = paidIn f in
         let q = provisionsIn f in
         record {
-          payments = λ i j hi hj h. rw (payment-entry f rest i j hi hj h, square) (payment-near f d r l D x b i j hi hj h);
-          provisions = λ i h. rw (provision-entry f rest i h, square) (provision-near f d r l D x b i h);
-          provision-total = rw (provisions-entry f rest, square) (provisions-near f d r l D x b);
-          reserves = λ i h. rw (reserve-entry f rest i h, square, ratio-entry f rest) (reserve-near f d r l D x b c q (paid-at f) (provision-at f) (ratioIn f) rates i h);
-          reserve-total = rw (reserves-entry f rest, square, ratio-entry f rest) (reserves-near f d r l D x b c q (paid-at f) (provision-at f) (ratioIn f) rates);
+          payments = λ i j hi hj h. rw (payment-entry f rest i j hi hj h, square) (payment-near f d r l z D x b i j hi hj h);
+          tails = λ i h. rw (tail-entry f rest i h) (tail-near f d r l z D x b i h);
+          provisions = λ i h. rw (provision-entry f rest i h, square) (provision-near f d r l z D x b i h);
+          provision-total = rw (provisions-entry f rest, square) (provisions-near f d r l z D x b);
+          reserves = λ i h. rw (reserve-entry f rest i h, square, ratio-entry f rest) (reserve-near f d r l z D x b c q (paid-at f) (provision-at f) (ratioIn f) rates i h);
+          reserve-total = rw (reserves-entry f rest, square, ratio-entry f rest) (reserves-near f d r l z D x b c q (paid-at f) (provision-at f) (ratioIn f) rates);
         }
 
     -- the whole third demand
     pub third-demand : ThirdDemand f (resultsOf f ++ rest)
     third-demand = record {
       nonnegative = λ i a b. nonnegative-entry f rest i a b;
+      first-index = sound .firstIndex;
       near =
           rw square
           (near-same (f .k) (columnTotal (squareOf f)) (diagonalTotal (squareOf f)) (shareOf (squareOf f) (f .k)) (levelOf (squareOf f) (f .k))

@@ -13,15 +13,16 @@ use Rattle.rules.specs.Lists.{upTo, padded, joined, every}
 use Rattle.rules.specs.Record.{Figures, mostIndex}
 use Rattle.rules.specs.Triangle.{mostCumulative}
 use Rattle.rules.specs.Separation.{billion, shareOf, levelOf, levelsPass, factorsOf}
+use Rattle.rules.specs.Tail.{tailPayment, tailPayments}
 use Rattle.rules.specs.Completion.{futureLevel, futureLevels, payment, paymentRow, payments, provision, provisions, ultimate, mostUltimate, ultimatesPass}
 use Rattle.rules.specs.Ladder.{developed, base, developmentFactor, developmentFactors, mostFactor, factorPasses, factorsPass, completedPass}
-use Rattle.rules.specs.Results.{squareOf, latestOf, factorsIn, paidIn, levelsIn, provisionsIn, developmentIn}
+use Rattle.rules.specs.Results.{squareOf, latestOf, factorsIn, paidIn, levelsIn, firstTailAverageOf, tailsIn, provisionsIn, developmentIn}
 use Rattle.laws.proofs.Lists.{every-upTo, every-at, both-right}
 use Rattle.laws.proofs.Totals.{total-at}
 use Rattle.laws.proofs.Joined.{upTo-all, joined-all, padded-all}
 use Rattle.accuracy.proofs.Near.{share-most}
 use Rattle.listing.specs.Starts.{Addable}
-use Rattle.results.proofs.Demanded.{provision-at}
+use Rattle.results.proofs.Demanded.{tail-at, provision-at}
 
 -- at most a limit
 abbrev Most : ℕ → ℕ → Type 0
@@ -70,7 +71,7 @@ module _ (f : Figures) where
     ultimates-most i h =
         leb-true (ultimate (paidIn f) (provisionsIn f) i) mostUltimate (every-upTo (λ i. leb (ultimate (paidIn f) (provisionsIn f) i) mostUltimate) (λ i. i) (k + 1) i q11 (omega arith))
 
-    provision-most : (i : ℕ) → i ≤ f .k → provision (f .k) (f .exposures) (factorsIn f .shares) (levelsIn f) i ≤ mostUltimate
+    provision-most : (i : ℕ) → i ≤ f .k → provision (f .k) (f .exposures) (factorsIn f .shares) (levelsIn f) (tailsIn f) i ≤ mostUltimate
     unfolding ultimate
     provision-most i h = let u = ultimates-most i h in omega (arith, provision-at f i h)
 
@@ -78,7 +79,7 @@ module _ (f : Figures) where
     unfolding provision paymentRow
     payment-most i m h =
         let y : ℕ → ℕ = λ m. payment k (f .exposures) r (levelsIn f) i (k + 1 - i + m) in
-        upTo-all (Most mostUltimate) 0 zero-le y i (λ m l. le-trans (total-at y i m l) (provision-most i h)) m
+        upTo-all (Most mostUltimate) 0 zero-le y i (λ m l. let p = provision-most i h in omega (arith, total-at y i m l)) m
 
     pub addable-payments : Addable (padded 120 0 (payments (f .k) (f .exposures) (factorsIn f .shares) (levelsIn f)))
     unfolding payments
@@ -87,9 +88,17 @@ module _ (f : Figures) where
         padded-all (Most mostUltimate) 0 zero-le 120 0 zero-le (joined (upTo row (k + 1)))
         (joined-all (Most mostUltimate) 0 zero-le row (k + 1) (λ i j h. payment-most i j (omega arith)))
 
+    pub tail-most : (i : ℕ) → i ≤ f .k → tailPayment (f .exposures) (firstTailAverageOf f) (f .indices) i ≤ mostUltimate
+    unfolding provision
+    tail-most i h = let p = provision-most i h in omega (arith, tail-at f i h)
+
+    pub addable-tails : Addable (tailsIn f)
+    unfolding tailsIn tailPayments
+    addable-tails = most-list mostUltimate 16 (k + 1) (tailPayment (f .exposures) (firstTailAverageOf f) (f .indices)) (λ i h. tail-most i (omega arith))
+
     pub addable-provisions : Addable (provisionsIn f)
     unfolding provisionsIn provisions
-    addable-provisions = most-list mostUltimate 16 (k + 1) (provision k (f .exposures) r (levelsIn f)) (λ i h. provision-most i (omega arith))
+    addable-provisions = most-list mostUltimate 16 (k + 1) (provision k (f .exposures) r (levelsIn f) (tailsIn f)) (λ i h. provision-most i (omega arith))
 
   -- development factors
   pub factors-most : factorsPass (f .k) (developed (f .k) (f .increments)) (base (f .k) (f .increments)) ≡ true → (h : ℕ) → getD (developmentIn f) h 0 ≤ mostFactor

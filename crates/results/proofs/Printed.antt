@@ -10,10 +10,11 @@ use Rattle.rules.specs.Lists.{total, upTo, padded, joined}
 use Rattle.rules.specs.Record.{Figures}
 use Rattle.rules.specs.Triangle.{rowStart, futureStart, averageRow, averagesOf, cellOf}
 use Rattle.rules.specs.Separation.{shareOf, levelOf}
+use Rattle.rules.specs.Tail.{tailPayment, tailPayments}
 use Rattle.rules.specs.Completion.{futureLevels, payment, paymentRow, payments, provision, provisions}
 use Rattle.rules.specs.Expense.{notReported, reserve}
 use Rattle.rules.specs.Ladder.{developed, base, developmentFactors, completedAll}
-use Rattle.rules.specs.Results.{averageSection, shareSection, levelSection, paymentSection, provisionSection, provisionTotalSection, reserveSection, reserveTotalSection, ratioSection, sectionCount, sectionCounts, resultCount, sectionStart, separationSections, completionSections, reserveSections, ladderSections, squareOf, latestOf, factorsIn, paidIn, levelsIn, provisionsIn, developmentIn, ratioIn, sections, resultsOf}
+use Rattle.rules.specs.Results.{averageSection, shareSection, levelSection, paymentSection, provisionSection, provisionTotalSection, reserveSection, reserveTotalSection, ratioSection, tailSection, sectionCount, sectionCounts, resultCount, sectionStart, separationSections, completionSections, reserveSections, ladderSections, tailSections, squareOf, latestOf, factorsIn, firstTailAverageOf, paidIn, levelsIn, tailsIn, provisionsIn, developmentIn, ratioIn, sections, resultsOf}
 use Rattle.rules.specs.Demand.{entryOf, printed, printedSquare}
 use Rattle.laws.proofs.Lists.{length-upTo, getD-upTo, upTo-ext}
 use Rattle.laws.proofs.TriangleRows.{rows-all}
@@ -59,13 +60,13 @@ module _ (f : Figures) (rest : List ℤ) where
   level-entry j h = numbers-entry levelSection (levelOf (squareOf f) k) (k + 1) refl j (omega arith)
 
   pub provision-entry : (i : ℕ) → i ≤ f .k
-      → printed (f .k) (resultsOf f ++ rest) provisionSection i ≡ provision (f .k) (f .exposures) (factorsIn f .shares) (levelsIn f) i
+      → printed (f .k) (resultsOf f ++ rest) provisionSection i ≡ provision (f .k) (f .exposures) (factorsIn f .shares) (levelsIn f) (tailsIn f) i
   unfolding sections separationSections completionSections provisions
-  provision-entry i h = numbers-entry provisionSection (provision k (f .exposures) (factorsIn f .shares) (levelsIn f)) (k + 1) refl i (omega arith)
+  provision-entry i h = numbers-entry provisionSection (provision k (f .exposures) (factorsIn f .shares) (levelsIn f) (tailsIn f)) (k + 1) refl i (omega arith)
 
-  pub provisions-entry : printed (f .k) (resultsOf f ++ rest) provisionTotalSection 0 ≡ total (provisions (f .k) (f .exposures) (factorsIn f .shares) (levelsIn f))
+  pub provisions-entry : printed (f .k) (resultsOf f ++ rest) provisionTotalSection 0 ≡ total (provisions (f .k) (f .exposures) (factorsIn f .shares) (levelsIn f) (tailsIn f))
   unfolding sections separationSections completionSections
-  provisions-entry = single-entry provisionTotalSection (total (provisions k (f .exposures) (factorsIn f .shares) (levelsIn f))) refl
+  provisions-entry = single-entry provisionTotalSection (total (provisions k (f .exposures) (factorsIn f .shares) (levelsIn f) (tailsIn f))) refl
 
   pub reserve-entry : (i : ℕ) → i ≤ f .k
       → printed (f .k) (resultsOf f ++ rest) reserveSection i ≡ reserve (f .k) (ratioIn f) (f .weight) (f .reporting) (paidIn f) (provisionsIn f) i
@@ -80,6 +81,10 @@ module _ (f : Figures) (rest : List ℤ) where
   pub ratio-entry : printed (f .k) (resultsOf f ++ rest) ratioSection 0 ≡ ratioIn f
   unfolding sections separationSections completionSections reserveSections
   ratio-entry = single-entry ratioSection (ratioIn f) refl
+
+  pub tail-entry : (i : ℕ) → i ≤ f .k → printed (f .k) (resultsOf f ++ rest) tailSection i ≡ tailPayment (f .exposures) (firstTailAverageOf f) (f .indices) i
+  unfolding sections separationSections completionSections reserveSections ladderSections tailSections tailPayments
+  tail-entry i h = numbers-entry tailSection (tailPayment (f .exposures) (firstTailAverageOf f) (f .indices)) (k + 1) refl i (omega arith)
 
   paid-at : (i j m : ℕ) → m < i → f .k + 1 - i + m ≡ j
       → getD (paymentRow (f .k) (f .exposures) (factorsIn f .shares) (levelsIn f) i) m 0 ≡ payment (f .k) (f .exposures) (factorsIn f .shares) (levelsIn f) i j
@@ -148,18 +153,19 @@ after f =
     ∷ upTo (levelOf (squareOf f) k) (k + 1)
     ∷ futureLevels k (latestOf f) (f .indices)
     ∷ payments k (f .exposures) r (levelsIn f)
-    ∷ provisions k (f .exposures) r (levelsIn f)
-    ∷ (total (provisions k (f .exposures) r (levelsIn f)) ∷ [])
+    ∷ provisions k (f .exposures) r (levelsIn f) (tailsIn f)
+    ∷ (total (provisions k (f .exposures) r (levelsIn f) (tailsIn f)) ∷ [])
     ∷ upTo (notReported k (f .reporting) c q) (k + 1)
     ∷ upTo (reserve k (ratioIn f) (f .weight) (f .reporting) c q) (k + 1)
     ∷ (total (upTo (reserve k (ratioIn f) (f .weight) (f .reporting) c q) (k + 1)) ∷ [])
     ∷ (ratioIn f ∷ [])
     ∷ developmentFactors k (developed k (f .increments)) (base k (f .increments))
     ∷ completedAll k c (developmentIn f)
+    ∷ tailPayments k (f .exposures) (firstTailAverageOf f) (f .indices)
     ∷ []
 
 after-averages : (f : Figures) → drop 1 (sections f) ≡ map (map pos) (after f)
-unfolding sections separationSections completionSections reserveSections ladderSections
+unfolding sections separationSections completionSections reserveSections ladderSections tailSections
 after-averages f = refl
 
 after-above : (f : Figures) (i : ℕ) → Above (getD (joined (drop 1 (sections f))) i (pos 0))

@@ -11,10 +11,11 @@ use Rattle.rules.specs.Lists.{total, upTo, joined}
 use Rattle.rules.specs.Record.{Figures, cells}
 use Rattle.rules.specs.Triangle.{cellOf}
 use Rattle.rules.specs.Separation.{shareOf, levelOf}
+use Rattle.rules.specs.Tail.{tailPayment, tailPayments}
 use Rattle.rules.specs.Completion.{futureLevel, futureLevels, paymentRow, payments, provision, provisions}
 use Rattle.rules.specs.Expense.{notReported, reserve}
 use Rattle.rules.specs.Ladder.{developed, base, developmentFactor, developmentFactors, completedRow, completedAll}
-use Rattle.rules.specs.Results.{sectionCounts, resultCount, sectionStart, separationSections, completionSections, reserveSections, ladderSections, squareOf, latestOf, factorsIn, paidIn, levelsIn, provisionsIn, developmentIn, ratioIn, sections, resultsOf}
+use Rattle.rules.specs.Results.{sectionCounts, resultCount, sectionStart, separationSections, completionSections, reserveSections, ladderSections, tailSections, squareOf, latestOf, factorsIn, firstTailAverageOf, paidIn, levelsIn, tailsIn, provisionsIn, developmentIn, ratioIn, sections, resultsOf}
 use Rattle.laws.proofs.Lists.{length-upTo}
 use Rattle.laws.proofs.TriangleRows.{rows-all}
 use Rattle.laws.proofs.Joined.{past-length, future-length, future-cells}
@@ -80,7 +81,7 @@ module _ (f : Figures) where
 
   -- the sections have the lengths that the list's table gives
   section-lengths : lengthsOf (sections f) ≡ sectionCounts (f .k)
-  unfolding lengthsOf sections separationSections completionSections reserveSections ladderSections sectionCounts futureLevels payments provisions developmentFactors completedAll
+  unfolding lengthsOf sections separationSections completionSections reserveSections ladderSections tailSections tailPayments sectionCounts futureLevels payments provisions developmentFactors completedAll
   section-lengths =
       rw (
         past-length (λ i. upTo (cellOf s i) (k + 1 - i)) k (λ i. length-upTo (cellOf s i) (k + 1 - i)) (k + 1),
@@ -89,11 +90,12 @@ module _ (f : Figures) where
         numbers-size (levelOf s k) (k + 1),
         numbers-size (λ t. futureLevel (latestOf f) (getD (f .indices) t 0)) k,
         rows-size k (paymentRow k (f .exposures) r (levelsIn f)) (length-payments k (f .exposures) r (levelsIn f)),
-        numbers-size (provision k (f .exposures) r (levelsIn f)) (k + 1),
+        numbers-size (provision k (f .exposures) r (levelsIn f) (tailsIn f)) (k + 1),
         numbers-size (notReported k (f .reporting) (paidIn f) (provisionsIn f)) (k + 1),
         numbers-size (reserve k (ratioIn f) (f .weight) (f .reporting) (paidIn f) (provisionsIn f)) (k + 1),
         numbers-size (λ h. developmentFactor (developed k (f .increments) h) (base k (f .increments) h)) k,
         rows-size k (completedRow k (paidIn f) (developmentIn f)) (length-completed k (paidIn f) (developmentIn f)),
+        numbers-size (tailPayment (f .exposures) (firstTailAverageOf f) (f .indices)) (k + 1),
       )
 
   pub results-length : length (resultsOf f) ≡ resultCount (f .k)

@@ -1,5 +1,6 @@
--- The marked triangles and edges of document 01, averages as request 4 of document 02 marks them: one or more rows for each starred item, what the rules give and what the
--- paper prints, and one theorem. The second row of averages is ours.
+-- The marked triangles and edges of document 01, with what requests 3 and 4 of document 02 mark: one or more rows for each starred item, what the rules give and what the
+-- paper prints, and one theorem. A marked triangle has nothing still to be paid after year k, and e_{k+1} = M. The second row of averages, and the rows with an
+-- amount still to be paid, are ours.
 -- Assumes nothing.
 use Prim.Native.Nat.{ℕ}
 use mathlib.Core.Path.{_≡_, refl}
@@ -7,31 +8,54 @@ use mathlib.Core.Bool.{true}
 use mathlib.Core.List.{List, [], _∷_, map, zipWith}
 use lib.Dec.{ltb}
 use lib.IntN.{ℤ, pos, negsuc}
-use lib.ListN.{getD, take, replicate}
+use lib.ListN.{getD, take, drop, replicate}
 use Rattle.rules.specs.Lists.{total, upTo, padded, joined, every}
 use Rattle.rules.specs.Packing.{pack, unpack, numberOf, bytesOf}
 use Rattle.rules.specs.Questions.{firstNo, afterCall}
-use Rattle.rules.specs.Record.{figures, cells, layout, kindsOf, section, widths, bitCount, byteCount, fillingCount, valueOf, codeOf, inRange, negativeZero, bitsInRange, everyField, lastYearOf, codesOf, fillingOf, fieldsOf, recordOf, exposuresIn, incrementsIn, indicesIn, reportingIn, weightIn, ulaeIn, figuresOf}
+use Rattle.rules.specs.Record.{figures, cells, layout, kindsOf, section, widths, bitCount, byteCount, fillingCount, valueOf, codeOf, inRange, negativeZero, bitsInRange, everyField, lastYearOf, codesOf, fillingOf, fieldsOf, recordOf, exposuresIn, incrementsIn, indicesIn, reportingIn, weightIn, ulaeIn, tailIn, figuresOf}
 use Rattle.rules.specs.Reading.{hasLastYear, hasLength, inRanges, sharesSum, openingQuestions, fieldQuestions}
 use Rattle.rules.specs.Writing.{givenFields}
 use Rattle.rules.specs.Triangle.{rowStart, paidOf, sumTo, cumulativeOf, rowPasses, cumulativesPass, givenCumulative, paidTo, evenly, nearest, averageOf, averageRow, averagesOf, cellOf, cellsTotal, columnTotal, diagonalTotal, cornerTotal, allTotal}
 use Rattle.rules.specs.Separation.{billion, columnOf, diagonalOf, cornerOf, runningDown, runningOf, shareOf, levelOf, totalsPass, restsPass, runningPass, levelsPass, factorsOf, separationQuestions, separateAnswer, separated}
+use Rattle.rules.specs.Tail.{firstTailAverage, tailAverage, tailPayment, tailPayments, firstTailAveragePasses, tailAveragesPass, tailQuestions}
 use Rattle.rules.specs.Completion.{futureLevel, futureLevels, paymentOf, payment, paymentRow, payments, provision, provisions, ultimate, ultimatesPass}
 use Rattle.rules.specs.Expense.{paidTotal, ulaeTotal, ratioPass, ratioOf, reportedAfter, notReported, weighted, reserveOf, reserve}
 use Rattle.rules.specs.Ladder.{developed, base, developmentFactor, developmentFactors, factorPasses, factorsPass, completed, completedRow, completedAll, completedPass}
-use Rattle.rules.specs.Results.{ratioSection, mostEntries, sectionCounts, resultCount, sectionStart, separationSections, completionSections, reserveSections, ladderSections, squareOf, latestOf, factorsIn, paidIn, levelsIn, provisionsIn, developmentIn, ratioIn, sections, resultsOf}
-use Rattle.rules.specs.Engine.{completionQuestions, ratioQuestions, ladderQuestions, laterQuestions, figureQuestions, holdsList, questions, runAnswer, runInto}
+use Rattle.rules.specs.Results.{ratioSection, mostEntries, sectionCounts, resultCount, sectionStart, separationSections, completionSections, reserveSections, ladderSections, tailSections, squareOf, latestOf, factorsIn, firstTailAverageOf, paidIn, levelsIn, tailsIn, provisionsIn, developmentIn, ratioIn, sections, resultsOf}
+use Rattle.rules.specs.Engine.{completionQuestions, ratioQuestions, ladderQuestions, lastQuestions, laterQuestions, figureQuestions, holdsList, questions, runAnswer, runInto}
 
--- the record of two years, n 1, 1; e 1,100,000; b 800,000, 200,000; w 500,000, with these cells and ULAE totals
-abbrev twoYears : List ℤ → List ℕ → List ℕ
-twoYears p u = recordOf 1 (givenFields (figures 1 (1 ∷ 1 ∷ []) p (1100000 ∷ []) (800000 ∷ 200000 ∷ []) 500000 u))
+-- the record of two years with these exposures, cells, indices, ULAE totals and amount still to be paid; b 800,000, 200,000; w 500,000
+abbrev twoYears : List ℕ → List ℤ → List ℕ → List ℕ → ℕ → List ℕ
+twoYears n p e u a = recordOf 1 (givenFields (figures 1 n p e (800000 ∷ 200000 ∷ []) 500000 u a))
 
--- the answer to that record with a buffer of twenty entries, and what the buffer, full of −7 before, holds then
+-- the answer to such a record with a buffer of 22 entries, and what the buffer, full of −7 before, holds then
+abbrev answerTo : List ℕ → ℤ
+answerTo s = pos (runAnswer s 22)
+
+abbrev listOf : List ℕ → List ℤ
+listOf s = runInto s (replicate 22 (negsuc 6))
+
+-- those of document 01's records: n 1, 1; e 1,100,000 and M; nothing still to be paid
+abbrev marked : List ℤ → List ℕ → List ℕ
+marked p u = twoYears (1 ∷ 1 ∷ []) p (1100000 ∷ 1000000 ∷ []) u 0
+
 abbrev answer : List ℤ → List ℕ → ℤ
-answer p u = pos (runAnswer (twoYears p u) 20)
+answer p u = answerTo (marked p u)
 
 abbrev list : List ℤ → List ℕ → List ℤ
-list p u = runInto (twoYears p u) (replicate 20 (negsuc 6))
+list p u = listOf (marked p u)
+
+-- document 01's two-year cells with an amount still to be paid for year 0, and the index e_2
+abbrev tailed : ℕ → ℕ → List ℕ
+tailed a e = twoYears (1 ∷ 1 ∷ []) (pos 60 ∷ pos 40 ∷ pos 66 ∷ []) (1100000 ∷ e ∷ []) (6 ∷ 10 ∷ []) a
+
+-- n and 10^6 claims, cells 60000, 40000 / 66000000, 10^10 still to be paid, e 1, 5,000,000
+abbrev steepTail : ℕ → List ℕ
+steepTail n = twoYears (n ∷ 1000000 ∷ []) (pos 60000 ∷ pos 40000 ∷ pos 66000000 ∷ []) (1 ∷ 5000000 ∷ []) (6 ∷ 10 ∷ []) 10000000000
+
+-- t_0 = S and the index e_1 beside 5,000,000: t_1 = 5 × S for 1,000,000
+abbrev edgeTail : ℕ → List ℕ
+edgeTail e = twoYears (1000 ∷ 1 ∷ []) (pos 60000 ∷ pos 40000 ∷ pos 66 ∷ []) (e ∷ 5000000 ∷ []) (6 ∷ 10 ∷ []) 10000000000
 
 -- the averages of the motor account of document 004, in tenths, every exposure 1
 abbrev motor : List (List ℤ)
@@ -43,7 +67,7 @@ motor =
 abbrev pub markedTable : List (List ℤ × List ℤ)
 markedTable = (
   list (pos 60 ∷ pos 40 ∷ pos 66 ∷ []) (6 ∷ 10 ∷ []),
-  pos 6000 ∷ pos 4000 ∷ pos 6600 ∷ pos 622641509 ∷ pos 377358491 ∷ pos 9636 ∷ pos 10600 ∷ pos 11660 ∷ pos 44 ∷ pos 0 ∷ pos 44 ∷ pos 44 ∷ pos 0 ∷ pos 22 ∷ pos 0 ∷ pos 3 ∷ pos 3 ∷ pos 96385 ∷ pos 1666666 ∷ pos 109 ∷ [],
+  pos 6000 ∷ pos 4000 ∷ pos 6600 ∷ pos 622641509 ∷ pos 377358491 ∷ pos 9636 ∷ pos 10600 ∷ pos 11660 ∷ pos 44 ∷ pos 0 ∷ pos 44 ∷ pos 44 ∷ pos 0 ∷ pos 22 ∷ pos 0 ∷ pos 3 ∷ pos 3 ∷ pos 96385 ∷ pos 1666666 ∷ pos 109 ∷ pos 0 ∷ pos 0 ∷ [],
 )
     ∷ (pos (separateAnswer motor 3) ∷ [], pos 0 ∷ [])
     ∷ (map pos (take 4 (separated motor 3 .shares)), pos 583475514 ∷ pos 287767456 ∷ pos 86614799 ∷ pos 42142231 ∷ [])
@@ -56,18 +80,32 @@ markedTable = (
       averageOf (pos 3) 8 ∷ averageOf (negsuc 2) 8 ∷ averageOf (pos 5) 8 ∷ averageOf (pos 3) 200 ∷ averageOf (negsuc 0) 200 ∷ [],
       pos 38 ∷ negsuc 37 ∷ pos 62 ∷ pos 2 ∷ pos 0 ∷ [],
     )
-    ∷ (answer (pos 60 ∷ pos 40 ∷ pos 0 ∷ []) (6 ∷ 10 ∷ []) ∷ list (pos 60 ∷ pos 40 ∷ pos 0 ∷ []) (6 ∷ 10 ∷ []), pos 8 ∷ replicate 20 (negsuc 6))
+    ∷ (answer (pos 60 ∷ pos 40 ∷ pos 0 ∷ []) (6 ∷ 10 ∷ []) ∷ list (pos 60 ∷ pos 40 ∷ pos 0 ∷ []) (6 ∷ 10 ∷ []), pos 8 ∷ replicate 22 (negsuc 6))
     ∷ (answer (pos 0 ∷ pos 40 ∷ pos 66 ∷ []) (6 ∷ 10 ∷ []) ∷ [], pos 13 ∷ [])
     ∷ (answer (pos 60 ∷ pos 40 ∷ pos 66 ∷ []) (6 ∷ 161 ∷ []) ∷ [], pos 12 ∷ [])
     ∷ (
       answer (pos 60 ∷ pos 40 ∷ pos 66 ∷ []) (6 ∷ 160 ∷ []) ∷ getD (list (pos 60 ∷ pos 40 ∷ pos 66 ∷ []) (6 ∷ 160 ∷ [])) (sectionStart 1 ratioSection) (pos 0) ∷ [],
       pos 0 ∷ pos 1000000 ∷ [],
     )
+    ∷ (
+      listOf (tailed 100 1210000),
+      pos 6000 ∷ pos 4000 ∷ pos 6600 ∷ pos 622641509 ∷ pos 377358491 ∷ pos 9636 ∷ pos 10600 ∷ pos 11660 ∷ pos 44 ∷ pos 100 ∷ pos 154 ∷ pos 254 ∷ pos 0 ∷ pos 44 ∷ pos 4 ∷ pos 9 ∷ pos 13 ∷ pos 96385 ∷ pos 1666666 ∷ pos 109 ∷ pos 100 ∷ pos 110 ∷ [],
+    )
+    ∷ (
+      pos (tailAverage 10000 (1100000 ∷ 1210000 ∷ []) 0) ∷ pos (tailAverage 10000 (1100000 ∷ 1210000 ∷ []) 1) ∷ drop 20 (listOf (tailed 10 1200000)),
+      pos 10000 ∷ pos 11000 ∷ pos 10 ∷ pos 10 ∷ [],
+    )
+    ∷ (answerTo (steepTail 1000) ∷ answerTo (steepTail 999) ∷ [], pos 19 ∷ pos 18 ∷ [])
+    ∷ (answerTo (edgeTail 1000000) ∷ answerTo (edgeTail 999999) ∷ [], pos 0 ∷ pos 19 ∷ [])
+    ∷ (
+      map pos (firstTailAverage 1 (8 ∷ []) ∷ firstTailAverage 3 (8 ∷ []) ∷ firstTailAverage 1 (200 ∷ []) ∷ upTo (tailAverage 10001 (3 ∷ 7 ∷ 5 ∷ [])) 3),
+      pos 12 ∷ pos 38 ∷ pos 0 ∷ pos 10001 ∷ pos 23335 ∷ pos 16668 ∷ [],
+    )
     ∷ []
 
 -- the rules give what is printed, in every row
 pub marked-hold : map (λ row. row .0) markedTable ≡ map (λ row. row .1) markedTable
-unfolding total upTo padded every pack unpack numberOf bytesOf firstNo afterCall cells layout kindsOf section widths bitCount byteCount fillingCount valueOf codeOf inRange negativeZero bitsInRange everyField lastYearOf codesOf fillingOf fieldsOf recordOf exposuresIn incrementsIn indicesIn reportingIn weightIn ulaeIn figuresOf hasLastYear hasLength inRanges sharesSum givenFields rowStart paidOf sumTo cumulativeOf cumulativesPass evenly nearest averageOf averageRow averagesOf cellOf cellsTotal columnTotal diagonalTotal cornerTotal allTotal columnOf diagonalOf cornerOf runningDown runningOf shareOf levelOf totalsPass restsPass runningPass levelsPass factorsOf separateAnswer separated futureLevel payment paymentRow provision paidTo ultimate ultimatesPass paidTotal ulaeTotal ratioPass ratioOf reportedAfter notReported weighted reserve givenCumulative developed base developmentFactor completed completedRow factorsPass completedPass squareOf latestOf factorsIn joined sections resultsOf sectionCounts resultCount figureQuestions holdsList questions runAnswer runInto zipWith rowPasses futureLevels paymentOf payments provisions reserveOf developmentFactors factorPasses completedAll paidIn levelsIn provisionsIn developmentIn ratioIn separationSections completionSections reserveSections ladderSections openingQuestions fieldQuestions separationQuestions completionQuestions ratioQuestions ladderQuestions sectionStart laterQuestions
+unfolding total upTo padded every pack unpack numberOf bytesOf firstNo afterCall cells layout kindsOf section widths bitCount byteCount fillingCount valueOf codeOf inRange negativeZero bitsInRange everyField lastYearOf codesOf fillingOf fieldsOf recordOf exposuresIn incrementsIn indicesIn reportingIn weightIn ulaeIn tailIn figuresOf hasLastYear hasLength inRanges sharesSum givenFields rowStart paidOf sumTo cumulativeOf cumulativesPass evenly nearest averageOf averageRow averagesOf cellOf cellsTotal columnTotal diagonalTotal cornerTotal allTotal columnOf diagonalOf cornerOf runningDown runningOf shareOf levelOf totalsPass restsPass runningPass levelsPass factorsOf separateAnswer separated futureLevel payment paymentRow provision paidTo ultimate ultimatesPass paidTotal ulaeTotal ratioPass ratioOf reportedAfter notReported weighted reserve givenCumulative developed base developmentFactor completed completedRow factorsPass completedPass squareOf latestOf factorsIn joined sections resultsOf sectionCounts resultCount figureQuestions holdsList questions runAnswer runInto zipWith rowPasses futureLevels paymentOf payments provisions reserveOf developmentFactors factorPasses completedAll paidIn levelsIn provisionsIn developmentIn ratioIn separationSections completionSections reserveSections ladderSections openingQuestions fieldQuestions separationQuestions completionQuestions ratioQuestions ladderQuestions sectionStart laterQuestions lastQuestions firstTailAverage tailAverage tailPayment tailPayments firstTailAveragePasses tailAveragesPass tailSections firstTailAverageOf tailsIn tailQuestions
 marked-hold = refl
 
 -- the square of document 01's case with k = 2: n 100 each, cells 0, 5000, 999999 / 0, 0 / 1
@@ -79,7 +117,7 @@ pub steep-refused : (runningOf steep 2 1 ≡ 1000) × ((runningOf steep 2 0 ≡ 
 unfolding total upTo padded every firstNo rowStart paidOf sumTo evenly nearest averageOf averageRow averagesOf cellOf cellsTotal columnTotal diagonalTotal cornerTotal allTotal columnOf diagonalOf cornerOf runningDown runningOf shareOf levelOf totalsPass restsPass runningPass levelsPass separationQuestions separateAnswer
 steep-refused = (refl, (refl, (refl, refl)))
 
--- the lengths of the result list that document 01 names
-pub result-counts : (resultCount 1 ≡ 20) × (resultCount 15 ≡ mostEntries)
+-- the lengths of the result list that request 3 of document 02 gives: document 01's 20 and 489, and k + 1 tail payments
+pub result-counts : (resultCount 1 ≡ 22) × (resultCount 15 ≡ mostEntries)
 unfolding resultCount sectionCounts total cells
 result-counts = (refl, refl)

@@ -1,13 +1,13 @@
--- The lengths that document 01 names for k = 1 and k = 15, computed from the layout. Assumes nothing.
+-- The lengths that document 01 and request 3 of document 02 name for k = 1 and k = 15, computed from the layout. Assumes nothing.
 use mathlib.Core.Path.{_≡_, refl}
 use Rattle.rules.specs.Lists.{total}
 use Rattle.rules.specs.Record.{mostBytes, mostFields, cells, layout, kindsOf, widths, bitCount, byteCount, fieldCount}
 
-pub two-years : (bitCount 1 ≡ 300) × ((byteCount 1 ≡ 38) × (fieldCount 1 ≡ 12))
+pub two-years : (bitCount 1 ≡ 357) × ((byteCount 1 ≡ 45) × (fieldCount 1 ≡ 14))
 unfolding bitCount byteCount fieldCount widths layout kindsOf cells total
 two-years = (refl, (refl, refl))
 
-pub sixteen-years : (bitCount 15 ≡ 6313) × ((byteCount 15 ≡ mostBytes) × (fieldCount 15 ≡ mostFields))
+pub sixteen-years : (bitCount 15 ≡ 6370) × ((byteCount 15 ≡ mostBytes) × (fieldCount 15 ≡ mostFields))
 unfolding bitCount byteCount fieldCount widths layout kindsOf cells total
 sixteen-years = (refl, (refl, refl))
 

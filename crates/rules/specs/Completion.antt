@@ -1,5 +1,6 @@
--- Completing the triangle (document 01): future levels, payments, provisions and ultimates. n are the exposures, r the printed shares, d the latest
--- diagonal d_k, e the indices, l the future levels, c the paid cumulatives by row and q the provisions. Question 11. Assumes nothing.
+-- Completing the triangle (document 01): future levels, payments, provisions and ultimates, with the tail payments of request 3 of document 02. n are the
+-- exposures, r the printed shares, d the latest diagonal d_k, e the indices, l the future levels, z the tail payments, c the paid cumulatives by row and q the
+-- provisions. Question 11. Assumes nothing.
 use Prim.Native.Nat.{ℕ, _+_, _-_, _*_, _/_}
 use mathlib.Core.Bool.{Bool}
 use mathlib.Core.List.{List}
@@ -32,12 +33,12 @@ paymentRow k n r l i = upTo (λ m. payment k n r l i (k + 1 - i + m)) i
 unfoldable pub payments : ℕ → List ℕ → List ℕ → List ℕ → List ℕ
 payments k n r l = joined (upTo (paymentRow k n r l) (k + 1))
 
--- the provision R_i, the sum of row i's payments, and R_0 to R_k
-unfoldable pub provision : ℕ → List ℕ → List ℕ → List ℕ → ℕ → ℕ
-provision k n r l i = total (paymentRow k n r l i)
+-- the provision R_i, the sum of row i's payments and its tail payment, and R_0 to R_k
+unfoldable pub provision : ℕ → List ℕ → List ℕ → List ℕ → List ℕ → ℕ → ℕ
+provision k n r l z i = total (paymentRow k n r l i) + getD z i 0
 
-unfoldable pub provisions : ℕ → List ℕ → List ℕ → List ℕ → List ℕ
-provisions k n r l = upTo (provision k n r l) (k + 1)
+unfoldable pub provisions : ℕ → List ℕ → List ℕ → List ℕ → List ℕ → List ℕ
+provisions k n r l z = upTo (provision k n r l z) (k + 1)
 
 -- the ultimate X_i, the paid cumulative plus R_i
 unfoldable pub ultimate : List ℕ → List ℕ → ℕ → ℕ

@@ -1,4 +1,4 @@
--- The engine (document 01, "Questions in their order" and "The result list"): from any record and any result buffer to the number and the list.
+-- The engine (document 01, "Questions in their order" and "The result list", with request 3 of document 02): from any record and any result buffer to the number and the list.
 -- Assumes nothing.
 use Prim.Native.Nat.{ℕ}
 use mathlib.Core.Bool.{Bool}
@@ -12,10 +12,11 @@ use Rattle.rules.specs.Record.{Figures, lastYearOf, figuresOf}
 use Rattle.rules.specs.Reading.{openingQuestions, fieldQuestions}
 use Rattle.rules.specs.Triangle.{cumulativesPass}
 use Rattle.rules.specs.Separation.{separationQuestions}
+use Rattle.rules.specs.Tail.{tailQuestions}
 use Rattle.rules.specs.Completion.{ultimatesPass}
 use Rattle.rules.specs.Expense.{paidTotal, ulaeTotal, ratioPass}
 use Rattle.rules.specs.Ladder.{developed, base, factorsPass, completedAll, completedPass}
-use Rattle.rules.specs.Results.{squareOf, paidIn, provisionsIn, developmentIn, resultsOf, resultCount}
+use Rattle.rules.specs.Results.{squareOf, firstTailAverageOf, paidIn, provisionsIn, developmentIn, resultsOf, resultCount}
 
 -- question 11, question 12, and questions 13 and 14, of the figures
 unfoldable pub completionQuestions : Figures → List (ℕ × Bool)
@@ -30,9 +31,12 @@ ladderQuestions f =
     ∷ (14, completedPass (completedAll (f .k) (paidIn f) (developmentIn f)))
     ∷ []
 
--- those after the separation, and questions 6 to 14
+-- those after the tail is carried on, those after the separation, with 18 and 19 directly before 11, and all from 6 on
+unfoldable pub lastQuestions : Figures → List (ℕ × Bool)
+lastQuestions f = completionQuestions f ++ (ratioQuestions f ++ ladderQuestions f)
+
 unfoldable pub laterQuestions : Figures → List (ℕ × Bool)
-laterQuestions f = completionQuestions f ++ (ratioQuestions f ++ ladderQuestions f)
+laterQuestions f = tailQuestions (f .k) (firstTailAverageOf f) (f .indices) ++ lastQuestions f
 
 unfoldable pub figureQuestions : Figures → List (ℕ × Bool)
 figureQuestions f = (6, cumulativesPass (f .k) (f .increments)) ∷ (separationQuestions (squareOf f) (f .k) ++ laterQuestions f)

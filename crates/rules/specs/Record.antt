@@ -1,4 +1,5 @@
--- The record (document 01): its fields in their order, their widths and ranges, its length, and the value of each field. Assumes nothing.
+-- The record (document 01, with the last index and the amount of request 3 of document 02): its fields in their order, their widths and ranges, its length,
+-- and the value of each field. Assumes nothing.
 use Prim.Native.Nat.{ℕ, zero, suc, _+_, _-_, _*_, _/_, _%_, _^_}
 use mathlib.Core.Bool.{Bool, true, false, _&&_, _||_, not, cond}
 use mathlib.Core.List.{List, [], _∷_, _++_, map, zipWith}
@@ -12,7 +13,7 @@ use Rattle.rules.specs.Lists.{total, padded}
 abbrev pub million : ℕ
 million = 1000000
 
--- the most of a future index, and of an increment's size and a ULAE total
+-- the most of a future index, and of an increment's size, a ULAE total and the amount still to be paid
 abbrev pub mostIndex : ℕ
 mostIndex = 5000000
 
@@ -54,6 +55,10 @@ weight = record { signed = false; width = 20; least = 0; most = million }
 abbrev pub ulae : Kind
 ulae = record { signed = false; width = 34; least = 0; most = mostAmount }
 
+-- the amount still to be paid for year 0 after year k, 34 bits, 0 to 10^10
+abbrev pub tail : Kind
+tail = record { signed = false; width = 34; least = 0; most = mostAmount }
+
 -- how many bits a field of this kind takes
 abbrev pub bitsOf : Kind → ℕ
 bitsOf κ = cond (κ .signed) (1 + κ .width) (κ .width)
@@ -66,7 +71,7 @@ cells (suc k) = cells k + suc (suc k)
 -- the fields in the record's order, a row for each kind: how many, and of which kind
 unfoldable pub layout : ℕ → List (ℕ × Kind)
 layout k =
-    (1, lastYear) ∷ (k + 1, exposure) ∷ (cells k, increment) ∷ (k, index) ∷ (k + 1, reporting) ∷ (1, weight) ∷ (k + 1, ulae) ∷ []
+    (1, lastYear) ∷ (k + 1, exposure) ∷ (cells k, increment) ∷ (k + 1, index) ∷ (k + 1, reporting) ∷ (1, weight) ∷ (k + 1, ulae) ∷ (1, tail) ∷ []
 
 -- how many fields row i of the layout has
 abbrev pub countOf : ℕ → ℕ → ℕ
@@ -101,10 +106,10 @@ fillingCount k = 8 * byteCount k - bitCount k
 
 -- the most of the bytes and of the fields, those of k = 15
 abbrev pub mostBytes : ℕ
-mostBytes = 790
+mostBytes = 797
 
 abbrev pub mostFields : ℕ
-mostFields = 201
+mostFields = 203
 
 -- the signed number with this sign bit, 1 for negative, and this size
 abbrev pub signedOf : ℕ → ℕ → ℤ
@@ -160,8 +165,8 @@ fieldsOf s = zipWith valueOf (kindsOf (layout (lastYearOf s))) (codesOf s)
 unfoldable pub recordOf : ℕ → List ℤ → List ℕ
 recordOf k vs = bytesOf (byteCount k) (pack (widths k) (zipWith codeOf (kindsOf (layout k)) vs) * 2 ^ fillingCount k)
 
--- the exposures n_0 to n_k, the increments P_ij by row, the indices e_1 to e_k, the reporting shares b_0 to b_k, the weight w and the ULAE
--- totals U_0 to U_k among the fields vs of a record of the years 0 to k
+-- the exposures n_0 to n_k, the increments P_ij by row, the indices e_1 to e_{k+1}, the reporting shares b_0 to b_k, the weight w, the ULAE totals U_0 to U_k
+-- and the amount still to be paid among the fields vs of a record of the years 0 to k
 unfoldable pub exposuresIn : ℕ → List ℤ → List ℕ
 exposuresIn k vs = map natAbs (section (layout k) 1 vs)
 
@@ -180,7 +185,10 @@ weightIn k vs = getD (map natAbs (section (layout k) 5 vs)) 0 0
 unfoldable pub ulaeIn : ℕ → List ℤ → List ℕ
 ulaeIn k vs = map natAbs (section (layout k) 6 vs)
 
--- figures: k, lists, the increments by row, and the weight. A writer is given lists of any lengths; those of a record stand in arrays (`figuresOf`)
+unfoldable pub tailIn : ℕ → List ℤ → ℕ
+tailIn k vs = getD (map natAbs (section (layout k) 7 vs)) 0 0
+
+-- figures: k, lists, the increments by row, the weight and the amount still to be paid. A writer is given lists of any lengths; those of a record stand in arrays (`figuresOf`)
 pub record Figures : Type 0 where
   pub k : ℕ
   pub exposures : List ℕ
@@ -189,13 +197,14 @@ pub record Figures : Type 0 where
   pub reporting : List ℕ
   pub weight : ℕ
   pub ulae : List ℕ
+  pub tail : ℕ
 
-abbrev pub figures : ℕ → List ℕ → List ℤ → List ℕ → List ℕ → ℕ → List ℕ → Figures
-figures k n p e b w u = record { k = k; exposures = n; increments = p; indices = e; reporting = b; weight = w; ulae = u }
+abbrev pub figures : ℕ → List ℕ → List ℤ → List ℕ → List ℕ → ℕ → List ℕ → ℕ → Figures
+figures k n p e b w u a = record { k = k; exposures = n; increments = p; indices = e; reporting = b; weight = w; ulae = u; tail = a }
 
 -- the figures of the record s, each list in an array of sixteen or, for the increments, of 136, zero past its end; e_t is at place t − 1
 unfoldable pub figuresOf : List ℕ → Figures
 figuresOf s =
     let k = lastYearOf s in
     let vs = fieldsOf s in
-    figures k (padded 16 0 (exposuresIn k vs)) (padded 136 (pos 0) (incrementsIn k vs)) (padded 16 0 (indicesIn k vs)) (padded 16 0 (reportingIn k vs)) (weightIn k vs) (padded 16 0 (ulaeIn k vs))
+    figures k (padded 16 0 (exposuresIn k vs)) (padded 136 (pos 0) (incrementsIn k vs)) (padded 16 0 (indicesIn k vs)) (padded 16 0 (reportingIn k vs)) (weightIn k vs) (padded 16 0 (ulaeIn k vs)) (tailIn k vs)

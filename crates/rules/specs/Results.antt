@@ -1,4 +1,4 @@
--- The result list (document 01): its sections in their order, over lists, and those of the figures f. Assumes nothing.
+-- The result list (document 01, with the tail payments of request 3 of document 02 at its end): its sections in their order, over lists, and those of the figures f. Assumes nothing.
 use Prim.Native.Nat.{ℕ, _+_, _-_}
 use mathlib.Core.List.{List, [], _∷_, _++_, map}
 use lib.IntN.{ℤ, pos}
@@ -7,6 +7,7 @@ use Rattle.rules.specs.Lists.{total, upTo, padded, joined}
 use Rattle.rules.specs.Record.{Figures, cells}
 use Rattle.rules.specs.Triangle.{averagesOf, cellOf, paidTo}
 use Rattle.rules.specs.Separation.{diagonalOf, shareOf, levelOf, factorsOf}
+use Rattle.rules.specs.Tail.{firstTailAverage, tailPayments}
 use Rattle.rules.specs.Completion.{futureLevels, payments, provisions}
 use Rattle.rules.specs.Expense.{paidTotal, ulaeTotal, ratioOf, notReported, reserve}
 use Rattle.rules.specs.Ladder.{developed, base, developmentFactors, completedAll}
@@ -52,15 +53,18 @@ factorSection = 11
 abbrev pub completedSection : ℕ
 completedSection = 12
 
+abbrev pub tailSection : ℕ
+tailSection = 13
+
 abbrev pub sectionCount : ℕ
-sectionCount = 13
+sectionCount = 14
 
 -- how many entries each section has for the years 0 to k
 unfoldable pub sectionCounts : ℕ → List ℕ
 sectionCounts k =
     let n = k + 1 in
     let future = cells k - n in
-    cells k ∷ n ∷ n ∷ k ∷ future ∷ n ∷ 1 ∷ n ∷ n ∷ 1 ∷ 1 ∷ k ∷ future ∷ []
+    cells k ∷ n ∷ n ∷ k ∷ future ∷ n ∷ 1 ∷ n ∷ n ∷ 1 ∷ 1 ∷ k ∷ future ∷ n ∷ []
 
 -- how many entries the whole list has, and where section i starts in it
 unfoldable pub resultCount : ℕ → ℕ
@@ -71,7 +75,7 @@ sectionStart k i = total (take i (sectionCounts k))
 
 -- the most entries that a list has, those of k = 15
 abbrev pub mostEntries : ℕ
-mostEntries = 489
+mostEntries = 505
 
 -- averages by row, of a square s; r; l
 unfoldable pub separationSections : ℕ → List (List ℤ) → List ℕ → List ℕ → List (List ℤ)
@@ -89,6 +93,10 @@ reserveSections n q ratio = map pos n ∷ map pos q ∷ (pos (total q) ∷ []) �
 unfoldable pub ladderSections : List ℕ → List ℕ → List (List ℤ)
 ladderSections m c = map pos m ∷ map pos c ∷ []
 
+-- the tail payments
+unfoldable pub tailSections : List ℕ → List (List ℤ)
+tailSections z = map pos z ∷ []
+
 -- the square of averages of the figures, its latest diagonal d_k, and its factors
 unfoldable pub squareOf : Figures → List (List ℤ)
 squareOf f = averagesOf (f .k) (f .exposures) (f .increments)
@@ -99,15 +107,23 @@ latestOf f = diagonalOf (squareOf f) (f .k)
 unfoldable pub factorsIn : Figures → Factors
 factorsIn f = factorsOf (squareOf f) (f .k)
 
--- the paid cumulatives by row, the future levels, the provisions and the development factors of the figures, each in an array, zero past its end
+-- t_0 of the figures
+unfoldable pub firstTailAverageOf : Figures → ℕ
+firstTailAverageOf f = firstTailAverage (f .tail) (f .exposures)
+
+-- the paid cumulatives by row, the future levels, the tail payments, the provisions and the development factors of the figures, each in an array, zero past
+-- its end
 unfoldable pub paidIn : Figures → List ℕ
 paidIn f = padded 16 0 (upTo (paidTo (f .k) (f .increments)) (f .k + 1))
 
 unfoldable pub levelsIn : Figures → List ℕ
 levelsIn f = padded 16 0 (futureLevels (f .k) (latestOf f) (f .indices))
 
+unfoldable pub tailsIn : Figures → List ℕ
+tailsIn f = padded 16 0 (tailPayments (f .k) (f .exposures) (firstTailAverageOf f) (f .indices))
+
 unfoldable pub provisionsIn : Figures → List ℕ
-provisionsIn f = padded 16 0 (provisions (f .k) (f .exposures) (factorsIn f .shares) (levelsIn f))
+provisionsIn f = padded 16 0 (provisions (f .k) (f .exposures) (factorsIn f .shares) (levelsIn f) (tailsIn f))
 
 unfoldable pub developmentIn : Figures → List ℕ
 developmentIn f = padded 16 0 (developmentFactors (f .k) (developed (f .k) (f .increments)) (base (f .k) (f .increments)))
@@ -124,9 +140,10 @@ sections f =
     let c = paidIn f in
     let q = provisionsIn f in
     separationSections k (squareOf f) (upTo (shareOf (squareOf f) k) (k + 1)) (upTo (levelOf (squareOf f) k) (k + 1))
-    ++ (completionSections (futureLevels k (latestOf f) (f .indices)) (payments k (f .exposures) r (levelsIn f)) (provisions k (f .exposures) r (levelsIn f))
+    ++ (completionSections (futureLevels k (latestOf f) (f .indices)) (payments k (f .exposures) r (levelsIn f)) (provisions k (f .exposures) r (levelsIn f) (tailsIn f))
     ++ (reserveSections (upTo (notReported k (f .reporting) c q) (k + 1)) (upTo (reserve k (ratioIn f) (f .weight) (f .reporting) c q) (k + 1)) (ratioIn f)
-    ++ ladderSections (developmentFactors k (developed k (f .increments)) (base k (f .increments))) (completedAll k c (developmentIn f))))
+    ++ (ladderSections (developmentFactors k (developed k (f .increments)) (base k (f .increments))) (completedAll k c (developmentIn f))
+    ++ tailSections (tailPayments k (f .exposures) (firstTailAverageOf f) (f .indices)))))
 
 -- the result list
 unfoldable pub resultsOf : Figures → List ℤ

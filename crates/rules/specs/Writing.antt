@@ -7,11 +7,11 @@ use lib.IntN.{ℤ, pos, natAbs}
 use lib.ListN.{length, getD}
 use Rattle.rules.specs.Lists.{total}
 use Rattle.rules.specs.Questions.{firstNo, afterCall}
-use Rattle.rules.specs.Record.{Figures, figures, million, kindsOf, layout, byteCount, everyField, inRange, recordOf, countOf, exposuresIn, incrementsIn, indicesIn, reportingIn, weightIn, ulaeIn}
+use Rattle.rules.specs.Record.{Figures, figures, million, kindsOf, layout, byteCount, everyField, inRange, recordOf, countOf, exposuresIn, incrementsIn, indicesIn, reportingIn, weightIn, ulaeIn, tailIn}
 
 -- what a writer is given, found among the fields vs of a record of the years 0 to k, and of one whose k is the first of them
 unfoldable pub givenAt : ℕ → List ℤ → Figures
-givenAt k vs = figures k (exposuresIn k vs) (incrementsIn k vs) (indicesIn k vs) (reportingIn k vs) (weightIn k vs) (ulaeIn k vs)
+givenAt k vs = figures k (exposuresIn k vs) (incrementsIn k vs) (indicesIn k vs) (reportingIn k vs) (weightIn k vs) (ulaeIn k vs) (tailIn k vs)
 
 abbrev pub givenIn : List ℤ → Figures
 givenIn vs = givenAt (natAbs (getD vs 0 (pos 0))) vs
@@ -20,7 +20,7 @@ givenIn vs = givenAt (natAbs (getD vs 0 (pos 0))) vs
 unfoldable pub givenFields : Figures → List ℤ
 givenFields g =
     pos (g .k)
-    ∷ (map pos (g .exposures) ++ (g .increments ++ (map pos (g .indices) ++ (map pos (g .reporting) ++ (pos (g .weight) ∷ map pos (g .ulae))))))
+    ∷ (map pos (g .exposures) ++ (g .increments ++ (map pos (g .indices) ++ (map pos (g .reporting) ++ (pos (g .weight) ∷ (map pos (g .ulae) ++ (pos (g .tail) ∷ [])))))))
 
 -- 1. Is k from 1 to 15?
 unfoldable pub givenLastYear : Figures → Bool

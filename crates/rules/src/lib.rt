@@ -4,14 +4,16 @@
 pub const ACCEPTED: u64 = 0;
 // M of document 01: the most of an exposure, a reporting share and the weight, and the sum of the reporting shares.
 pub const MILLION: u64 = 1_000_000;
-// S of document 01, one whole in billionths: the most of a level and of the total of averages.
+// S of document 01, one whole in billionths: the most of a level, of the total of averages and of the average still to be paid for year 0.
 pub const BILLION: u64 = 1_000_000_000;
 // The most of a future index.
 pub const MOST_INDEX: u64 = 5_000_000;
-// The most of an increment's size and of a ULAE total.
+// The most of an increment's size, of a ULAE total and of the amount still to be paid after the last year.
 pub const MOST_AMOUNT: u64 = 10_000_000_000;
 // The weight of an increment's sign bit, which stands before 34 bits of size.
 pub const SIGN: u64 = 17_179_869_184;
+// The most of a tail average, 5 times S.
+pub const MOST_TAIL_AVERAGE: u64 = 5_000_000_000;
 // The most of a cumulative, given or completed.
 pub const MOST_CUMULATIVE: u64 = 100_000_000_000;
 // The most of an ultimate.
@@ -19,11 +21,11 @@ pub const MOST_ULTIMATE: u64 = 1_000_000_000_000;
 // The most of a development factor.
 pub const MOST_FACTOR: u64 = 50_000_000;
 // The most of a record's bytes and fields and of a result list's entries: those of k = 15.
-pub const MOST_BYTES: usize = 790;
+pub const MOST_BYTES: usize = 797;
 
-pub const MOST_FIELDS: usize = 201;
+pub const MOST_FIELDS: usize = 203;
 
-pub const MOST_ENTRIES: usize = 489;
+pub const MOST_ENTRIES: usize = 505;
 
 // Shares and levels of the years 0 to k as one set of factors, zero past them. A share counts billionths, a level hundredths a claim.
 pub struct Factors {

@@ -21,7 +21,7 @@ use Rattle.cells.specs.Cells.{fromLabel, afterLabel, separators, unspaced, trim
 use Rattle.sheet.specs.Table.{labels, due, lineCount, dueAt, startAt}
 
 -- the words of the code's text are the labels: by computing
-pub labels-are : cellsOf (ascii "labels k exposures paid indices reporting weight ulae") ≡ labels
+pub labels-are : cellsOf (ascii "labels k exposures paid indices reporting weight ulae tail") ≡ labels
 unfolding labels cellsOf decider cellsText cellsBy used filled cellFrom unquoted trimmed unspaced separators afterLabel fromLabel pieces onto past from until before among every
 labels-are = refl
 
@@ -35,7 +35,8 @@ label-short (suc (suc (suc zero))) = omega arith
 label-short (suc (suc (suc (suc zero)))) = omega arith
 label-short (suc (suc (suc (suc (suc zero))))) = omega arith
 label-short (suc (suc (suc (suc (suc (suc zero)))))) = omega arith
-label-short (suc (suc (suc (suc (suc (suc (suc row))))))) = omega arith
+label-short (suc (suc (suc (suc (suc (suc (suc zero))))))) = omega arith
+label-short (suc (suc (suc (suc (suc (suc (suc (suc row)))))))) = omega arith
 
 -- a label put into nine bytes
 module _ (row n : ℕ) (b : List ℕ) (p : Put (replicate 9 0) b 0 n (getD labels row [])) where
@@ -58,13 +59,14 @@ due-paid k i h =
 
 module _ (k place : ℕ) where
   later : k + 3 ≤ place → dueAt k place
-      ≡ cond (eqb place (k + 3)) (due 3 k (pos 1) (pos mostIndex))
+      ≡ cond (eqb place (k + 3)) (due 3 (k + 1) (pos 1) (pos mostIndex))
       (cond (eqb place (k + 4)) (due 4 (k + 1) (pos 0) (pos million))
-      (cond (eqb place (k + 5)) (due 5 1 (pos 0) (pos million)) (due 6 (k + 1) (pos 0) (pos mostAmount))))
+      (cond (eqb place (k + 5)) (due 5 1 (pos 0) (pos million))
+      (cond (eqb place (k + 6)) (due 6 (k + 1) (pos 0) (pos mostAmount)) (due 7 1 (pos 0) (pos mostAmount)))))
   unfolding dueAt
   later h = rw (ne-eqb place 0 (λ e. omega arith), ne-eqb place 1 (λ e. omega arith), le-ltb place (k + 3) h)
 
-  pub due-indices : place ≡ k + 3 → dueAt k place ≡ due 3 k (pos 1) (pos mostIndex)
+  pub due-indices : place ≡ k + 3 → dueAt k place ≡ due 3 (k + 1) (pos 1) (pos mostIndex)
   due-indices e = later (omega arith) ∙ rw (eq-eqb place (k + 3) e)
 
   pub due-reporting : place ≡ k + 4 → dueAt k place ≡ due 4 (k + 1) (pos 0) (pos million)
@@ -76,7 +78,12 @@ module _ (k place : ℕ) where
   pub due-ulae : place ≡ k + 6 → dueAt k place ≡ due 6 (k + 1) (pos 0) (pos mostAmount)
   due-ulae e =
       later (omega arith)
-      ∙ rw (ne-eqb place (k + 3) (λ f. omega arith), ne-eqb place (k + 4) (λ f. omega arith), ne-eqb place (k + 5) (λ f. omega arith))
+      ∙ rw (ne-eqb place (k + 3) (λ f. omega arith), ne-eqb place (k + 4) (λ f. omega arith), ne-eqb place (k + 5) (λ f. omega arith), eq-eqb place (k + 6) e)
+
+  pub due-tail : place ≡ k + 7 → dueAt k place ≡ due 7 1 (pos 0) (pos mostAmount)
+  due-tail e =
+      later (omega arith)
+      ∙ rw (ne-eqb place (k + 3) (λ f. omega arith), ne-eqb place (k + 4) (λ f. omega arith), ne-eqb place (k + 5) (λ f. omega arith), ne-eqb place (k + 6) (λ f. omega arith))
 
 -- how many numbers the lines before a place take: up to an origin year's increments, and all of them
 start-paid : (k i : ℕ) → i ≤ k + 1 → startAt k (suc (suc i)) ≡ k + 2 + rowStart k i
@@ -86,12 +93,13 @@ start-paid k (suc i) h =
     let e : k + 2 + rowStart k i + (k + 1 - i) ≡ k + 2 + (rowStart k i + (k + 1 - i)) = omega arith in
     line-start-more k (suc (suc i)) ∙ rw (start-paid k i (omega arith), due-paid k i (omega arith), e)
 
-pub start-all : (k : ℕ) → startAt k (lineCount k) ≡ cells k + 4 * k + 5
+pub start-all : (k : ℕ) → startAt k (lineCount k) ≡ cells k + 4 * k + 7
 start-all k =
-    let place : k + 7 ≡ suc (suc (suc (suc (suc (suc (k + 1)))))) = omega arith in
+    let place : k + 8 ≡ suc (suc (suc (suc (suc (suc (suc (k + 1))))))) = omega arith in
     let n : ℕ = suc (suc (k + 1)) in
     rw (
       place,
+      line-start-more k (suc (suc (suc (suc n)))),
       line-start-more k (suc (suc (suc n))),
       line-start-more k (suc (suc n)),
       line-start-more k (suc n),
@@ -102,10 +110,11 @@ start-all k =
       due-reporting k (suc n) (omega arith),
       due-weight k (suc (suc n)) (omega arith),
       due-ulae k (suc (suc (suc n))) (omega arith),
+      due-tail k (suc (suc (suc (suc n)))) (omega arith),
     )
     (omega arith)
 
--- there is room for the numbers of a line among 201
+-- there is room for the numbers of a line among 203
 pub start-room : (k place : ℕ) → k < 16 → place < lineCount k → startAt k place + dueAt k place .count ≤ mostFields
 unfolding startAt
 start-room k place h l =

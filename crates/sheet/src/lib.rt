@@ -69,7 +69,7 @@ pub fn due_at(k: usize, place: usize) -> Due
     if place == k + 3 {
         return Due {
             row: 3,
-            count: k,
+            count: k + 1,
             least: 1,
             most: MOST_INDEX as i64,
         };
@@ -90,9 +90,17 @@ pub fn due_at(k: usize, place: usize) -> Due
             most: MILLION as i64,
         };
     }
+    if place == k + 6 {
+        return Due {
+            row: 6,
+            count: k + 1,
+            least: 0,
+            most: MOST_AMOUNT as i64,
+        };
+    }
     Due {
-        row: 6,
-        count: k + 1,
+        row: 7,
+        count: 1,
         least: 0,
         most: MOST_AMOUNT as i64,
     }
@@ -106,7 +114,7 @@ pub fn put_label(out: &mut [u8], at: usize, row: usize) -> usize
         out,
         at,
         cell_at(
-            b"labels k exposures paid indices reporting weight ulae",
+            b"labels k exposures paid indices reporting weight ulae tail",
             row,
         ),
     )

@@ -8,7 +8,7 @@ use lib.IntN.{ℤ, pos, natAbs}
 use lib.ListN.{length, getD, set, take, drop, replicate, length-append, length-drop, length-map}
 use lib.Seq.{take-suc, take-append-le, drop-append-le, length-take-le, getD-drop, drop-drop}
 use Rattle.rules.specs.Lists.{padded, total}
-use Rattle.rules.specs.Record.{Figures, figures, Kind, cells, layout, section, exposuresIn, incrementsIn, indicesIn, reportingIn, weightIn, ulaeIn, mostFields}
+use Rattle.rules.specs.Record.{Figures, figures, Kind, cells, layout, section, exposuresIn, incrementsIn, indicesIn, reportingIn, weightIn, ulaeIn, tailIn, mostFields}
 use Rattle.rules.specs.Writing.{givenAt, writeInto}
 use Rattle.laws.proofs.Lists.{padded-more, take-padded}
 use Rattle.laws.proofs.TriangleRows.{cells-most}
@@ -31,6 +31,10 @@ one-size : (ys : List ℤ) → getD (map natAbs (take 1 ys)) 0 0 ≡ natAbs (get
 one-size [] = refl
 one-size (y ∷ ys) = refl
 
+-- where the weight stands: after k, the exposures, the increments, the indices and the reporting shares
+abbrev weightPlace : ℕ → ℕ
+weightPlace k = k + 2 + cells k + (k + 1) + (k + 1)
+
 -- where each row stands
 module _ (k : ℕ) (vs : List ℤ) where
   from : (m n p : ℕ) → p ≡ n + m → drop m (drop n vs) ≡ drop p vs
@@ -48,39 +52,51 @@ module _ (k : ℕ) (vs : List ℤ) where
   later : drop (cells k) (drop (k + 1) (drop 1 vs)) ≡ drop (k + 2 + cells k) vs
   later = ap (drop (cells k)) (from (k + 1) 1 (k + 2) (omega arith)) ∙ from (cells k) (k + 2) (k + 2 + cells k) refl
 
-  pub indices-at : indicesIn k vs ≡ map natAbs (take k (drop (k + 2 + cells k) vs))
+  pub indices-at : indicesIn k vs ≡ map natAbs (take (k + 1) (drop (k + 2 + cells k) vs))
   unfolding indicesIn section layout
   indices-at = rw (later)
 
-  pub reporting-at : reportingIn k vs ≡ map natAbs (take (k + 1) (drop (k + 2 + cells k + k) vs))
+  pub reporting-at : reportingIn k vs ≡ map natAbs (take (k + 1) (drop (k + 2 + cells k + (k + 1)) vs))
   unfolding reportingIn section layout
-  reporting-at = rw (later, from k (k + 2 + cells k) (k + 2 + cells k + k) refl)
+  reporting-at = rw (later, from (k + 1) (k + 2 + cells k) (k + 2 + cells k + (k + 1)) refl)
 
-  last : drop (k + 1) (drop k (drop (cells k) (drop (k + 1) (drop 1 vs)))) ≡ drop (k + 2 + cells k + k + (k + 1)) vs
-  last = rw (later, from k (k + 2 + cells k) (k + 2 + cells k + k) refl) (from (k + 1) (k + 2 + cells k + k) (k + 2 + cells k + k + (k + 1)) refl)
+  -- the part after the reporting shares, and the one after the ULAE totals
+  past-reporting : drop (k + 1) (drop (k + 1) (drop (cells k) (drop (k + 1) (drop 1 vs)))) ≡ drop (weightPlace k) vs
+  past-reporting = rw (later, from (k + 1) (k + 2 + cells k) (k + 2 + cells k + (k + 1)) refl) (from (k + 1) (k + 2 + cells k + (k + 1)) (weightPlace k) refl)
 
-  pub weight-at : weightIn k vs ≡ natAbs (getD vs (k + 2 + cells k + k + (k + 1)) (pos 0))
+  past-ulae : drop (k + 1) (drop 1 (drop (weightPlace k) vs)) ≡ drop (weightPlace k + 1 + (k + 1)) vs
+  past-ulae = rw (from 1 (weightPlace k) (weightPlace k + 1) refl) (from (k + 1) (weightPlace k + 1) (weightPlace k + 1 + (k + 1)) refl)
+
+  -- a row of one entry
+  one-at : (place : ℕ) → getD (map natAbs (take 1 (drop place vs))) 0 0 ≡ natAbs (getD vs place (pos 0))
+  one-at place =
+      let e : place + 0 ≡ place = omega arith in
+      one-size (drop place vs) ∙ ap natAbs (getD-drop place vs 0 (pos 0)) ∙ rw (e)
+
+  pub weight-at : weightIn k vs ≡ natAbs (getD vs (weightPlace k) (pos 0))
   unfolding weightIn section layout
-  weight-at =
-      let w = k + 2 + cells k + k + (k + 1) in
-      let e : w + 0 ≡ w = omega arith in
-      rw (last) (one-size (drop w vs) ∙ (ap natAbs (getD-drop w vs 0 (pos 0)) ∙ rw (e)))
+  weight-at = rw (past-reporting) (one-at (weightPlace k))
 
-  pub ulae-at : ulaeIn k vs ≡ map natAbs (take (k + 1) (drop (k + 2 + cells k + k + (k + 1) + 1) vs))
+  pub ulae-at : ulaeIn k vs ≡ map natAbs (take (k + 1) (drop (weightPlace k + 1) vs))
   unfolding ulaeIn section layout
-  ulae-at = rw (last, from 1 (k + 2 + cells k + k + (k + 1)) (k + 2 + cells k + k + (k + 1) + 1) refl)
+  ulae-at = rw (past-reporting, from 1 (weightPlace k) (weightPlace k + 1) refl)
+
+  pub tail-at : tailIn k vs ≡ natAbs (getD vs (weightPlace k + 1 + (k + 1)) (pos 0))
+  unfolding tailIn section layout
+  tail-at = rw (past-reporting, past-ulae) (one-at (weightPlace k + 1 + (k + 1)))
 
 -- the rows as the code finds them
-pub rows-of-are : (k n : ℕ) (vs : List ℤ) (exposures indices reporting : List ℕ) (weight : ℕ) (ulae : List ℕ) → n ≡ cells k
+pub rows-of-are : (k n : ℕ) (vs : List ℤ) (exposures indices reporting : List ℕ) (weight : ℕ) (ulae : List ℕ) (tail : ℕ) → n ≡ cells k
     → exposures ≡ padded 16 0 (map natAbs (take (k + 1) (drop 1 vs)))
-    → indices ≡ padded 16 0 (map natAbs (take k (drop (k + 2 + n) vs)))
-    → reporting ≡ padded 16 0 (map natAbs (take (k + 1) (drop (k + 2 + n + k) vs)))
-    → weight ≡ natAbs (getD vs (k + 2 + n + k + (k + 1)) (pos 0))
-    → ulae ≡ padded 16 0 (map natAbs (take (k + 1) (drop (k + 2 + n + k + (k + 1) + 1) vs)))
-    → rows exposures indices reporting weight ulae ≡ rowsOf k vs
+    → indices ≡ padded 16 0 (map natAbs (take (k + 1) (drop (k + 2 + n) vs)))
+    → reporting ≡ padded 16 0 (map natAbs (take (k + 1) (drop (k + 2 + n + (k + 1)) vs)))
+    → weight ≡ natAbs (getD vs (k + 2 + n + (k + 1) + (k + 1)) (pos 0))
+    → ulae ≡ padded 16 0 (map natAbs (take (k + 1) (drop (k + 2 + n + (k + 1) + (k + 1) + 1) vs)))
+    → tail ≡ natAbs (getD vs (k + 2 + n + (k + 1) + (k + 1) + 1 + (k + 1)) (pos 0))
+    → rows exposures indices reporting weight ulae tail ≡ rowsOf k vs
 unfolding rowsOf
-rows-of-are k n vs exposures indices reporting weight ulae e a b c d f =
-    rw (a, b, c, d, f, e, exposures-at k vs, indices-at k vs, reporting-at k vs, weight-at k vs, ulae-at k vs)
+rows-of-are k n vs exposures indices reporting weight ulae tail e a b c d f g =
+    rw (a, b, c, d, f, g, e, exposures-at k vs, indices-at k vs, reporting-at k vs, weight-at k vs, ulae-at k vs, tail-at k vs)
 
 -- as many entries as a row has
 row-length : (n at : ℕ) (vs : List ℤ) → at + n ≤ length vs → length (map natAbs (take n (drop at vs))) ≡ n
@@ -102,14 +118,14 @@ module _ (k : ℕ) (vs : List ℤ) (h : k < 16) (l : length vs ≡ mostFields) w
   exposures-count : length (exposuresIn k vs) ≡ k + 1
   exposures-count = ap length (exposures-at k vs) ∙ row-length (k + 1) 1 vs (omega arith)
 
-  indices-count : length (indicesIn k vs) ≡ k
-  indices-count = ap length (indices-at k vs) ∙ row-length k (k + 2 + cells k) vs (omega (arith, cells-most k h))
+  indices-count : length (indicesIn k vs) ≡ k + 1
+  indices-count = ap length (indices-at k vs) ∙ row-length (k + 1) (k + 2 + cells k) vs (omega (arith, cells-most k h))
 
   reporting-count : length (reportingIn k vs) ≡ k + 1
-  reporting-count = ap length (reporting-at k vs) ∙ row-length (k + 1) (k + 2 + cells k + k) vs (omega (arith, cells-most k h))
+  reporting-count = ap length (reporting-at k vs) ∙ row-length (k + 1) (k + 2 + cells k + (k + 1)) vs (omega (arith, cells-most k h))
 
   ulae-count : length (ulaeIn k vs) ≡ k + 1
-  ulae-count = ap length (ulae-at k vs) ∙ row-length (k + 1) (k + 2 + cells k + k + (k + 1) + 1) vs (omega (arith, cells-most k h))
+  ulae-count = ap length (ulae-at k vs) ∙ row-length (k + 1) (weightPlace k + 1) vs (omega (arith, cells-most k h))
 
   module _ (r : Rows) (e : r ≡ rowsOf k vs) where
     exposures-row : r .exposures ≡ padded 16 0 (exposuresIn k vs)
@@ -132,6 +148,10 @@ module _ (k : ℕ) (vs : List ℤ) (h : k < 16) (l : length vs ≡ mostFields) w
     unfolding rowsOf
     ulae-row = ap (λ (x : Rows). x .ulae) e
 
+    tail-row : r .tail ≡ tailIn k vs
+    unfolding rowsOf
+    tail-row = ap (λ (x : Rows). x .tail) e
+
     -- the front of each array has its row
     pub exposures-fit : k + 1 ≤ length (r .exposures)
     exposures-fit = array-fits (k + 1) (r .exposures) (exposuresIn k vs) exposures-row exposures-count (omega arith)
@@ -139,11 +159,11 @@ module _ (k : ℕ) (vs : List ℤ) (h : k < 16) (l : length vs ≡ mostFields) w
     pub exposures-cut : k + 1 ≡ length (take (k + 1) (r .exposures))
     exposures-cut = array-cut (k + 1) (r .exposures) (exposuresIn k vs) exposures-row exposures-count (omega arith)
 
-    pub indices-fit : k ≤ length (r .indices)
-    indices-fit = array-fits k (r .indices) (indicesIn k vs) indices-row indices-count (omega arith)
+    pub indices-fit : k + 1 ≤ length (r .indices)
+    indices-fit = array-fits (k + 1) (r .indices) (indicesIn k vs) indices-row indices-count (omega arith)
 
-    pub indices-cut : k ≡ length (take k (r .indices))
-    indices-cut = array-cut k (r .indices) (indicesIn k vs) indices-row indices-count (omega arith)
+    pub indices-cut : k + 1 ≡ length (take (k + 1) (r .indices))
+    indices-cut = array-cut (k + 1) (r .indices) (indicesIn k vs) indices-row indices-count (omega arith)
 
     pub reporting-fit : k + 1 ≤ length (r .reporting)
     reporting-fit = array-fits (k + 1) (r .reporting) (reportingIn k vs) reporting-row reporting-count (omega arith)
@@ -159,18 +179,19 @@ module _ (k : ℕ) (vs : List ℤ) (h : k < 16) (l : length vs ≡ mostFields) w
 
     -- what the writer is given
     pub given-is : (n : ℕ) → n ≡ cells k
-        → figures k (take (k + 1) (r .exposures)) (take (k + 2 + n - (k + 2)) (drop (k + 2) vs)) (take k (r .indices)) (take (k + 1) (r .reporting)) (r .weight)
-        (take (k + 1) (r .ulae))
+        → figures k (take (k + 1) (r .exposures)) (take (k + 2 + n - (k + 2)) (drop (k + 2) vs)) (take (k + 1) (r .indices)) (take (k + 1) (r .reporting)) (r .weight)
+        (take (k + 1) (r .ulae)) (r .tail)
         ≡ givenAt k vs
     unfolding givenAt
     given-is n f =
         let m : k + 2 + n - (k + 2) ≡ cells k = omega arith in
         rw (
           array-front (k + 1) (r .exposures) (exposuresIn k vs) exposures-row exposures-count (omega arith),
-          array-front k (r .indices) (indicesIn k vs) indices-row indices-count (omega arith),
+          array-front (k + 1) (r .indices) (indicesIn k vs) indices-row indices-count (omega arith),
           array-front (k + 1) (r .reporting) (reportingIn k vs) reporting-row reporting-count (omega arith),
           array-front (k + 1) (r .ulae) (ulaeIn k vs) ulae-row ulae-count (omega arith),
           weight-row,
+          tail-row,
           m,
           increments-at k vs,
         )
@@ -188,12 +209,12 @@ section-front (r ∷ rs) zero xs ys h = take-append-le (r .0) xs ys (omega arith
 section-front (r ∷ rs) (suc i) xs ys h =
     rw (drop-append-le (r .0) xs ys (omega arith)) (section-front rs i (drop (r .0) xs) ys (omega (arith, length-drop (r .0) xs)))
 
-fields : (k n : ℕ) → cells k + 4 * k + 5 ≤ n → total (map (λ r. r .0) (layout k)) ≤ n
+fields : (k n : ℕ) → cells k + 4 * k + 7 ≤ n → total (map (λ r. r .0) (layout k)) ≤ n
 unfolding total layout
 fields k n h = omega arith
 
-pub given-front : (k : ℕ) (xs ys : List ℤ) → cells k + 4 * k + 5 ≤ length xs → givenAt k (xs ++ ys) ≡ givenAt k xs
-unfolding givenAt exposuresIn incrementsIn indicesIn reportingIn weightIn ulaeIn
+pub given-front : (k : ℕ) (xs ys : List ℤ) → cells k + 4 * k + 7 ≤ length xs → givenAt k (xs ++ ys) ≡ givenAt k xs
+unfolding givenAt exposuresIn incrementsIn indicesIn reportingIn weightIn ulaeIn tailIn
 given-front k xs ys h =
     let f : (i : ℕ) → section (layout k) i (xs ++ ys) ≡ section (layout k) i xs = λ i. section-front (layout k) i xs ys (fields k (length xs) h) in
-    rw (f 1, f 2, f 3, f 4, f 5, f 6)
+    rw (f 1, f 2, f 3, f 4, f 5, f 6, f 7)

@@ -20,6 +20,7 @@ pub struct Rows {
     pub reporting: [u64; 16],
     pub weight: u64,
     pub ulae: [u64; 16],
+    pub tail: u64,
 }
 
 // The sizes of n entries of a list from place `at` on.
@@ -41,19 +42,22 @@ fn rows_of(list: &[i64], k: usize) -> Rows
 {
     let n = k + 1;
     let a = k + 2 + cells_of(k);
-    let b = a + k;
+    let b = a + n;
     let w = b + n;
+    let u = w + 1;
     let exposures = sizes_of(list, 1, n);
-    let indices = sizes_of(list, a, k);
+    let indices = sizes_of(list, a, n);
     let reporting = sizes_of(list, b, n);
     let weight = size_of(list[w]);
-    let ulae = sizes_of(list, w + 1, n);
+    let ulae = sizes_of(list, u, n);
+    let tail = size_of(list[u + n]);
     Rows {
         exposures,
         indices,
         reporting,
         weight,
         ulae,
+        tail,
     }
 }
 
@@ -77,10 +81,11 @@ pub fn write_fields(list: &[i64], k: usize, buffer: &mut [u8]) -> u64
         k as u64,
         &exposures[..n],
         &list[a..e],
-        &indices[..k],
+        &indices[..n],
         &reporting[..n],
         rows.weight,
         &ulae[..n],
+        rows.tail,
         &mut buffer[..m],
     )
 }

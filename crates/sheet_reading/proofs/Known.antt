@@ -85,7 +85,7 @@ good-more (v ∷ vs) (suc i) m line g left a =
       some = λ h. g .some (omega arith);
     }
 
--- room for the numbers of the next line, and no more than 201 so far
+-- room for the numbers of the next line, and no more than 203 so far
 pub good-room : (vs : List ℤ) (i m : ℕ) → Good vs i m → (i ≡ lineCount (lastYearIn vs) → ⊥) → m + dueAt (lastYearIn vs) i .count ≤ mostFields
 good-room vs i m g h = omega (arith, g .start, start-room (lastYearIn vs) i (g .few) (omega (arith, g .within)))
 
@@ -95,12 +95,12 @@ good-most vs i m g =
     let k = lastYearIn vs in
     omega (arith, g .start, total-part (λ j. dueAt k j .count) i (lineCount k) (g .within), start-all k, cells-most k (g .few))
 
--- what is known of a reading: k is below 16, there are at most 201 numbers, and where nothing is wrong it is from 1, and there are as many numbers as it calls for
+-- what is known of a reading: k is below 16, there are at most 203 numbers, and where nothing is wrong it is from 1, and there are as many numbers as it calls for
 pub record LinesKnown (t : Typed) : Type 0 where
   pub few : lastYearIn (t .numbers) < 16
   pub most : length (t .numbers) ≤ mostFields
   pub some : t .problem ≡ 0 → 1 ≤ lastYearIn (t .numbers)
-  pub count : t .problem ≡ 0 → length (t .numbers) ≡ cells (lastYearIn (t .numbers)) + 4 * lastYearIn (t .numbers) + 5
+  pub count : t .problem ≡ 0 → length (t .numbers) ≡ cells (lastYearIn (t .numbers)) + 4 * lastYearIn (t .numbers) + 7
 
 -- what a line of the text comes to after the numbers vs: it adds numbers or none, and where nothing is wrong all is known as before
 pub record Step (n : ℕ) (vs : List ℤ) (t : Typed) : Type 0 where

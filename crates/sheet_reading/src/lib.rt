@@ -124,7 +124,7 @@ fn read_line(line: &[u8], f: Found, list: &mut [i64], word: &mut [u8]) -> Found
         };
     }
     let k = last_year(list, f.count) as usize;
-    if f.place == k + 7 {
+    if f.place == k + 8 {
         let size = put_bytes(word, 0, label_of(line));
         return Found {
             problem: 6,
@@ -167,7 +167,7 @@ fn read_end(f: Found, list: &[i64]) -> Found
 {
     let k = last_year(list, f.count) as usize;
     let mut problem: u64 = 5;
-    if k + 7 == f.place {
+    if k + 8 == f.place {
         problem = 0;
     }
     Found {

@@ -1,4 +1,4 @@
--- How long a sheet is at most: 4544 bytes. Assumes nothing.
+-- How long a sheet is at most: 4593 bytes. Assumes nothing.
 use mathlib.Core.Path.{_≡_, refl, _∙_}
 use mathlib.Core.List.{List, [], _∷_, _++_}
 use Prim.Native.Nat.{ℕ, zero, suc, _+_, _*_, _≤_, _<_}
@@ -13,7 +13,7 @@ use Rattle.composing.proofs.Decimals.{length-most, length-sign}
 use Rattle.sheet.specs.declared.Due.{Due}
 use Rattle.sheet.specs.Table.{labels, labelDue, lineCount, dueAt, dueLines}
 use Rattle.sheet.specs.Sheet.{spaced, lineOf, linesOf, lastYearIn, sheetOf}
-use Rattle.sheet.proofs.Table.{due-paid, due-indices, due-reporting, due-weight, due-ulae}
+use Rattle.sheet.proofs.Table.{due-paid, due-indices, due-reporting, due-weight, due-ulae, due-tail}
 use Rattle.sheet_writing.proofs.LinesPut.{countsOf, sheet-counts}
 
 -- a number takes at most 21 places, and a space before it
@@ -54,13 +54,14 @@ paid-labels k zero h = refl
 paid-labels k (suc i) h =
     labels-more (upTo (dueAt k) (suc (suc i))) (dueAt k (suc (suc i))) ∙ rw (paid-labels k i (omega arith), due-paid k i (omega arith)) (omega arith)
 
-sheet-labels : (k : ℕ) → labelsOf (dueLines k) ≡ 42 + 5 * (k + 1)
+sheet-labels : (k : ℕ) → labelsOf (dueLines k) ≡ 47 + 5 * (k + 1)
 unfolding dueLines upTo labels
 sheet-labels k =
-    let place : lineCount k ≡ suc (suc (suc (suc (suc (suc (k + 1)))))) = omega arith in
+    let place : lineCount k ≡ suc (suc (suc (suc (suc (suc (suc (k + 1))))))) = omega arith in
     let n : ℕ = suc (suc (k + 1)) in
     rw (
       place,
+      labels-more (upTo (dueAt k) (suc (suc (suc (suc n))))) (dueAt k (suc (suc (suc (suc n))))),
       labels-more (upTo (dueAt k) (suc (suc (suc n)))) (dueAt k (suc (suc (suc n)))),
       labels-more (upTo (dueAt k) (suc (suc n))) (dueAt k (suc (suc n))),
       labels-more (upTo (dueAt k) (suc n)) (dueAt k (suc n)),
@@ -70,11 +71,12 @@ sheet-labels k =
       due-reporting k (suc n) (omega arith),
       due-weight k (suc (suc n)) (omega arith),
       due-ulae k (suc (suc (suc n))) (omega arith),
+      due-tail k (suc (suc (suc (suc n)))) (omega arith),
     )
     (omega arith)
 
 -- the text of the fields of a record
-pub sheet-length : (vs : List ℤ) → lastYearIn vs < 16 → length (sheetOf vs) ≤ 4544
+pub sheet-length : (vs : List ℤ) → lastYearIn vs < 16 → length (sheetOf vs) ≤ 4593
 unfolding sheetOf
 sheet-length vs few =
     let k = lastYearIn vs in

@@ -19,7 +19,7 @@ use Rattle.record.proofs.Fields.{RecordFields}
 use Rattle.scanning.specs.Numbers.{ceiling}
 use Rattle.sheet.specs.declared.Due.{Due}
 use Rattle.sheet.specs.Table.{lineCount, dueAt, dueLines}
-use Rattle.sheet.proofs.Table.{due-paid, due-indices, due-reporting, due-weight, due-ulae}
+use Rattle.sheet.proofs.Table.{due-paid, due-indices, due-reporting, due-weight, due-ulae, due-tail}
 use Rattle.sheet_record.proofs.Sheets.{dueRanges, EachWithin}
 
 -- the range of a kind of field
@@ -62,17 +62,18 @@ kinds-ranges (r ∷ rs) =
     same zero κ = refl
     same (suc n) κ = ap (λ (l : List (ℤ × ℤ)). rangeOf κ ∷ l) (same n κ)
 
-regroup : (a b c d e f : List (ℤ × ℤ)) → ((((a ++ b) ++ c) ++ d) ++ e) ++ f ≡ a ++ (b ++ (c ++ (d ++ (e ++ f))))
-regroup a b c d e f = simp append-assoc
+regroup : (a b c d e f g : List (ℤ × ℤ)) → (((((a ++ b) ++ c) ++ d) ++ e) ++ f) ++ g ≡ a ++ (b ++ (c ++ (d ++ (e ++ (f ++ g)))))
+regroup a b c d e f g = simp append-assoc
 
 -- the range of a line is that of its fields
 sheet-ranges : (k : ℕ) → dueRanges (dueLines k) ≡ map rangeOf (kindsOf (layout k))
 unfolding dueLines upTo layout
 sheet-ranges k =
-    let place : lineCount k ≡ suc (suc (suc (suc (suc (suc (k + 1)))))) = omega arith in
+    let place : lineCount k ≡ suc (suc (suc (suc (suc (suc (suc (k + 1))))))) = omega arith in
     let n : ℕ = suc (suc (k + 1)) in
     rw (
       place,
+      ranges-more (upTo (dueAt k) (suc (suc (suc (suc n))))) (dueAt k (suc (suc (suc (suc n))))),
       ranges-more (upTo (dueAt k) (suc (suc (suc n)))) (dueAt k (suc (suc (suc n)))),
       ranges-more (upTo (dueAt k) (suc (suc n))) (dueAt k (suc (suc n))),
       ranges-more (upTo (dueAt k) (suc n)) (dueAt k (suc n)),
@@ -83,12 +84,12 @@ sheet-ranges k =
       due-reporting k (suc n) (omega arith),
       due-weight k (suc (suc n)) (omega arith),
       due-ulae k (suc (suc (suc n))) (omega arith),
+      due-tail k (suc (suc (suc (suc n)))) (omega arith),
       kinds-ranges (layout k),
     )
     (ap (λ (l : List (ℤ × ℤ)). (pos 1, pos 15) ∷ l)
-    (regroup (replicate (k + 1) (pos 1, pos million)) (replicate (cells k) paidRange) (replicate k (pos 1, pos mostIndex)) (replicate (k + 1) (pos 0, pos million))
-    ((pos 0, pos million) ∷ []) (replicate (k + 1) (pos 0, pos mostAmount)))
-    ∙ rw (append-nil (replicate {A = ℤ × ℤ} (k + 1) (pos 0, pos mostAmount))))
+    (regroup (replicate (k + 1) (pos 1, pos million)) (replicate (cells k) paidRange) (replicate (k + 1) (pos 1, pos mostIndex)) (replicate (k + 1) (pos 0, pos million))
+    ((pos 0, pos million) ∷ []) (replicate (k + 1) (pos 0, pos mostAmount)) ((pos 0, pos mostAmount) ∷ [])))
 
 -- a field in its range may stand in a line
 within : (signed : Bool) (least most : ℕ) (v : ℤ) → (signed || eqb (signOf v) 0) && (leb least (natAbs v) && leb (natAbs v) most) ≡ true
@@ -118,7 +119,7 @@ spread-small (r ∷ rs) h = small-row (r .0) (r .1) (kindsOf rs) (h .0) (spread-
 
 layout-small : (k : ℕ) → AllSmall (kindsOf (layout k))
 unfolding layout
-layout-small k = spread-small (layout k) (lit< tt, (lit< tt, (lit< tt, (lit< tt, (lit< tt, (lit< tt, (lit< tt, tt)))))))
+layout-small k = spread-small (layout k) (lit< tt, (lit< tt, (lit< tt, (lit< tt, (lit< tt, (lit< tt, (lit< tt, (lit< tt, tt))))))))
 
 fields-okay : (κs : List Kind) (vs : List ℤ) → AllSmall κs → everyField inRange κs vs ≡ true → EachWithin (map rangeOf κs) vs
 unfolding everyField inRange

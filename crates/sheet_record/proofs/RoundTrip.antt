@@ -44,24 +44,24 @@ other-first text e = rw (e, and-false (leb 3 (length text)))
 
 module _ (k : ℕ) (vs : List ℤ) (f : RecordFields k vs) where
   -- the text begins with k, and so with no mark
-  text-is : sheetOf vs ≡ lineOf (dueAt k 0) (take 1 vs) ++ linesOf (upTo (λ j. dueAt k (1 + j)) (k + 6)) (drop 1 vs)
+  text-is : sheetOf vs ≡ lineOf (dueAt k 0) (take 1 vs) ++ linesOf (upTo (λ j. dueAt k (1 + j)) (k + 7)) (drop 1 vs)
   unfolding sheetOf linesOf dueAt
   text-is = rw (ap natAbs (f .first), dues-first k)
 
   no-mark : unmarked (sheetOf vs) ≡ sheetOf vs
   unfolding lineOf dueAt labels
-  no-mark = rw text-is (other-first (lineOf (dueAt k 0) (take 1 vs) ++ linesOf (upTo (λ j. dueAt k (1 + j)) (k + 6)) (drop 1 vs)) refl)
+  no-mark = rw text-is (other-first (lineOf (dueAt k 0) (take 1 vs) ++ linesOf (upTo (λ j. dueAt k (1 + j)) (k + 7)) (drop 1 vs)) refl)
 
   -- the text of the fields of a record, read: nothing is wrong, every line due was there, and the numbers are the fields
-  pub sheet-back : readSheet (sheetOf vs) ≡ fine (k + 8) (lineCount k) vs
+  pub sheet-back : readSheet (sheetOf vs) ≡ fine (k + 9) (lineCount k) vs
   unfolding readSheet dueAt total
   sheet-back =
-      let ds = upTo (λ j. dueAt k (1 + j)) (k + 6) in
+      let ds = upTo (λ j. dueAt k (1 + j)) (k + 7) in
       let one : take 1 vs ≡ pos k ∷ [] = first-one vs k (omega (arith, f .size, fields-count k)) (f .first) in
       let sound : EachWithin (dueRanges (dueAt k 0 ∷ ds)) vs = rw (dues-first k) at (fields-sound k vs f) in
       let parts = split 1 (pos 1, pos 15) (dueRanges ds) vs sound in
       let counts : 1 + countsOf ds ≡ length vs = sym (ap countsOf (dues-first k)) ∙ sheet-counts k ∙ sym (f .size) in
-      let number : suc (1 + length ds) ≡ k + 8 = omega (arith, length-upTo (λ j. dueAt k (1 + j)) (k + 6)) in
+      let number : suc (1 + length ds) ≡ k + 9 = omega (arith, length-upTo (λ j. dueAt k (1 + j)) (k + 7)) in
       let all : take 1 vs ++ take (countsOf ds) (drop 1 vs) ≡ vs = sym (take-add 1 (countsOf ds) vs) ∙ take-all (1 + countsOf ds) vs (omega arith) in
       rw (no-mark, text-is)
       (one-line 0 0 [] (take 1 vs) (linesOf ds (drop 1 vs)) (λ e. absurd (omega arith)) (parts .size) (parts .first)
@@ -85,7 +85,7 @@ just-fields s out r e =
 
 module _ (s : List ℕ) (m : ℕ) (h : Fit 8 s) (r : readAnswer s m ≡ 0) where
   -- the text of an accepted record, read: nothing is wrong, and the numbers are the record's fields
-  pub shown-back : readSheet (sheetOf (fieldsOf s)) ≡ fine (lastYearOf s + 8) (lineCount (lastYearOf s)) (fieldsOf s)
+  pub shown-back : readSheet (sheetOf (fieldsOf s)) ≡ fine (lastYearOf s + 9) (lineCount (lastYearOf s)) (fieldsOf s)
   shown-back = sheet-back (lastYearOf s) (fieldsOf s) (accepted-fields s m h r)
 
   -- the writer makes the record again from its fields
@@ -106,8 +106,8 @@ module _ (s : List ℕ) (m : ℕ) (h : Fit 8 s) (r : readAnswer s m ≡ 0) where
       let w = fields-written (take (length s) buffer) (length-take-le (length s) buffer room) in
       rw (shown-back, size-is) (w .0, ap (λ (l : List ℕ). l ++ drop (length s) buffer) (w .1))
 
--- packing what an accepted record is shown as, in a buffer of at least 4544 bytes, makes the record again
-pub unpacked-packed : (s : List ℕ) → Fit 8 s → readAnswer s mostFields ≡ 0 → {a b : List ℕ} {j : ℕ} → Put a b 0 j (shownText s) → 4544 ≤ length a
+-- packing what an accepted record is shown as, in a buffer of at least 4593 bytes, makes the record again
+pub unpacked-packed : (s : List ℕ) → Fit 8 s → readAnswer s mostFields ≡ 0 → {a b : List ℕ} {j : ℕ} → Put a b 0 j (shownText s) → 4593 ≤ length a
     → (buffer : List ℕ) → length s ≤ length buffer
     → (packAnswer (readSheet (take j b)) ≡ 0) × (packInto (readSheet (take j b)) buffer ≡ s ++ drop (length s) buffer)
 unfolding shownText afterCall

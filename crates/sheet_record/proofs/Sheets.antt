@@ -25,7 +25,7 @@ use Rattle.sheet_record.proofs.NumbersBack.{integer-number, integer-val
 use Rattle.sheet_record.proofs.Words.{Word, line-ends, line-content, line-filled, line-label, line-cells}
 
 -- a label is a word
-label-word : (row : ℕ) → row < 7 → Word (getD labels row [])
+label-word : (row : ℕ) → row < 8 → Word (getD labels row [])
 unfolding labels every
 label-word zero h = record { first = 107; rest = []; is = refl; bytes = refl }
 label-word (suc zero) h = record { first = 101; rest = _; is = refl; bytes = refl }
@@ -34,18 +34,20 @@ label-word (suc (suc (suc zero))) h = record { first = 105; rest = _; is = refl;
 label-word (suc (suc (suc (suc zero)))) h = record { first = 114; rest = _; is = refl; bytes = refl }
 label-word (suc (suc (suc (suc (suc zero))))) h = record { first = 119; rest = _; is = refl; bytes = refl }
 label-word (suc (suc (suc (suc (suc (suc zero)))))) h = record { first = 117; rest = _; is = refl; bytes = refl }
-label-word (suc (suc (suc (suc (suc (suc (suc row))))))) h = absurd (omega arith)
+label-word (suc (suc (suc (suc (suc (suc (suc zero))))))) h = record { first = 116; rest = _; is = refl; bytes = refl }
+label-word (suc (suc (suc (suc (suc (suc (suc (suc row)))))))) h = absurd (omega arith)
 
-row-small : (k place : ℕ) → dueAt k place .row < 7
+row-small : (k place : ℕ) → dueAt k place .row < 8
 unfolding dueAt
 row-small k place =
     one (eqb place 0) _ _ (omega arith)
     (one (eqb place 1) _ _ (omega arith)
     (one (ltb place (k + 3)) _ _ (omega arith)
     (one (eqb place (k + 3)) _ _ (omega arith)
-    (one (eqb place (k + 4)) _ _ (omega arith) (one (eqb place (k + 5)) _ _ (omega arith) (omega arith))))))
+    (one (eqb place (k + 4)) _ _ (omega arith)
+    (one (eqb place (k + 5)) _ _ (omega arith) (one (eqb place (k + 6)) _ _ (omega arith) (omega arith)))))))
   where
-    one : (b : Bool) (x y : Due) → x .row < 7 → y .row < 7 → cond b x y .row < 7
+    one : (b : Bool) (x y : Due) → x .row < 8 → y .row < 8 → cond b x y .row < 8
     one true x y h l = h
     one false x y h l = l
 
@@ -131,16 +133,16 @@ dues-from k (suc n) i e =
     rw (upTo-cons (λ j. dueAt k (i + j)) n, others) (sym first, dues-from k n (suc i) (omega arith))
 
 -- the first line, and those after it
-pub dues-first : (k : ℕ) → dueLines k ≡ dueAt k 0 ∷ upTo (λ j. dueAt k (1 + j)) (k + 6)
+pub dues-first : (k : ℕ) → dueLines k ≡ dueAt k 0 ∷ upTo (λ j. dueAt k (1 + j)) (k + 7)
 unfolding dueLines
 dues-first k =
-    let e : lineCount k ≡ suc (k + 6) = omega arith in
-    let others : upTo (λ j. dueAt k (suc j)) (k + 6) ≡ upTo (λ j. dueAt k (1 + j)) (k + 6) =
-    upTo-ext _ _ (k + 6) (λ j h. let f : suc j ≡ 1 + j = omega arith in ap (dueAt k) f) in
-    rw (e, upTo-cons (dueAt k) (k + 6), others)
+    let e : lineCount k ≡ suc (k + 7) = omega arith in
+    let others : upTo (λ j. dueAt k (suc j)) (k + 7) ≡ upTo (λ j. dueAt k (1 + j)) (k + 7) =
+    upTo-ext _ _ (k + 7) (λ j h. let f : suc j ≡ 1 + j = omega arith in ap (dueAt k) f) in
+    rw (e, upTo-cons (dueAt k) (k + 7), others)
 
-pub dues-others : (k : ℕ) → Dues k 1 (upTo (λ j. dueAt k (1 + j)) (k + 6))
-dues-others k = dues-from k (k + 6) 1 (omega arith)
+pub dues-others : (k : ℕ) → Dues k 1 (upTo (λ j. dueAt k (1 + j)) (k + 7))
+dues-others k = dues-from k (k + 7) 1 (omega arith)
 
 -- the range of each number, line by line
 abbrev pub dueRanges : List Due → List (ℤ × ℤ)

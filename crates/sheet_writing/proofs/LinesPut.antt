@@ -44,7 +44,7 @@ counts-start k n = ap total (map-upTo (λ d. d .count) (dueAt k) n)
 
 pub sheet-counts : (k : ℕ) → countsOf (dueLines k) ≡ fieldCount k
 unfolding dueLines
-sheet-counts k = counts-start k (k + 7) ∙ start-all k ∙ sym (fields-count k)
+sheet-counts k = counts-start k (k + 8) ∙ start-all k ∙ sym (fields-count k)
 
 -- one line more
 lines-more : (ds : List Due) (d : Due) (vs : List ℤ) → linesOf (ds ++ (d ∷ [])) vs ≡ linesOf ds vs ++ lineOf d (take (d .count) (drop (countsOf ds) vs))

@@ -46,7 +46,7 @@ pub fn put_sheet(out: &mut [u8], list: &[i64; MOST_FIELDS]) -> usize
     ensures { λ r. ⌜ Put (now (out .entry)) (now (out .exit)) 0 r (sheetOf (now (list .entry))) ⌝ }
 {
     let k = size_of(list[0]) as usize;
-    let n = k + 7;
+    let n = k + 8;
     let mut end: usize = 0;
     let mut from: usize = 0;
     for i in 0..n {

@@ -8,6 +8,7 @@ ghost use mathlib.Core.List.{_++_};
 ghost use Prim.Native.Nat.{_<_};
 ghost use Rattle.composing.specs.Text.{ascii, Put};
 ghost use Rattle.listing.specs.Starts.{Addable};
+ghost use Rattle.amounts_table.specs.Amounts.{TailsAddable};
 ghost use Rattle.shaded_table.specs.Shaded.{shadedTable};
 ghost use Rattle.plots.specs.Plots.{levelsPlot, sharesPlot};
 ghost use Rattle.web_page.specs.Web.{styleText, webStart, webPageOf};
@@ -67,7 +68,7 @@ pub fn put_web_page(
     ladder: &[u64; 16],
     k: usize,
 ) -> usize
-    requires { ⌜ (k < 16) × (Addable (now paid) × Addable (now ladder)) ⌝ }
+    requires { ⌜ (k < 16) × (TailsAddable k (now list) × (Addable (now paid) × Addable (now ladder))) ⌝ }
     ensures { λ r. ⌜ Put (now (out .entry)) (now (out .exit)) 0 r (webPageOf k (now (list .entry)) (now (paid .entry)) (now (ladder .entry))) ⌝ }
 {
     let a = put_web_start(out, 0);

@@ -1,6 +1,6 @@
 // Test of the writer. A number on standard input is a sign byte, 1 for negative, and a size of seven bytes, high byte first. Each case is the
-// length of the buffer, k, the weight, and then each of the five lists with its length before it. The buffer is lent full of 165. Writes the
-// answer, and then the buffer's bytes in hexadecimal after an answer of 0, or whether a refusal left it unchanged.
+// length of the buffer, k, the weight, the amount still to be paid, and then each of the five lists with its length before it. The buffer is lent
+// full of 165. Writes the answer, and then the buffer's bytes in hexadecimal after an answer of 0, or whether a refusal left it unchanged.
 use libc::STDOUT_FILENO;
 use packing::field;
 use printing::put_number;
@@ -110,6 +110,7 @@ fn show(
     reporting: &[u64],
     weight: u64,
     totals: &[u64],
+    tail: u64,
     buffer: &mut [u8],
 ) {
     let answer = doonamurk_write(
@@ -120,6 +121,7 @@ fn show(
         reporting,
         weight,
         totals,
+        tail,
         buffer,
     );
     put_text(b"answer ");
@@ -140,6 +142,7 @@ fn case() -> bool {
     let size = read_number().size;
     let k = read_number().size;
     let weight = read_number().size;
+    let tail = read_number().size;
     let exposures = read_list();
     let increments = read_list();
     let indices = read_list();
@@ -172,6 +175,7 @@ fn case() -> bool {
         &reporting[..d],
         weight,
         &totals[..e],
+        tail,
         &mut buffer[..room],
     );
     true

@@ -1,5 +1,5 @@
 -- The rows of a record packed into a buffer, one after another, and the record that the buffer then holds. Assumes nothing.
-use Prim.Native.Nat.{ℕ, zero, suc, _+_, _-_, _*_, _^_, _≤_, _<_}
+use Prim.Native.Nat.{ℕ, _+_, _-_, _*_, _^_, _≤_, _<_}
 use native.Mathlib.Nat.{add-zero, mul-one}
 use native.Mathlib.Omega.{arith}
 use mathlib.Core.Path.{_≡_, refl, sym, ap, _∙_}
@@ -33,13 +33,6 @@ bits-rows : (n : ℕ) (rs : List (ℕ × Kind)) → bitsRows n rs ≡ n + total 
 unfolding total kindsOf
 bits-rows n [] = omega arith
 bits-rows n (r ∷ rs) = omega (arith, bits-rows (n + bitsOf (r .1) * r .0) rs, total-row r rs)
-
--- the first rows have no more bits than all
-first-bits : (n i : ℕ) (rs : List (ℕ × Kind)) → bitsRows n (take i rs) ≤ bitsRows n rs
-first-bits n zero [] = omega arith
-first-bits n zero (r ∷ rs) = omega (arith, bits-rows (n + bitsOf (r .1) * r .0) rs)
-first-bits n (suc i) [] = omega arith
-first-bits n (suc i) (r ∷ rs) = first-bits (n + bitsOf (r .1) * r .0) i rs
 
 -- one field is a row
 one-field : (w x : ℕ) → pack (replicate 1 w) (x ∷ []) ≡ x
@@ -97,19 +90,17 @@ module _ (g : Figures) (s : List ℕ) (w : Writable g (length s)) where
   pub no-rows : FirstRows g 0 s s none
   no-rows = record { long = refl; packed = packed-none whole-room }
 
-  -- and after the first rows for the next
+  -- and after the first rows for v bits more, which are no more than those of the rows left
   pub ready : {t : List ℕ} {q : Pending} (i v : ℕ) → FirstRows g i s t q
-      → bitsRows 0 (take (suc i) (givenLayout g)) ≡ bitsRows 0 (take i (givenLayout g)) + v → Packable t q v
-  ready i v f e =
-      ready-then v whole-room (f .packed) (f .long)
-      (omega (arith, first-bits 0 (suc i) (givenLayout g), all-bits, lengths .buffer, bytes-room (g .k)))
+      → bitsRows 0 (take i (givenLayout g)) + v ≤ bitsRows 0 (givenLayout g) → Packable t q v
+  ready i v f e = ready-then v whole-room (f .packed) (f .long) (omega (arith, all-bits, lengths .buffer, bytes-room (g .k)))
 
   -- after all rows it has room for the filling bits
-  filling-bits : {t : List ℕ} {q : Pending} → FirstRows g 7 s t q → 8 * length t - bitCount (g .k) ≡ fillingCount (g .k)
+  filling-bits : {t : List ℕ} {q : Pending} → FirstRows g 8 s t q → 8 * length t - bitCount (g .k) ≡ fillingCount (g .k)
   unfolding fillingCount
   filling-bits f = rw (f .long, lengths .buffer)
 
-  pub fills : {t : List ℕ} {q : Pending} → FirstRows g 7 s t q → Fills (g .k) t q
+  pub fills : {t : List ℕ} {q : Pending} → FirstRows g 8 s t q → Fills (g .k) t q
   fills {t} f =
       let b = bytes-room (g .k) in
       let e = filling-bits f in
@@ -124,7 +115,7 @@ module _ (g : Figures) (s : List ℕ) (w : Writable g (length s)) where
       rw (codes-join g (length s) lengths, ← rows-layout g (length s) lengths) (omega (arith, pack-rows 0 (givenLayout g) (rowCodes g) (codes-shaped g)))
 
   -- with the filling bits the buffer holds the record
-  pub recorded : {t u : List ℕ} {q r : Pending} → FirstRows g 7 s t q → PackedOn t u q r (8 * length t - bitCount (g .k)) 0 → length u ≡ length t → Fit 8 u
+  pub recorded : {t u : List ℕ} {q r : Pending} → FirstRows g 8 s t q → PackedOn t u q r (8 * length t - bitCount (g .k)) 0 → length u ≡ length t → Fit 8 u
       → u ≡ recordOf (g .k) (givenFields g)
   unfolding recordOf
   recorded {t} {u} f h e fit =

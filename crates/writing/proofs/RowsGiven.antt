@@ -1,17 +1,19 @@
 -- What a writer is given, row by row: the rows' lengths, the bits and the ranges of their fields. Assumes nothing.
-use Prim.Native.Nat.{ℕ, _+_, _<_}
+use Prim.Native.Nat.{ℕ, _+_, _<_, _^_}
 use native.Mathlib.Omega.{arith}
 use mathlib.Core.Path.{_≡_, refl, ap, _∙_}
 use mathlib.Core.Bool.{Bool, true, false, _&&_, and-true}
-use mathlib.Core.List.{List, [], _∷_, map, append-nil, zipWith}
+use mathlib.Core.List.{List, [], _∷_, map, zipWith}
 use borrow.Author.Tests.{eqb-true, leb-true}
-use lib.Dec.{eqb, leb}
+use lib.Dec.{eqb, leb, lit<}
 use lib.IntN.{ℤ, pos}
 use lib.ListN.{length, length-map}
-use Rattle.rules.specs.Record.{Figures, Kind, lastYear, exposure, increment, index, reporting, weight, ulae, cells, layout, kindsOf, byteCount, codeOf, inRange, million, mostAmount, mostIndex}
+use Rattle.rules.specs.Packing.{Fit}
+use Rattle.rules.specs.Record.{Figures, Kind, lastYear, exposure, increment, index, reporting, weight, ulae, tail, cells, layout, kindsOf, byteCount, codeOf, inRange, million, mostAmount, mostIndex}
 use Rattle.rules.specs.Writing.{givenFields, givenLastYear, givenLengths, givenRanges}
 use Rattle.rules.specs.Lists.{every, between}
 use Rattle.laws.proofs.Lists.{both-left, both-right}
+use Rattle.layout.proofs.RecordSizes.{fit-between}
 use Rattle.layout.proofs.LayoutSections.{join, Shaped, mapRows, zip-join, every-join}
 use Rattle.writing.specs.Writing.{rangesOf}
 
@@ -25,6 +27,7 @@ valuesOf g =
     ∷ map pos (g .reporting)
     ∷ (pos (g .weight) ∷ [])
     ∷ map pos (g .ulae)
+    ∷ (pos (g .tail) ∷ [])
     ∷ []
 
 abbrev pub rowCodes : Figures → List (List ℕ)
@@ -36,6 +39,7 @@ rowCodes g =
     ∷ g .reporting
     ∷ (g .weight ∷ [])
     ∷ g .ulae
+    ∷ (g .tail ∷ [])
     ∷ []
 
 -- how many fields each row has, and of which kind
@@ -48,12 +52,13 @@ givenLayout g =
     ∷ (length (g .reporting), reporting)
     ∷ (1, weight)
     ∷ (length (g .ulae), ulae)
+    ∷ (1, tail)
     ∷ []
 
 -- the fields are the values, one row after another
 fields-join : (g : Figures) → givenFields g ≡ join (valuesOf g)
 unfolding givenFields
-fields-join g = rw (append-nil (map pos (g .ulae)))
+fields-join g = refl
 
 -- six tests that hold, each of them
 all-six : (a b c d e f : Bool) → a && (b && (c && (d && (e && f)))) ≡ true
@@ -83,7 +88,7 @@ pub record Lengths (g : Figures) (m : ℕ) : Type 0 where
   pub buffer : m ≡ byteCount (g .k)
   pub exposures : length (g .exposures) ≡ g .k + 1
   pub increments : length (g .increments) ≡ cells (g .k)
-  pub indices : length (g .indices) ≡ g .k
+  pub indices : length (g .indices) ≡ g .k + 1
   pub reporting : length (g .reporting) ≡ g .k + 1
   pub ulae : length (g .ulae) ≡ g .k + 1
 
@@ -92,7 +97,7 @@ unfolding givenLengths layout
 lengths-are g m h =
     let (a, b, c, d, e, f) =
     all-six (eqb m (byteCount (g .k))) (eqb (length (g .exposures)) (g .k + 1)) (eqb (length (g .increments)) (cells (g .k)))
-    (eqb (length (g .indices)) (g .k)) (eqb (length (g .reporting)) (g .k + 1)) (eqb (length (g .ulae)) (g .k + 1)) h in
+    (eqb (length (g .indices)) (g .k + 1)) (eqb (length (g .reporting)) (g .k + 1)) (eqb (length (g .ulae)) (g .k + 1)) h in
     record {
       buffer = eqb-true _ _ a;
       exposures = eqb-true _ _ b;
@@ -105,10 +110,10 @@ lengths-are g m h =
 -- the rows' own lengths
 values-shaped : (g : Figures) → Shaped (givenLayout g) (valuesOf g)
 values-shaped g =
-    (refl, (length-map (g .exposures) pos, (refl, (length-map (g .indices) pos, (length-map (g .reporting) pos, (refl, (length-map (g .ulae) pos, tt)))))))
+    (refl, (length-map (g .exposures) pos, (refl, (length-map (g .indices) pos, (length-map (g .reporting) pos, (refl, (length-map (g .ulae) pos, (refl, tt))))))))
 
 pub codes-shaped : (g : Figures) → Shaped (givenLayout g) (rowCodes g)
-codes-shaped g = (refl, (refl, (length-map (g .increments) (codeOf increment), (refl, (refl, (refl, (refl, tt)))))))
+codes-shaped g = (refl, (refl, (length-map (g .increments) (codeOf increment), (refl, (refl, (refl, (refl, (refl, tt))))))))
 
 -- the bits of a row whose kind has no sign bit are its sizes, and its range is between two limits
 module _ (κ : Kind) (e : κ .signed ≡ false) where
@@ -158,8 +163,10 @@ module _ (g : Figures) (m : ℕ) (l : Lengths g m) where
         plain-range reporting refl (g .reporting),
         plain-range weight refl (g .weight ∷ []),
         plain-range ulae refl (g .ulae),
+        plain-range tail refl (g .tail ∷ []),
         and-true (between 0 million (g .weight)),
-        and-true (every (between 0 mostAmount) (g .ulae)),
+        and-true (between 0 mostAmount (g .tail)),
+        and-true (between 0 mostAmount (g .tail)),
       )
 
 -- what question 4 says, row by row
@@ -170,11 +177,41 @@ pub record Ranges (g : Figures) : Type 0 where
   pub reporting : every (between 0 million) (g .reporting) ≡ true
   pub weight : every (between 0 million) (g .weight ∷ []) ≡ true
   pub ulae : every (between 0 mostAmount) (g .ulae) ≡ true
+  pub tail : every (between 0 mostAmount) (g .tail ∷ []) ≡ true
 
 pub ranges-hold : (g : Figures) → rangesOf g ≡ true → Ranges g
 unfolding rangesOf every
 ranges-hold g h =
     let (a, b, c, d, e, f) =
     all-six (every (between 1 million) (g .exposures)) (every (inRange increment) (g .increments)) (every (between 1 mostIndex) (g .indices))
-    (every (between 0 million) (g .reporting)) (between 0 million (g .weight)) (every (between 0 mostAmount) (g .ulae)) h in
-    record { exposures = a; increments = b; indices = c; reporting = d; weight = and-true (between 0 million (g .weight)) ∙ e; ulae = f }
+    (every (between 0 million) (g .reporting)) (between 0 million (g .weight)) (every (between 0 mostAmount) (g .ulae) && between 0 mostAmount (g .tail)) h in
+    record {
+      exposures = a;
+      increments = b;
+      indices = c;
+      reporting = d;
+      weight = and-true (between 0 million (g .weight)) ∙ e;
+      ulae = both-left (every (between 0 mostAmount) (g .ulae)) (between 0 mostAmount (g .tail)) f;
+      tail = and-true (between 0 mostAmount (g .tail)) ∙ both-right (every (between 0 mostAmount) (g .ulae)) (between 0 mostAmount (g .tail)) f;
+    }
+
+-- and so each field has no more bits than its width
+pub record Fitting (g : Figures) : Type 0 where
+  pub exposures : Fit 20 (g .exposures)
+  pub indices : Fit 23 (g .indices)
+  pub reporting : Fit 20 (g .reporting)
+  pub weight : g .weight < 2 ^ 20
+  pub ulae : Fit 34 (g .ulae)
+  pub tail : g .tail < 2 ^ 34
+
+pub ranges-fit : (g : Figures) → rangesOf g ≡ true → Fitting g
+ranges-fit g h =
+    let r = ranges-hold g h in
+    record {
+      exposures = fit-between 1 million 20 (lit< tt) (g .exposures) (r .exposures);
+      indices = fit-between 1 mostIndex 23 (lit< tt) (g .indices) (r .indices);
+      reporting = fit-between 0 million 20 (lit< tt) (g .reporting) (r .reporting);
+      weight = fit-between 0 million 20 (lit< tt) (g .weight ∷ []) (r .weight) 0;
+      ulae = fit-between 0 mostAmount 34 (lit< tt) (g .ulae) (r .ulae);
+      tail = fit-between 0 mostAmount 34 (lit< tt) (g .tail ∷ []) (r .tail) 0;
+    }

@@ -12,7 +12,8 @@ rangesOf g =
     every (between 1 million) (g .exposures)
     && (every (inRange increment) (g .increments)
     && (every (between 1 mostIndex) (g .indices)
-    && (every (between 0 million) (g .reporting) && (between 0 million (g .weight) && every (between 0 mostAmount) (g .ulae)))))
+    && (every (between 0 million) (g .reporting)
+    && (between 0 million (g .weight) && (every (between 0 mostAmount) (g .ulae) && between 0 mostAmount (g .tail))))))
 
 -- what has passed questions 1, 2 and 4, with a buffer of m bytes
 pub record Writable (g : Figures) (m : ℕ) : Type 0 where

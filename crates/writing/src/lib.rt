@@ -48,24 +48,25 @@ fn given_lengths(
 ) -> bool
     requires { ⌜ k < 16 ⌝ }
     ensures { λ r. ⌜ r ≡ eqb m (byteCount k)
-        && (eqb exposures (k + 1) && (eqb increments (cells k) && (eqb indices k && (eqb reporting (k + 1) && eqb ulae (k + 1))))) ⌝ }
+        && (eqb exposures (k + 1) && (eqb increments (cells k) && (eqb indices (k + 1) && (eqb reporting (k + 1) && eqb ulae (k + 1))))) ⌝ }
 {
+    let n = k + 1;
     if m != bytes_of(k) {
         return false;
     }
-    if exposures != k + 1 {
+    if exposures != n {
         return false;
     }
     if increments != cells_of(k) {
         return false;
     }
-    if indices != k {
+    if indices != n {
         return false;
     }
-    if reporting != k + 1 {
+    if reporting != n {
         return false;
     }
-    ulae == k + 1
+    ulae == n
 }
 
 // Whether an increment is in its range.
@@ -96,12 +97,13 @@ fn given_ranges(
     reporting: &[u64],
     weight: u64,
     ulae: &[u64],
+    tail: u64,
 ) -> bool
     ensures { λ r. ⌜ r ≡ every (between 1 million) (now (exposures .entry))
         && (every (inRange increment) (now (increments .entry))
         && (every (between 1 mostIndex) (now (indices .entry))
         && (every (between 0 million) (now (reporting .entry))
-        && (between 0 million weight && every (between 0 mostAmount) (now (ulae .entry)))))) ⌝ }
+        && (between 0 million weight && (every (between 0 mostAmount) (now (ulae .entry)) && between 0 mostAmount tail))))) ⌝ }
 {
     if !within(exposures, exposures.len(), 1, MILLION) {
         return false;
@@ -118,7 +120,10 @@ fn given_ranges(
     if weight > MILLION {
         return false;
     }
-    within(ulae, ulae.len(), 0, MOST_AMOUNT)
+    if !within(ulae, ulae.len(), 0, MOST_AMOUNT) {
+        return false;
+    }
+    tail <= MOST_AMOUNT
 }
 
 // The bits of an increment: its sign bit and 34 bits of size.
@@ -157,15 +162,16 @@ fn put_record(
     reporting: &[u64],
     weight: u64,
     ulae: &[u64],
+    tail: u64,
     buffer: &mut [u8],
 )
     requires { ⌜ Writable
-        (figures k (now exposures) (now increments) (now indices) (now reporting) weight (now ulae))
+        (figures k (now exposures) (now increments) (now indices) (now reporting) weight (now ulae) tail)
         (length (now buffer)) ⌝ }
     ensures { λ _. ⌜ now (buffer .exit)
         ≡ recordOf k
         (givenFields
-        (figures k (now (exposures .entry)) (now (increments .entry)) (now (indices .entry)) (now (reporting .entry)) weight (now (ulae .entry)))) ⌝ }
+        (figures k (now (exposures .entry)) (now (increments .entry)) (now (indices .entry)) (now (reporting .entry)) weight (now (ulae .entry)) tail)) ⌝ }
 {
     let none = Pending {
         at: 0,
@@ -179,12 +185,13 @@ fn put_record(
     let e = put_row(buffer, d, 20, reporting);
     let f = put(buffer, e, 20, weight);
     let g = put_row(buffer, f, 34, ulae);
+    let h = put(buffer, g, 34, tail);
     let end = places_of(k as usize).end;
-    put(buffer, g, 8 * buffer.len() - end, 0);
+    put(buffer, h, 8 * buffer.len() - end, 0);
 }
 
 // Fills the buffer with the record of these fields and answers 0, or leaves it and answers the number of the first of questions 1, 2, 4
-// and 5 that says no. Question 2 is asked of the buffer's length and of each list's.
+// and 5 that says no. Question 2 is asked of the buffer's length and of each list's. `tail` is the amount still to be paid for year 0 after year k.
 #[no_mangle]
 pub extern "C" fn doonamurk_write(
     k: u64,
@@ -194,15 +201,16 @@ pub extern "C" fn doonamurk_write(
     reporting: &[u64],
     weight: u64,
     ulae: &[u64],
+    tail: u64,
     buffer: &mut [u8],
 ) -> u64
     ensures { λ r. ⌜ (r
         ≡ writeAnswer
-        (figures k (now (exposures .entry)) (now (increments .entry)) (now (indices .entry)) (now (reporting .entry)) weight (now (ulae .entry)))
+        (figures k (now (exposures .entry)) (now (increments .entry)) (now (indices .entry)) (now (reporting .entry)) weight (now (ulae .entry)) tail)
         (length (now (buffer .entry))))
         × (now (buffer .exit)
         ≡ writeInto
-        (figures k (now (exposures .entry)) (now (increments .entry)) (now (indices .entry)) (now (reporting .entry)) weight (now (ulae .entry)))
+        (figures k (now (exposures .entry)) (now (increments .entry)) (now (indices .entry)) (now (reporting .entry)) weight (now (ulae .entry)) tail)
         (now (buffer .entry))) ⌝ }
 {
     if !given_last_year(k) {
@@ -219,7 +227,15 @@ pub extern "C" fn doonamurk_write(
     ) {
         return 2;
     }
-    if !given_ranges(exposures, increments, indices, reporting, weight, ulae) {
+    if !given_ranges(
+        exposures,
+        increments,
+        indices,
+        reporting,
+        weight,
+        ulae,
+        tail,
+    ) {
         return 4;
     }
     if sum_of(reporting, reporting.len()) != MILLION {
@@ -233,6 +249,7 @@ pub extern "C" fn doonamurk_write(
         reporting,
         weight,
         ulae,
+        tail,
         buffer,
     );
     ACCEPTED

@@ -69,6 +69,17 @@ fn reporting(r: &mut Random, k: usize) -> Vec<u64> {
     shares
 }
 
+/// What is still to be paid for year 0: nothing, a few units, about what one of the late payments is, or anything.
+fn still_to_pay(r: &mut Random, limits: bool, size: i64) -> i64 {
+    match r.below(6) {
+        0 | 1 => 0,
+        2 => r.between(1, 300),
+        3 => r.spread(AMOUNT_MAX as u64) as i64,
+        4 if limits => at_limit(r, 0, AMOUNT_MAX),
+        _ => size / r.between(1, 100),
+    }
+}
+
 fn increment(r: &mut Random, character: Character, k: usize, i: usize, j: usize, size: i64) -> i64 {
     let usual = size * r.between(70, 130) / 100 / (1 + j * j) as i64;
     let late = 2 * j > k;
@@ -110,13 +121,17 @@ pub fn fields(r: &mut Random, k: usize) -> Given {
         Character::Anything => r.between(1, EXPOSURE_MAX),
         _ => claims + r.between(0, claims),
     });
-    let indices = many(r, k, &|r| {
+    let mut indices = many(r, k + 1, &|r| {
         if limits {
             at_limit(r, 1, INDEX_MAX)
         } else {
             r.between(M - 200_000, M + 900_000)
         }
     });
+    if r.one_in(12) {
+        // Every later year is paid many times what year 0 is.
+        indices[0] = r.spread(100_000);
+    }
     let cost = (paid / (k as i64 + 1)).clamp(0, AMOUNT_MAX);
     let ulae = many(r, k + 1, &|r| {
         if limits {
@@ -133,11 +148,14 @@ pub fn fields(r: &mut Random, k: usize) -> Given {
         reporting: reporting(r, k),
         weight: at_limit(r, 0, M) as u64,
         ulae,
+        tail: still_to_pay(r, limits, size) as u64,
     }
 }
 
 fn answer(given: &Given) -> u64 {
-    paper::run(&pack(given), &mut [0; 489]).err().unwrap_or(0)
+    paper::run(&pack(given), &mut [0; paper::LONGEST])
+        .err()
+        .unwrap_or(0)
 }
 
 /// Fields on the way from one set to another; the reporting shares stay, for they must sum to a million.
@@ -159,6 +177,7 @@ fn between(from: &Given, to: &Given, part: u32) -> Given {
         reporting: from.reporting.clone(),
         weight: step(from.weight as i64, to.weight as i64) as u64,
         ulae: steps(&from.ulae, &to.ulae),
+        tail: step(from.tail as i64, to.tail as i64) as u64,
     }
 }
 
@@ -189,6 +208,8 @@ fn plain(r: &mut Random, k: usize) -> Given {
     a.ulae.fill_with(|| r.between(0, cost) as u64);
     a.reporting = reporting(r, k);
     a.weight = r.between(0, M) as u64;
+    let most = 1_000_000 / shrink;
+    a.tail = still_to_pay(r, false, most).min(most) as u64;
     a
 }
 
@@ -206,6 +227,11 @@ fn halves(r: &mut Random, k: usize) -> Given {
             (200 * unit, unit)
         };
         a.exposures[i] = claims as u64;
+        if i == 0 {
+            let odd = 2 * r.between(0, 50_000) + 1;
+            let amount = unit * odd + r.pick(&[-1, 0, 0, 0, 1]);
+            a.tail = amount.clamp(0, AMOUNT_MAX) as u64;
+        }
         for j in 0..=k - i {
             let paid = &mut a.increments[cell(k, i, j)];
             let odd = 2 * (*paid * claims / 200 / unit) + 1;
@@ -288,7 +314,76 @@ fn completed_edge(r: &mut Random, a: &mut Given, k: usize, past: i64) {
     a.increments[cell(k, k, 0)] = ((target + factor - 1) / factor) as i64;
 }
 
-/// An account set to a limit of this question, 6 to 14, or one past it.
+/// The average of what is still to be paid for year 0 set to S, or next to it, in steps of a unit of the amount.
+fn first_tail_edge(r: &mut Random, a: &mut Given, past: i64) {
+    // 1,000 claims have an average of S only of the largest amount, more have none.
+    let any = r.between(20, 1_000);
+    let claims = r.pick(&[100, 200, 999, 1_000, any]);
+    a.exposures[0] = claims as u64;
+    let amount = S * claims / 100 + r.pick(&[0, claims / 200]) + past;
+    a.tail = amount.min(AMOUNT_MAX) as u64;
+}
+
+/// The average that the indices carry to some year set to 5S, or next to it; those of all other years are within it.
+fn carried_tail_edge(r: &mut Random, a: &mut Given, k: usize, past: i64) {
+    let i = 1 + r.below(k);
+    let first = r.spread(INDEX_MAX as u64 / 5 - 1) as i64;
+    for index in &mut a.indices[1..] {
+        *index = r.between(1, 5 * first) as u64;
+    }
+    a.indices[0] = first as u64;
+    if r.one_in(3) {
+        // From S just 5S, or a little more or less.
+        a.indices[i] = (5 * first + past).max(1) as u64;
+        a.tail = S as u64;
+    } else {
+        let index = r.between(5 * first + 1, INDEX_MAX);
+        a.indices[i] = index as u64;
+        // The least amount that is refused; all n 100, so that it is its own average.
+        let least =
+            (i128::from(5 * S + 1) * i128::from(first) + i128::from(index) - 1) / i128::from(index);
+        a.tail = (least as i64 + past - 1).max(0) as u64;
+    }
+}
+
+/// The ultimate of some year at 10^12 or near it, by what is paid of it after the last year.
+fn tail_ultimate_edge(r: &mut Random, k: usize, past: i64) -> Given {
+    let mut a = plain(r, k);
+    let i = 1 + r.below(k);
+    a.exposures[0] = 5_000;
+    a.exposures[i] = EXPOSURE_MAX as u64;
+    a.indices.fill(M as u64);
+    // Whole hundredths a claim, so that a little more or less paid leaves the averages as they are.
+    for paid in &mut a.increments[cell(k, i, 0)..][..k + 1 - i] {
+        *paid = 10_000 * (*paid).min(400_000);
+    }
+    let mut low = a.clone();
+    low.tail = 0;
+    let mut high = a;
+    high.tail = AMOUNT_MAX as u64;
+    let [mut within, outside] = edge_between(&low, &high);
+    if answer(&within) != 0 || answer(&outside) != 11 {
+        return outside;
+    }
+    let row = &mut within.increments[cell(k, i, 0)..][..k + 1 - i];
+    let paid: i64 = row.iter().sum();
+    let mut list = [0; paper::LONGEST];
+    if paper::run(&pack(&within), &mut list).is_ok() {
+        let provisions = 2 * paper::cells(k) + 2 * k + 1;
+        let gap = ULTIMATE_MAX - paid - list[provisions + i];
+        if gap < 5_000 {
+            within.increments[cell(k, i, k - i)] += gap + past;
+            return within;
+        }
+    }
+    if past > 0 {
+        outside
+    } else {
+        within
+    }
+}
+
+/// An account set to a limit of this question, 6 to 14, 18 or 19, or one past it.
 fn set_to_edge(r: &mut Random, k: usize, question: u64) -> Given {
     let mut a = plain(r, k);
     // 0 is at the limit, 1 is past it; -1 is well within.
@@ -321,12 +416,15 @@ fn set_to_edge(r: &mut Random, k: usize, question: u64) -> Given {
         }
         10 => {
             // A level is above S just where its diagonal is above its running share; cell 0, 0 is diagonal 0 and no part of A_0.
-            let mut list = [0; 489];
+            let mut list = [0; paper::LONGEST];
             if paper::run(&pack(&a), &mut list).is_ok() {
                 let first_share = list[paper::cells(k)];
                 a.increments[0] = first_share + past;
             }
         }
+        18 => first_tail_edge(r, &mut a, past),
+        19 => carried_tail_edge(r, &mut a, k, past),
+        11 if r.one_in(2) => return tail_ultimate_edge(r, k, past),
         11 => return ultimate_edge(r, k, past),
         12 => {
             let paid: i64 = a.increments.iter().sum();
@@ -359,6 +457,7 @@ fn ultimate_edge(r: &mut Random, k: usize, past: i64) -> Given {
     let claims = r.between(40, 70) as u64 * (k as u64 + 2) / 17 + 2;
     a.exposures.fill(claims);
     a.exposures[k] = EXPOSURE_MAX as u64;
+    a.tail = r.pick(&[0, 0, 7]);
     let last = cell(k, k, 0);
     // A whole number of hundredths a claim, so that a little more or less paid leaves the average as it is.
     a.increments[last] = 10_000 * r.between(400, 9_000);
@@ -370,7 +469,7 @@ fn ultimate_edge(r: &mut Random, k: usize, past: i64) -> Given {
     if answer(&within) != 0 || answer(&outside) != 11 {
         return outside;
     }
-    let mut list = [0; 489];
+    let mut list = [0; paper::LONGEST];
     if paper::run(&pack(&within), &mut list).is_ok() {
         let provisions = 2 * paper::cells(k) + 2 * k + 1;
         let gap = ULTIMATE_MAX - within.increments[last] - list[provisions + k];
@@ -386,7 +485,7 @@ fn ultimate_edge(r: &mut Random, k: usize, past: i64) -> Given {
     }
 }
 
-/// A record at an edge of this question, 4 to 14.
+/// A record at an edge of this question, 4 to 14, 18 or 19.
 fn edge(r: &mut Random, k: usize, question: u64) -> Vec<u8> {
     match question {
         4 => {
@@ -479,7 +578,7 @@ pub fn record(r: &mut Random) -> Vec<u8> {
             pack(&edge_between(&from, &to)[side])
         }
         _ => {
-            let question = r.pick(&[4, 5, 6, 7, 8, 9, 10, 11, 12, 13, 14]);
+            let question = r.pick(&[4, 5, 6, 7, 8, 9, 10, 18, 19, 11, 12, 13, 14]);
             edge(r, k, question)
         }
     }
@@ -508,9 +607,9 @@ pub fn written(r: &mut Random) -> (Given, usize) {
         2 => &mut given.reporting,
         _ => &mut given.ulae,
     };
-    match r.below(12) {
+    match r.below(13) {
         0 => given.k = r.pick(&[0, 16, 17, 255, u64::MAX, 1 + k as u64]),
-        1 => length = r.pick(&[0, length - 1, length + 1, 790, 38]),
+        1 => length = r.pick(&[0, length - 1, length + 1, 797, 45]),
         2 => {
             if r.one_in(2) {
                 naturals.pop();
@@ -555,7 +654,8 @@ pub fn written(r: &mut Random) -> (Given, usize) {
             let place = r.below(given.reporting.len());
             given.reporting[place] = r.pick(&[0, 1, 500_000, 1_000_000]);
         }
-        8 => {
+        8 => given.tail = r.pick(&[0, 10_000_000_000, 10_000_000_001, u64::MAX]),
+        9 => {
             given.exposures.clear();
             given.increments.clear();
         }

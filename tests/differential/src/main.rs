@@ -24,19 +24,22 @@ const FAIR: u64 = 20_000;
 /// The entries on each side of what is lent.
 const GUARD: usize = 16;
 
+/// The answers of a run: no question has a number from 15 to 17.
+const ANSWERS: [usize; 17] = [0, 1, 2, 3, 4, 5, 6, 7, 8, 9, 10, 11, 12, 13, 14, 18, 19];
+
 /// How often each question said no (at 0: how often all said yes), by call.
 #[derive(Default)]
 struct Tally {
-    run: [u64; 15],
-    read: [u64; 15],
-    write: [u64; 15],
+    run: [u64; 20],
+    read: [u64; 20],
+    write: [u64; 20],
     back: u64,
 }
 
 impl Tally {
     fn print(&self) {
         println!("answer {:>12} {:>12} {:>12}", "run", "read", "write");
-        for number in 0..15 {
+        for number in ANSWERS {
             let [run, read, write] = [self.run, self.read, self.write].map(|t| t[number]);
             println!("{number:6} {run:12} {read:12} {write:12}");
         }
@@ -45,7 +48,7 @@ impl Tally {
 
     /// Every number that a call can answer has been answered.
     fn complete(&self) -> bool {
-        let run = self.run.iter().all(|&n| n > 0);
+        let run = ANSWERS.iter().all(|&n| self.run[n] > 0);
         let read = self.read[..6].iter().all(|&n| n > 0);
         let write = [0, 1, 2, 4, 5].iter().all(|&n| self.write[n] > 0);
         run && read && write && self.back > 0
@@ -73,6 +76,7 @@ fn fields(given: &Given) -> Fields<'_> {
         reporting: &given.reporting,
         weight: given.weight,
         ulae: &given.ulae,
+        tail: given.tail,
     }
 }
 
@@ -90,10 +94,11 @@ fn given(list: &[i64]) -> Given {
         k: k as u64,
         exposures: natural(take(k + 1)),
         increments: take(paper::cells(k)).to_vec(),
-        indices: natural(take(k)),
+        indices: natural(take(k + 1)),
         reporting: natural(take(k + 1)),
         weight: take(1)[0] as u64,
         ulae: natural(take(k + 1)),
+        tail: take(1)[0] as u64,
     }
 }
 
@@ -241,7 +246,7 @@ fn case(r: &mut Random, tally: &mut Tally) -> Result<(), String> {
 }
 
 fn write_records(count: u64, folder: &Path) -> std::io::Result<()> {
-    let mut results = [0; 489];
+    let mut results = [0; paper::LONGEST];
     let mut case = 0;
     for n in 0..count {
         let record = loop {
@@ -291,7 +296,7 @@ fn options(arguments: &[String]) -> Option<Options> {
 
 /// The line of a record among many.
 fn row(record: &[u8]) -> String {
-    let mut results = [0; 489];
+    let mut results = [0; paper::LONGEST];
     match paper::run(record, &mut results) {
         Ok(()) => {
             let list = &results[..paper::entries(usize::from(record[0] >> 4))];

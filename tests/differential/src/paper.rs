@@ -1,4 +1,4 @@
-//! Document 01, with request 4 of document 02, in plain Rust, written from the paper alone: the reader, the writer and the run from a record to its result list.
+//! Document 01, with requests 3 and 4 of document 02, in plain Rust, written from the paper alone: the reader, the writer and the run from a record to its result list.
 //!
 //! The differential test holds the proved engine against it, and the benchmark measures the engine beside it.
 //! Each answer is `Ok`, or `Err` with the number of the first question that says no; an `Err` leaves the lent buffer as it was.
@@ -17,6 +17,7 @@ const AMOUNT_MAX: u64 = 10_000_000_000;
 const INDEX_MAX: u64 = 5_000_000;
 const CUMULATIVE_MAX: i64 = 100_000_000_000;
 const ULTIMATE_MAX: u64 = 1_000_000_000_000;
+const TAIL_MAX: u64 = 5 * S;
 const FACTOR_MAX: u64 = 50 * M;
 
 const K_BITS: usize = 4;
@@ -33,7 +34,7 @@ pub const fn cells(k: usize) -> usize {
 
 /// The fields of a record.
 pub fn fields(k: usize) -> usize {
-    1 + (k + 1) + cells(k) + k + (k + 1) + 1 + (k + 1)
+    1 + (k + 1) + cells(k) + (k + 1) + (k + 1) + 1 + (k + 1) + 1
 }
 
 /// The bits of a record before its filling bits.
@@ -41,9 +42,9 @@ pub fn bits(k: usize) -> usize {
     K_BITS
         + (k + 1) * EXPOSURE_BITS
         + cells(k) * (SIGN_BITS + AMOUNT_BITS)
-        + k * INDEX_BITS
+        + (k + 1) * INDEX_BITS
         + (k + 2) * SHARE_BITS
-        + (k + 1) * AMOUNT_BITS
+        + (k + 2) * AMOUNT_BITS
 }
 
 /// The bytes of a record.
@@ -54,8 +55,13 @@ pub fn bytes(k: usize) -> usize {
 /// The entries of a result list.
 pub const fn entries(k: usize) -> usize {
     let future = cells(k) - (k + 1);
-    cells(k) + (k + 1) + (k + 1) + k + future + (k + 1) + 1 + (k + 1) + (k + 1) + 1 + 1 + k + future
+    let before_tails =
+        cells(k) + 2 * (k + 1) + k + future + (k + 1) + 1 + 2 * (k + 1) + 1 + 1 + k + future;
+    before_tails + (k + 1)
 }
+
+/// The entries of the longest result list.
+pub const LONGEST: usize = entries(15);
 
 /// Takes fields off a record, the most significant bit first.
 struct Bits<'a> {
@@ -101,6 +107,8 @@ struct Record {
     reporting: [u64; YEARS],
     weight: u64,
     ulae: [u64; YEARS],
+    /// What is still to be paid for year 0 after year k.
+    tail: u64,
 }
 
 /// Questions 1 and 2; answers k.
@@ -130,6 +138,7 @@ impl Record {
             reporting: [0; YEARS],
             weight: 0,
             ulae: [0; YEARS],
+            tail: 0,
         };
         let mut field = Bits { record, at: K_BITS };
         for exposure in &mut figures.exposures[..=k] {
@@ -148,7 +157,7 @@ impl Record {
                 size as i64
             };
         }
-        for index in &mut figures.indices[..k] {
+        for index in &mut figures.indices[..=k] {
             *index = field.take_within(INDEX_BITS, 1, INDEX_MAX)?;
         }
         for share in &mut figures.reporting[..=k] {
@@ -158,6 +167,7 @@ impl Record {
         for total in &mut figures.ulae[..=k] {
             *total = field.take_within(AMOUNT_BITS, 0, AMOUNT_MAX)?;
         }
+        figures.tail = field.take_within(AMOUNT_BITS, 0, AMOUNT_MAX)?;
         if figures.reporting.iter().sum::<u64>() != M {
             return Err(5);
         }
@@ -180,19 +190,21 @@ pub fn read(record: &[u8], list: &mut [i64]) -> Result<(), u64> {
     list[0] = k as i64;
     let (exposures, list) = list[1..].split_at_mut(k + 1);
     let (increments, list) = list.split_at_mut(cells(k));
-    let (indices, list) = list.split_at_mut(k);
+    let (indices, list) = list.split_at_mut(k + 1);
     let (reporting, list) = list.split_at_mut(k + 1);
     let (weight, list) = list.split_at_mut(1);
+    let (ulae, list) = list.split_at_mut(k + 1);
     plain(&figures.exposures, exposures);
     increments.copy_from_slice(&figures.increments[..cells(k)]);
     plain(&figures.indices, indices);
     plain(&figures.reporting, reporting);
     weight[0] = figures.weight as i64;
-    plain(&figures.ulae, &mut list[..=k]);
+    plain(&figures.ulae, ulae);
+    list[0] = figures.tail as i64;
     Ok(())
 }
 
-/// What a writer is given: k, the lists and the weight, of any lengths and sizes.
+/// What a writer is given: k, the lists, the weight and the amount still to be paid for year 0, of any lengths and sizes.
 #[derive(Clone, Debug, Default)]
 pub struct Given {
     pub k: u64,
@@ -202,6 +214,7 @@ pub struct Given {
     pub reporting: Vec<u64>,
     pub weight: u64,
     pub ulae: Vec<u64>,
+    pub tail: u64,
 }
 
 /// Puts fields into a record, the most significant bit first.
@@ -240,7 +253,7 @@ pub fn write(given: &Given, record: &mut [u8]) -> Result<(), u64> {
         (record.len(), bytes(k)),
         (given.exposures.len(), k + 1),
         (given.increments.len(), cells(k)),
-        (given.indices.len(), k),
+        (given.indices.len(), k + 1),
         (given.reporting.len(), k + 1),
         (given.ulae.len(), k + 1),
     ];
@@ -256,7 +269,8 @@ pub fn write(given: &Given, record: &mut [u8]) -> Result<(), u64> {
         && within(&given.indices, 1, INDEX_MAX)
         && within(&given.reporting, 0, M)
         && given.weight <= M
-        && within(&given.ulae, 0, AMOUNT_MAX);
+        && within(&given.ulae, 0, AMOUNT_MAX)
+        && given.tail <= AMOUNT_MAX;
     if !in_range {
         return Err(4);
     }
@@ -287,6 +301,7 @@ pub fn write(given: &Given, record: &mut [u8]) -> Result<(), u64> {
     for &total in &given.ulae {
         packer.put(AMOUNT_BITS, total);
     }
+    packer.put(AMOUNT_BITS, given.tail);
     packer.fill();
     Ok(())
 }
@@ -304,7 +319,26 @@ fn average(increment: i64, exposure: u64) -> i64 {
     }
 }
 
-/// The result list as it grows; it is worked out in the order in which it is listed.
+/// What is paid of each origin year after year k: questions 18 and 19.
+fn tail_payments(figures: &Record) -> Result<[u64; YEARS], u64> {
+    let first = average(figures.tail as i64, figures.exposures[0]) as u64;
+    if first > S {
+        return Err(18);
+    }
+    // e_1 stands at place 0, so year i has e_{i+1} beside its exposure.
+    let years = figures.exposures.iter().zip(&figures.indices);
+    let mut tails = [0; YEARS];
+    for (tail, (exposure, index)) in tails[..=figures.k].iter_mut().zip(years) {
+        let unit = first * index / figures.indices[0];
+        if unit > TAIL_MAX {
+            return Err(19);
+        }
+        *tail = exposure * unit / 100;
+    }
+    Ok(tails)
+}
+
+/// The result list as it grows; it is worked out in the order in which it is listed, but for the tail payments, which end it.
 struct List<'a, const ROOM: usize> {
     entries: &'a mut [i64; ROOM],
     len: usize,
@@ -325,7 +359,7 @@ impl<const ROOM: usize> List<'_, ROOM> {
     }
 }
 
-/// Runs from a record to its result list: questions 1 to 14.
+/// Runs from a record to its result list: questions 1 to 14, and 18 and 19 before 11.
 pub fn run(record: &[u8], results: &mut [i64]) -> Result<(), u64> {
     let k = last_year(record)?;
     if results.len() < entries(k) {
@@ -338,7 +372,7 @@ pub fn run(record: &[u8], results: &mut [i64]) -> Result<(), u64> {
         1..=2 => fill::<{ entries(2) }>(&figures, results),
         3..=5 => fill::<{ entries(5) }>(&figures, results),
         6..=9 => fill::<{ entries(9) }>(&figures, results),
-        _ => fill::<{ entries(15) }>(&figures, results),
+        _ => fill::<LONGEST>(&figures, results),
     }
 }
 
@@ -350,7 +384,7 @@ fn fill<const ROOM: usize>(figures: &Record, results: &mut [i64]) -> Result<(), 
     Ok(())
 }
 
-/// Questions 6 to 14, and the list where all say yes.
+/// The questions from 6 on, and the list where all say yes.
 fn work_out<const ROOM: usize>(figures: &Record, entries: &mut [i64; ROOM]) -> Result<(), u64> {
     let k = figures.k;
     let mut list = List { entries, len: 0 };
@@ -424,7 +458,8 @@ fn work_out<const ROOM: usize>(figures: &Record, entries: &mut [i64; ROOM]) -> R
     }
     list.extend(&future[..k]);
 
-    let mut provisions = [0; YEARS];
+    let tails = tail_payments(figures)?;
+    let mut provisions = tails;
     let mut ultimates = [0; YEARS];
     for i in 0..=k {
         let after = &shares[k - i + 1..=k];
@@ -486,5 +521,6 @@ fn work_out<const ROOM: usize>(figures: &Record, entries: &mut [i64; ROOM]) -> R
             list.push(cumulative as i64);
         }
     }
+    list.extend(&tails[..=k]);
     Ok(())
 }

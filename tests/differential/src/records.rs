@@ -27,15 +27,16 @@ pub fn set_bits(record: &mut [u8], at: usize, width: usize, value: u64) {
 }
 
 /// The rows of a record: first bit, width and how many fields, in their order.
-pub fn rows(k: usize) -> [(usize, usize, usize); 7] {
+pub fn rows(k: usize) -> [(usize, usize, usize); 8] {
     let mut rows = [
         (0, 4, 1),
         (0, 20, k + 1),
         (0, 35, paper::cells(k)),
-        (0, 23, k),
+        (0, 23, k + 1),
         (0, 20, k + 1),
         (0, 20, 1),
         (0, 34, k + 1),
+        (0, 34, 1),
     ];
     let mut at = 0;
     for row in &mut rows {
@@ -45,7 +46,7 @@ pub fn rows(k: usize) -> [(usize, usize, usize); 7] {
     rows
 }
 
-/// A plain account of k + 1 years that is accepted: payments fall with the development year, and rise with the payment year.
+/// A plain account of k + 1 years that is accepted: payments fall with the development year, rise with the payment year, and go on after the last.
 pub fn account(k: usize) -> Given {
     let mut increments = Vec::with_capacity(paper::cells(k));
     for i in 0..=k {
@@ -59,10 +60,11 @@ pub fn account(k: usize) -> Given {
         k: k as u64,
         exposures: (0..=k as u64).map(|i| 18_000 + 411 * i).collect(),
         increments,
-        indices: (1..=k as u64).map(|t| 1_000_000 + 31_000 * t).collect(),
+        indices: (1..=k as u64 + 1).map(|t| 1_000_000 + 31_000 * t).collect(),
         reporting,
         weight: 450_000,
         ulae: (0..=k as u64).map(|t| 210_000 + 9_000 * t).collect(),
+        tail: 2_700_000,
     }
 }
 
@@ -70,13 +72,13 @@ pub fn account(k: usize) -> Given {
 /// `None` where the change does not bring that answer about: 3 never, for it is asked of the buffer, and others for some k.
 pub fn refused(k: usize, question: u64) -> Option<Vec<u8>> {
     let record = changed(k, question)?;
-    let answer = paper::run(&record, &mut [0; 489]);
+    let answer = paper::run(&record, &mut [0; paper::LONGEST]);
     (answer == Err(question)).then_some(record)
 }
 
 fn changed(k: usize, question: u64) -> Option<Vec<u8>> {
     let mut a = account(k);
-    let [.., (shares, width, count), _, (totals, size, years)] = rows(k);
+    let [.., (shares, width, count), _, _, (tail, size, _)] = rows(k);
     match question {
         // The first four bits say that k is 0.
         1 => {
@@ -96,12 +98,7 @@ fn changed(k: usize, question: u64) -> Option<Vec<u8>> {
         }
         4 => {
             let mut record = pack(&a);
-            set_bits(
-                &mut record,
-                totals + size * (years - 1),
-                size,
-                10_000_000_001,
-            );
+            set_bits(&mut record, tail, size, 10_000_000_001);
             return Some(record);
         }
         5 => {
@@ -129,6 +126,17 @@ fn changed(k: usize, question: u64) -> Option<Vec<u8>> {
             a.exposures.fill(100);
             (1..=k).for_each(|i| a.increments[cell(k, i, 0)] = 1);
             a.increments[cell(k, 0, 0)] = 500_000_000;
+        }
+        // The largest amount over few claims.
+        18 => {
+            a.exposures[0] = 900;
+            a.tail = 10_000_000_000;
+        }
+        // A hundredfold in the last year alone.
+        19 => {
+            a.indices.fill(50_000);
+            a.indices[k] = 5_000_000;
+            a.tail = 10_000_000_000;
         }
         // The last year has few increments and many claims, at the averages of the others.
         11 => {

@@ -11,10 +11,10 @@ use Rattle.amounts_table.proofs.put_amounts_lines.Statement.{statement}
 use Rattle.amounts_table.proofs.put_amounts_lines.Tie as tie
 
 abbrev Inv-loop : tie.InvT-loop
-Inv-loop out₀ at list paid ladder p q r n end₀ i₀ out end i = (i ≤ n) × Put out₀ out at end (joined (upTo (amountsLine list paid ladder p q r) i))
+Inv-loop out₀ at list paid ladder p t q r n end₀ i₀ out end i = (i ≤ n) × Put out₀ out at end (joined (upTo (amountsLine list paid ladder p t q r) i))
 
 abbrev μ-loop : tie.MeasureT-loop
-μ-loop out₀ at list paid ladder p q r n end₀ i₀ out end i = n - i
+μ-loop out₀ at list paid ladder p t q r n end₀ i₀ out end i = n - i
 
 loop-holds : tie.Need-loop-holds Inv-loop μ-loop
 loop-holds c = (omega arith, put-first _ _ _)
@@ -23,14 +23,14 @@ put-amounts-line-requires : tie.Need-put-amounts-line-requires Inv-loop μ-loop
 put-amounts-line-requires c κs =
     let s = c .before .before .before .before .before .before in
     let i = c .before .before .before .before .loop .i in
-    (omega arith, (omega arith, (omega arith, (omega (arith, s .pre .1 .1 .1 .1 .0 i), omega (arith, s .pre .1 .1 .1 .1 .1 i)))))
+    (omega arith, (omega arith, (omega arith, (omega arith, (omega (arith, s .pre .1 .1 .1 .1 .1 .0 i), omega (arith, s .pre .1 .1 .1 .1 .1 .1 i))))))
 
 loop-again : tie.Need-loop-again Inv-loop μ-loop
 unfolding amountsLine
 loop-again c =
     let l = c .before .before .before .before .before .before .before .loop in
     let s = c .before .before .before .before .before .before .before .before .before .args in
-    (omega arith, put-more (amountsLine (s .list .now) (s .paid .now) (s .ladder .now) (s .p) (s .q) (s .r)) (l .i) (l .inv .1) (c .before .before .put-amounts-line .ensures))
+    (omega arith, put-more (amountsLine (s .list .now) (s .paid .now) (s .ladder .now) (s .p) (s .t) (s .q) (s .r)) (l .i) (l .inv .1) (c .before .before .put-amounts-line .ensures))
 
 same-length : tie.Need-same-length Inv-loop μ-loop
 same-length c = put-length (c .before .loop .inv .1)
@@ -48,6 +48,7 @@ put-amounts-lines-spec =
     Inv-loop
     μ-loop
     loop-holds
+    (λ c. search needs)
     (λ c. search needs)
     (λ c. search needs)
     (λ c. search needs)

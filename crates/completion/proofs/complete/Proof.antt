@@ -2,7 +2,7 @@
 use mathlib.Core.Path.{_≡_, refl, sym}
 use mathlib.Core.Bool.{Bool, true, false}
 use mathlib.Core.List.{List}
-use Prim.Native.Nat.{ℕ, _+_, _-_, _≤_, _<_}
+use Prim.Native.Nat.{ℕ, _+_, _-_, _*_, _≤_, _<_}
 use native.Mathlib.Nat.{zero-add}
 use native.Mathlib.Numerals.{add-one}
 use native.Mathlib.Omega.{arith}
@@ -17,19 +17,19 @@ use Rattle.laws.proofs.Lists.{length-upTo, every-next, fails-at}
 use Rattle.laws.proofs.Padded.{filled-at}
 use Rattle.laws.proofs.Joined.{sets-append, sets-more, joined-more, future-length, future-room}
 use Rattle.entries.proofs.Leading.{asked-all, asked-stop}
-use Rattle.completion.specs.Asked.{rowsAsked}
+use Rattle.completion.specs.Asked.{mostPayment, rowsAsked}
 use Rattle.completion.proofs.complete.Statement.{statement}
 use Rattle.completion.proofs.complete.Tie as tie
 
 -- question 11 of row i
-abbrev passes : ℕ → List ℕ → List ℕ → List ℕ → List ℕ → ℕ → Bool
-passes k n r l c i = leb (ultimate c (padded 16 0 (provisions k n r l)) i) mostUltimate
+abbrev passes : ℕ → List ℕ → List ℕ → List ℕ → List ℕ → List ℕ → ℕ → Bool
+passes k n r l z c i = leb (ultimate c (padded 16 0 (provisions k n r l z)) i) mostUltimate
 
 module _ (k : ℕ) (n r l : List ℕ) where
   -- the ultimate that is asked about
-  ultimate-is : (c : List ℕ) (i : ℕ) → i < k + 1 → ultimate c (padded 16 0 (provisions k n r l)) i ≡ getD c i 0 + provision k n r l i
+  ultimate-is : (z c : List ℕ) (i : ℕ) → i < k + 1 → ultimate c (padded 16 0 (provisions k n r l z)) i ≡ getD c i 0 + provision k n r l z i
   unfolding ultimate provisions
-  ultimate-is c i h = rw (filled-at 16 0 (provision k n r l) (k + 1) i 0 h)
+  ultimate-is z c i h = rw (filled-at 16 0 (provision k n r l z) (k + 1) i 0 h)
 
   -- row i has i payments
   row-size : (i : ℕ) → length (paymentRow k n r l i) ≡ i
@@ -45,15 +45,15 @@ module _ (k : ℕ) (n r l : List ℕ) where
       (sets-append rows (paymentRow k n r l i) all 0 (futureStart i) (omega (arith, future-length (paymentRow k n r l) row-size i)))
 
 abbrev Inv-loop : tie.InvT-loop
-Inv-loop k exposures shares levels paid payments₀ sums₀ at₀ n i₀ payments sums at i =
+Inv-loop k exposures shares levels tails paid payments₀ sums₀ at₀ n i₀ payments sums at i =
     (i ≤ n)
     × ((at ≡ futureStart i)
-    × ((every (passes k exposures shares levels paid) (below i) ≡ true)
+    × ((every (passes k exposures shares levels tails paid) (below i) ≡ true)
     × ((payments ≡ sets payments₀ 0 (joined (upTo (paymentRow k exposures shares levels) i)))
-    × (sums ≡ sets sums₀ 0 (upTo (provision k exposures shares levels) i)))))
+    × (sums ≡ sets sums₀ 0 (upTo (provision k exposures shares levels tails) i)))))
 
 abbrev μ-loop : tie.MeasureT-loop
-μ-loop k exposures shares levels paid payments₀ sums₀ at₀ n i₀ payments sums at i = n - i
+μ-loop k exposures shares levels tails paid payments₀ sums₀ at₀ n i₀ payments sums at i = n - i
 
 add-n : tie.Need-add-n Inv-loop μ-loop
 add-n c = omega arith
@@ -69,6 +69,19 @@ room c = rw (c .before .loop .inv .1 .0) (future-room (c .before .loop .i) (omeg
 put-row-requires : tie.Need-put-row-requires Inv-loop μ-loop
 put-row-requires c κs = (c .before .before .before .pre .0, (omega arith, room (c .before)))
 
+mul-sum : tie.Need-mul-sum Inv-loop μ-loop
+mul-sum c = omega arith
+
+element-copy-out-sum : tie.Need-element-copy-out-sum Inv-loop μ-loop
+element-copy-out-sum c = omega arith
+
+-- a provision is of at most fifteen payments and a tail payment
+sum-most : (c : tie.After-sum Inv-loop μ-loop) → c .before .put-row .result + getD (c .before .before .before .before .before .args .tails .now) (c .before .before .before .before .loop .i) 0 ≤ 16 * mostPayment
+sum-most c = omega (arith, c .before .before .before .before .before .pre .1 .0 (c .before .before .before .before .loop .i), c .before .put-row .ensures .1 .0)
+
+add-sum : tie.Need-add-sum Inv-loop μ-loop
+add-sum c = omega (arith, sum-most c)
+
 mul-sums : tie.Need-mul-sums Inv-loop μ-loop
 mul-sums c = omega arith
 
@@ -82,52 +95,55 @@ element-copy-out-if1 : tie.Need-element-copy-out-if1 Inv-loop μ-loop
 element-copy-out-if1 c = omega arith
 
 add-if1 : tie.Need-add-if1 Inv-loop μ-loop
-add-if1 c = omega (arith, c .before .before .before .before .before .pre .1 (c .before .before .before .before .loop .i), c .before .put-row .ensures .1 .0)
+add-if1 c = omega (arith, c .before .before .before .before .before .before .pre .1 .1 (c .before .before .before .before .before .loop .i), sum-most (c .before))
 
 -- row i is stored, and so is its sum
 row-done : (c : tie.After-if12 Inv-loop μ-loop) →
-    let s = c .before .before .before .before .before in
-    let t = c .before .before .before .before .loop in
+    let s = c .before .before .before .before .before .before in
+    let t = c .before .before .before .before .before .loop in
     let row = paymentRow (s .args .k) (s .args .exposures .now) (s .args .shares .now) (s .args .levels .now) in
-    let sum = provision (s .args .k) (s .args .exposures .now) (s .args .shares .now) (s .args .levels .now) in
-    (c .before .put-row .last .0 ≡ sets (s .args .payments .now) 0 (joined (upTo row (t .i + 1))))
-    × (set (t .sums) (t .i) (c .before .put-row .result) ≡ sets (s .args .sums .now) 0 (upTo sum (t .i + 1)))
+    let sum = provision (s .args .k) (s .args .exposures .now) (s .args .shares .now) (s .args .levels .now) (s .args .tails .now) in
+    (c .before .before .put-row .last .0 ≡ sets (s .args .payments .now) 0 (joined (upTo row (t .i + 1))))
+    × (set (t .sums) (t .i) (c .before .before .put-row .result + getD (s .args .tails .now) (t .i) 0) ≡ sets (s .args .sums .now) 0 (upTo sum (t .i + 1)))
+unfolding provision
 row-done c =
-    let s = c .before .before .before .before .before in
-    let t = c .before .before .before .before .loop in
+    let s = c .before .before .before .before .before .before in
+    let t = c .before .before .before .before .before .loop in
     let k = s .args .k in
     let n = s .args .exposures .now in
     let r = s .args .shares .now in
     let l = s .args .levels .now in
-    let made = c .before .put-row .ensures in (
+    let z = s .args .tails .now in
+    let made = c .before .before .put-row .ensures in (
       rw (made .1 .1, t .inv .1 .0, t .inv .1 .1 .1 .0) (row-stored k n r l (s .args .payments .now) (t .i)),
-      rw (made .0, t .inv .1 .1 .1 .1) (rw (zero-add (t .i)) at (sets-more (provision k n r l) (s .args .sums .now) 0 (t .i))),
+      rw (made .0, t .inv .1 .1 .1 .1) (rw (zero-add (t .i)) at (sets-more (provision k n r l z) (s .args .sums .now) 0 (t .i))),
     )
 
 -- what question 11 asks of row i
 asks-is : (c : tie.After-if12 Inv-loop μ-loop) →
-    let s = c .before .before .before .before .before in
-    let t = c .before .before .before .before .loop in
-    ultimate (s .args .paid .now) (padded 16 0 (provisions (s .args .k) (s .args .exposures .now) (s .args .shares .now) (s .args .levels .now))) (t .i)
-    ≡ getD (s .args .paid .now) (t .i) 0 + c .before .put-row .result
+    let s = c .before .before .before .before .before .before in
+    let t = c .before .before .before .before .before .loop in
+    ultimate (s .args .paid .now) (padded 16 0 (provisions (s .args .k) (s .args .exposures .now) (s .args .shares .now) (s .args .levels .now) (s .args .tails .now))) (t .i)
+    ≡ getD (s .args .paid .now) (t .i) 0 + (c .before .before .put-row .result + getD (s .args .tails .now) (t .i) 0)
+unfolding provision
 asks-is c =
-    let s = c .before .before .before .before .before in
-    let t = c .before .before .before .before .loop in
-    rw (c .before .put-row .ensures .0) (ultimate-is (s .args .k) (s .args .exposures .now) (s .args .shares .now) (s .args .levels .now) (s .args .paid .now) (t .i) (omega arith))
+    let s = c .before .before .before .before .before .before in
+    let t = c .before .before .before .before .before .loop in
+    rw (c .before .before .put-row .ensures .0) (ultimate-is (s .args .k) (s .args .exposures .now) (s .args .shares .now) (s .args .levels .now) (s .args .tails .now) (s .args .paid .now) (t .i) (omega arith))
 
 returns : tie.Need-returns Inv-loop μ-loop
 unfolding ultimatesPass rowsAsked
 returns c =
-    let s = c .before .before .before .before .before .before in
-    let t = c .before .before .before .before .before .loop in
-    let p = passes (s .args .k) (s .args .exposures .now) (s .args .shares .now) (s .args .levels .now) (s .args .paid .now) in
-    let sum = getD (s .args .paid .now) (t .i) 0 + c .before .before .put-row .result in
+    let s = c .before .before .before .before .before .before .before in
+    let t = c .before .before .before .before .before .before .loop in
+    let p = passes (s .args .k) (s .args .exposures .now) (s .args .shares .now) (s .args .levels .now) (s .args .tails .now) (s .args .paid .now) in
+    let sum = getD (s .args .paid .now) (t .i) 0 + (c .before .before .before .put-row .result + getD (s .args .tails .now) (t .i) 0) in
     let failed : p (t .i) ≡ false = rw (asks-is (c .before)) (lt-leb sum mostUltimate (omega arith)) in
     let count = asked-stop p (s .args .k + 1) (t .i) (omega arith) (t .inv .1 .1 .0) failed in
     (sym (fails-at p (λ (j : ℕ). j) (s .args .k + 1) (t .i) (omega arith) failed), rw count (row-done (c .before)))
 
 add-at : tie.Need-add-at Inv-loop μ-loop
-add-at c = omega (arith, room (c .before .before .before .before))
+add-at c = omega (arith, room (c .before .before .before .before .before))
 
 add-i : tie.Need-add-i Inv-loop μ-loop
 add-i c = omega arith
@@ -138,10 +154,10 @@ loop-less c = omega arith
 loop-again : tie.Need-loop-again Inv-loop μ-loop
 unfolding futureStart
 loop-again c =
-    let s = c .before .before .before .before .before .before in
-    let t = c .before .before .before .before .before .loop in
-    let p = passes (s .args .k) (s .args .exposures .now) (s .args .shares .now) (s .args .levels .now) (s .args .paid .now) in
-    let sum = getD (s .args .paid .now) (t .i) 0 + c .before .before .put-row .result in
+    let s = c .before .before .before .before .before .before .before in
+    let t = c .before .before .before .before .before .before .loop in
+    let p = passes (s .args .k) (s .args .exposures .now) (s .args .shares .now) (s .args .levels .now) (s .args .tails .now) (s .args .paid .now) in
+    let sum = getD (s .args .paid .now) (t .i) 0 + (c .before .before .before .put-row .result + getD (s .args .tails .now) (t .i) 0) in
     let passed : p (t .i) ≡ true = rw (asks-is (c .before)) (le-leb sum mostUltimate (omega arith)) in
     (omega arith, (rw (add-one (t .i), t .inv .1 .0), (every-next p (λ (j : ℕ). j) (t .i) (t .inv .1 .1 .0) passed, row-done (c .before))))
 
@@ -151,7 +167,7 @@ returns-2 c =
     let s = c .before .before in
     let t = c .before .loop in
     let e : t .i ≡ s .args .k + 1 = omega arith in
-    let p = passes (s .args .k) (s .args .exposures .now) (s .args .shares .now) (s .args .levels .now) (s .args .paid .now) in
+    let p = passes (s .args .k) (s .args .exposures .now) (s .args .shares .now) (s .args .levels .now) (s .args .tails .now) (s .args .paid .now) in
     let passed : every p (below (s .args .k + 1)) ≡ true = rw e at (t .inv .1 .1 .0) in
     (sym passed, rw (asked-all p (s .args .k + 1) passed, ← e) (t .inv .1 .1 .1))
 
@@ -164,6 +180,9 @@ complete-spec =
     add-n
     loop-holds
     put-row-requires
+    mul-sum
+    element-copy-out-sum
+    add-sum
     mul-sums
     element-write-sums
     mul-if1

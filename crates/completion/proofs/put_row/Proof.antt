@@ -7,7 +7,7 @@ use native.Mathlib.Omega.{arith}
 use lib.ListN.{getD}
 use lib.Seq.{sets}
 use Rattle.rules.specs.Lists.{total, upTo}
-use Rattle.rules.specs.Completion.{paymentOf, payment, paymentRow, provision}
+use Rattle.rules.specs.Completion.{paymentOf, payment, paymentRow}
 use Rattle.laws.proofs.Totals.{total-more}
 use Rattle.laws.proofs.Joined.{sets-more}
 use Rattle.completion.specs.Asked.{mostPayment}
@@ -108,7 +108,7 @@ loop-again c =
     )
 
 returns : tie.Need-returns Inv-loop μ-loop
-unfolding provision paymentRow
+unfolding paymentRow
 returns c =
     let e : c .before .loop .m ≡ c .before .before .before .args .i = omega arith in
     (rw e at (c .before .loop .inv .1 .1 .0), (omega arith, rw e at (c .before .loop .inv .1 .1 .1)))

@@ -12,8 +12,8 @@ use Rattle.rules.specs.Completion.{ultimatesPass}
 use Rattle.rules.specs.Expense.{paidTotal, ulaeTotal, ratioPass}
 use Rattle.rules.specs.Ladder.{developed, base, factorsPass, completedAll, completedPass}
 use Rattle.rules.specs.Results.{paidIn, provisionsIn, developmentIn}
-use Rattle.rules.specs.Engine.{completionQuestions, ratioQuestions, ladderQuestions, laterQuestions}
-use Rattle.engine.specs.Stages.{Separated}
+use Rattle.rules.specs.Engine.{completionQuestions, ratioQuestions, ladderQuestions, lastQuestions}
+use Rattle.engine.specs.Stages.{Separated, Tailed}
 use Rattle.engine.proofs.RunQuestions.{one-no, one-yes, refused, accepted, first-refused, later}
 use Rattle.engine.proofs.Later as stage
 use Rattle.engine.proofs.Later.{Worked}
@@ -23,11 +23,14 @@ use Rattle.engine.proofs.finish.Tie as tie
 -- the figures, and what was shown of them before
 abbrev F : tie.Start → Figures
 F s =
-    figures (s .args .k) (s .args .exposures .now) (s .args .increments .now) (s .args .indices .now) (s .args .reporting .now) (s .args .weight) (s .args .ulae .now)
+    figures (s .args .k) (s .args .exposures .now) (s .args .increments .now) (s .args .indices .now) (s .args .reporting .now) (s .args .weight) (s .args .ulae .now) (s .args .tail)
 
 separated : (s : tie.Start)
     → Separated (F s) (s .args .square .now) (s .args .sums .now) (s .args .paid .now) (s .args .shares .now) (s .args .levels .now)
 separated s = s .pre .0
+
+tailed : (s : tie.Start) → Tailed (F s) (s .args .tails .now)
+tailed s = s .pre .1 .0
 
 add-n : tie.Need-add-n
 add-n c = search needs
@@ -49,7 +52,7 @@ complete-requires c κs =
     let filled = c .before .before .before in
     let s = filled .before .before .before in
     let h = separated s in
-    (stage.completable (F s) _ _ _ _ _ h _ (filled .fill-levels .ensures), stage.paid-fits (F s) _ _ _ _ _ h)
+    (stage.completable (F s) _ _ _ _ _ h _ (filled .fill-levels .ensures), (stage.tails-fit (F s) _ _ _ _ _ h _ (tailed s), stage.paid-fits (F s) _ _ _ _ _ h))
 
 -- question 11
 abbrev start1 : tie.After-complete → tie.Start
@@ -58,13 +61,13 @@ start1 c = c .before .before .before .before .before .before .before
 eleven : (c : tie.After-complete) → c .complete .result ≡ ultimatesPass (F (start1 c) .k) (paidIn (F (start1 c))) (provisionsIn (F (start1 c)))
 eleven c =
     let filled = c .before .before .before .before in
-    c .complete .ensures .0 ∙ stage.eleven-is (F (start1 c)) _ _ _ _ _ (separated (start1 c)) _ (filled .fill-levels .ensures)
+    c .complete .ensures .0 ∙ stage.eleven-is (F (start1 c)) _ _ _ _ _ (separated (start1 c)) _ (filled .fill-levels .ensures) _ (tailed (start1 c))
 
 yes-eleven : (c : tie.Else1) → ultimatesPass (F (start1 (c .before)) .k) (paidIn (F (start1 (c .before)))) (provisionsIn (F (start1 (c .before)))) ≡ true
 yes-eleven c = sym (eleven (c .before)) ∙ not-false (c .before .complete .result) (c .if1 .left)
 
 returns : tie.Need-returns
-unfolding laterQuestions completionQuestions
+unfolding lastQuestions completionQuestions
 returns c =
     let s = start1 (c .before) in
     let no = sym (eleven (c .before)) ∙ not-true (c .before .complete .result) (c .if1 .taken) in
@@ -104,7 +107,7 @@ yes-twelve : (c : tie.Else2) →
 yes-twelve c = sym (twelve (c .before)) ∙ not-false (c .before .ratio-passes .result) (c .if2 .left)
 
 returns-2 : tie.Need-returns-2
-unfolding laterQuestions completionQuestions ratioQuestions every
+unfolding lastQuestions completionQuestions ratioQuestions every
 returns-2 c =
     let s = start2 (c .before) in
     let f = F s in
@@ -134,7 +137,7 @@ yes-thirteen : (c : tie.Else3) →
 yes-thirteen c = sym (thirteen (c .before)) ∙ not-false (c .before .development-factors .result) (c .if3 .left)
 
 returns-3 : tie.Need-returns-3
-unfolding laterQuestions completionQuestions ratioQuestions ladderQuestions every
+unfolding lastQuestions completionQuestions ratioQuestions ladderQuestions every
 returns-3 c =
     let at = c .before in
     let s = start3 at in
@@ -177,7 +180,7 @@ yes-fourteen : (c : tie.Else4) →
 yes-fourteen c = sym (fourteen (c .before)) ∙ not-false (c .before .complete2 .result) (c .if4 .left)
 
 returns-4 : tie.Need-returns-4
-unfolding laterQuestions completionQuestions ratioQuestions ladderQuestions every
+unfolding lastQuestions completionQuestions ratioQuestions ladderQuestions every
 returns-4 c =
     let at = c .before in
     let s = start4 at in
@@ -211,7 +214,7 @@ start5 c = start4 (else4 c .before)
 work : (c : tie.After-ratio-of) →
     let three = else3 (else4 c .before) in
     let one = else1 (else2 (three .before) .before) in
-    Worked (F (start5 c)) (one .before .before .before .before .before .fill-levels .last .1 .1 .1 .0) (one .before .complete .last .1 .1 .1 .1 .1 .0) (one .before .complete .last .1 .1 .1 .1 .1 .1 .0) (c .ratio-of .result)
+    Worked (F (start5 c)) (one .before .before .before .before .before .fill-levels .last .1 .1 .1 .0) (one .before .complete .last .1 .1 .1 .1 .1 .1 .0) (one .before .complete .last .1 .1 .1 .1 .1 .1 .1 .0) (c .ratio-of .result)
     (three .before .development-factors .last .1 .1 .1 .0) (else4 c .before .complete2 .last .1 .1 .1 .0)
 work c =
     let last = else4 c .before in
@@ -225,8 +228,8 @@ work c =
     let sums = two .before .before in
     stage.worked f (yes-eleven one) (yes-twelve two) (yes-thirteen three) (yes-fourteen (else4 c))
     (stage.ahead-is f _ _ _ _ _ h _ filled)
-    (stage.payments-are f _ _ _ _ _ h _ filled (yes-eleven one) _ (one .before .complete .ensures .1 .0))
-    (stage.provisions-are f _ _ _ _ _ h _ filled (yes-eleven one) _ (one .before .complete .ensures .1 .1))
+    (stage.payments-are f _ _ _ _ _ h _ filled _ (tailed (start5 c)) (yes-eleven one) _ (one .before .complete .ensures .1 .0))
+    (stage.provisions-are f _ _ _ _ _ h _ filled _ (tailed (start5 c)) (yes-eleven one) _ (one .before .complete .ensures .1 .1))
     (c .ratio-of .ensures ∙ stage.ratio-is f _ _ _ _ _ h _ _ (sums .before .before .sum-of .ensures) (sums .sum-of2 .ensures))
     factors
     (stage.completed-are f _ _ _ _ _ h (yes-thirteen three) _ _ factors (yes-fourteen (else4 c)) (last .complete2 .ensures .1))
@@ -235,13 +238,13 @@ put-results-requires : tie.Need-put-results-requires
 put-results-requires c κs =
     let at = c .before .before in
     let s = start5 at in
-    (stage.printable (F s) _ _ _ _ _ (separated s) _ _ _ _ _ _ (work at), s .pre .1)
+    (stage.printable (F s) _ _ _ _ _ (separated s) _ _ _ _ _ _ (work at) _ (tailed s), s .pre .1 .1)
 
 same-length : tie.Need-same-length
 same-length c = search needs
 
 returns-5 : tie.Need-returns-5
-unfolding laterQuestions completionQuestions ratioQuestions ladderQuestions every
+unfolding lastQuestions completionQuestions ratioQuestions ladderQuestions every
 returns-5 c =
     let put = c .before in
     let at = put .before .before .before in
@@ -254,7 +257,7 @@ returns-5 c =
     (later f out (ratioQuestions f) _ left 0 refl (one-yes 12 _ (w .twelve))
     (later f out ((13, _) ∷ []) _ left 0 refl (one-yes 13 _ (w .thirteen))
     (accepted f out ((14, _) ∷ []) left (one-yes 14 _ (w .fourteen))
-    (put .put-results .ensures ∙ ap (sets out 0) (stage.printed-is f _ _ _ _ _ (separated s) _ _ _ _ _ _ w)))))
+    (put .put-results .ensures ∙ ap (sets out 0) (stage.printed-is f _ _ _ _ _ (separated s) _ _ _ _ _ _ w _ (tailed s))))))
 
 pub finish-spec : {M : Type 1} → statement M
 finish-spec =

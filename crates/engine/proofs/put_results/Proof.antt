@@ -11,7 +11,7 @@ use denote.Ref.{now}
 use Rattle.rules.specs.Lists.{total, upTo, joined}
 use Rattle.rules.specs.Record.{cells}
 use Rattle.rules.specs.Expense.{notReported, reserve}
-use Rattle.rules.specs.Results.{separationSections, completionSections, reserveSections, ladderSections}
+use Rattle.rules.specs.Results.{separationSections, completionSections, reserveSections, ladderSections, tailSections}
 use Rattle.laws.proofs.Lists.{length-upTo}
 use Rattle.laws.proofs.TriangleRows.{cells-least}
 use Rattle.laws.proofs.Joined.{sets-append, joined-both}
@@ -56,8 +56,8 @@ put-reserves-requires c κs =
     let k = s .args .k in
     (s .pre .0 .reserves, omega (arith, first .put-separation .ensures .0, second .put-completion .ensures .0, results-count k, cells-least k, s .pre .1))
 
-put-ladder-requires : tie.Need-put-ladder-requires
-put-ladder-requires c κs =
+put-last-requires : tie.Need-put-last-requires
+put-last-requires c κs =
     let third = c .before .before in
     let second = third .before .before .before in
     let first = second .before .before .before in
@@ -67,7 +67,7 @@ put-ladder-requires c κs =
       p .few,
       (
         omega (arith, first .put-separation .ensures .0, second .put-completion .ensures .0, third .put-reserves .ensures .0, results-count k, cells-least k, s .pre .1),
-        (p .factors, p .completed),
+        (p .factors, (p .completed, p .tails)),
       ),
     )
 
@@ -88,12 +88,12 @@ returns c =
     let q = now (s .args .provisions) in
     let rest = upTo (notReported k b d q) (k + 1) in
     let amounts = upTo (reserve k (s .args .ratio) (s .args .weight) b d q) (k + 1) in
-    rw (last .put-ladder .ensures .1, third .put-reserves .ensures .1, second .put-completion .ensures .1 .1, first .put-separation .ensures .1 .1)
+    rw (last .put-last .ensures .1, third .put-reserves .ensures .1, second .put-completion .ensures .1 .1, first .put-separation .ensures .1 .1)
     (four-runs
     (separationSections k (now (s .args .square)) (take (k + 1) (now (s .args .shares))) (take (k + 1) (now (s .args .levels))))
     (completionSections (take k (now (s .args .ahead))) (take (cells k - (k + 1)) (now (s .args .payments))) (take (k + 1) q))
     (reserveSections rest amounts (s .args .ratio))
-    (ladderSections (take k (now (s .args .factors))) (take (cells k - (k + 1)) (now (s .args .completed))))
+    (ladderSections (take k (now (s .args .factors))) (take (cells k - (k + 1)) (now (s .args .completed))) ++ tailSections (take (k + 1) (now (s .args .tails))))
     (now (s .args .out))
     (first .put-separation .ensures .1 .0) (second .put-completion .ensures .1 .0)
     (omega (arith, third .put-reserves .ensures .0, reserves-length k rest amounts (s .args .ratio) (length-upTo _ (k + 1)) (length-upTo _ (k + 1)))))
@@ -105,6 +105,6 @@ put-results-spec =
     put-separation-requires
     put-completion-requires
     put-reserves-requires
-    put-ladder-requires
+    put-last-requires
     same-length
     returns)

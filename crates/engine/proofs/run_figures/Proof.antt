@@ -1,4 +1,4 @@
--- Question 6, the separation and what follows it are asked in turn, and each answer is that of a segment of the questions. Assumes nothing.
+-- Question 6, the separation, the tail and what follows it are asked in turn, and each answer is that of a segment of the questions. Assumes nothing.
 use borrow.Author.Needs.{needs}
 use borrow.Author.Tests.{not-true, not-false}
 use native.Mathlib.Omega.{arith}
@@ -9,18 +9,20 @@ use Rattle.rules.specs.Lists.{every}
 use Rattle.rules.specs.Record.{figures, Figures}
 use Rattle.rules.specs.Triangle.{cumulativesPass}
 use Rattle.rules.specs.Separation.{separationQuestions, separateAnswer}
-use Rattle.rules.specs.Results.{squareOf}
+use Rattle.rules.specs.Tail.{tailQuestions}
+use Rattle.rules.specs.Results.{squareOf, firstTailAverageOf}
 use Rattle.rules.specs.declared.Factors.{Factors}
-use Rattle.rules.specs.Engine.{figureQuestions, laterQuestions}
+use Rattle.rules.specs.Engine.{figureQuestions, lastQuestions, laterQuestions}
 use Rattle.engine.proofs.RunQuestions.{one-no, one-yes, first-refused, later}
 use Rattle.separation.specs.Walk.{Summed}
+use Rattle.engine.specs.Stages.{Tailed}
 use Rattle.engine.proofs.Before as stage
 use Rattle.engine.proofs.run_figures.Statement.{statement}
 use Rattle.engine.proofs.run_figures.Tie as tie
 
 abbrev F : tie.Start → Figures
 F s =
-    figures (s .args .k) (s .args .exposures .now) (s .args .increments .now) (s .args .indices .now) (s .args .reporting .now) (s .args .weight) (s .args .ulae .now)
+    figures (s .args .k) (s .args .exposures .now) (s .args .increments .now) (s .args .indices .now) (s .args .reporting .now) (s .args .weight) (s .args .ulae .now) (s .args .tail)
 
 fill-rows-requires : tie.Need-fill-rows-requires
 fill-rows-requires c κs =
@@ -86,9 +88,45 @@ accepted-is : (c : tie.Else2) →
     separateAnswer (squareOf (F s)) (F s .k) ≡ 0
 accepted-is c = sym (answer-is (separate2 c)) ∙ c .if2 .left
 
+-- questions 18 and 19
+carry-tail-requires : tie.Need-carry-tail-requires
+carry-tail-requires c κs =
+    let s = start1 (separate2 (c .before) .before .before .before .before) in
+    let good = s .pre .0 in
+    record {
+      years = record { few = good .few; exposures = good .exposures-most; firstIndex = good .firstIndex; indices = good .indices };
+      tail = good .tail;
+      claims = good .exposures 0 (omega arith) .0;
+    }
+
+returns-3 : tie.Need-returns-3
+unfolding figureQuestions laterQuestions firstTailAverageOf separateAnswer separationQuestions every
+returns-3 c =
+    let carried = c .before in
+    let two = carried .before .before in
+    let six = separate2 two .before .before .before in
+    let s = start1 (six .before) in
+    let f = F s in
+    let out = s .args .out .now in
+    let n = carried .carry-tail .result in
+    later f out ((6, _) ∷ []) _ out n refl (one-yes 6 _ (yes-six six))
+    (later f out (separationQuestions (squareOf f) (f .k)) (laterQuestions f) out n refl (accepted-is two)
+    (first-refused f out (tailQuestions (f .k) (firstTailAverageOf f) (f .indices)) (lastQuestions f) n (sym (carried .carry-tail .ensures .0)) (c .if3 .taken)))
+
+-- the tail is carried on
+tailed-is : (c : tie.Else3) →
+    let s = start1 (separate2 (c .before .before .before) .before .before .before .before) in
+    Tailed (F s) (c .before .carry-tail .last .1 .1 .1 .1 .0)
+unfolding firstTailAverageOf
+tailed-is c =
+    let carried = c .before in
+    let s = start1 (separate2 (carried .before .before) .before .before .before .before) in
+    stage.tails-are (F s) (s .pre .0 .few) _ (carried .carry-tail .ensures .1) (sym (carried .carry-tail .ensures .0) ∙ c .if3 .left)
+
 finish-requires : tie.Need-finish-requires
 finish-requires c κs =
-    let two = c .before .before .before .before .before .before .before .before in
+    let three = c .before .before .before .before .before .before .before .before .before in
+    let two = three .before .before .before in
     let at = separate2 two in
     let six = at .before .before .before in
     let rows = six .before .fill-rows in
@@ -105,23 +143,25 @@ finish-requires c κs =
         shares = ap (λ (g : Factors). g .shares) factors;
         levels = ap (λ (g : Factors). g .levels) factors;
       },
-      s .pre .1,
+      (tailed-is three, s .pre .1),
     )
 
 same-length : tie.Need-same-length
 same-length c = search needs
 
-returns-3 : tie.Need-returns-3
-unfolding figureQuestions separateAnswer separationQuestions every
-returns-3 c =
+returns-4 : tie.Need-returns-4
+unfolding figureQuestions laterQuestions separateAnswer separationQuestions tailQuestions every
+returns-4 c =
     let call = c .before in
-    let two = call .before .before .before .before .before .before .before .before .before in
+    let three = call .before .before .before .before .before .before .before .before .before .before in
+    let two = three .before .before .before in
     let six = separate2 two .before .before .before in
     let s = start1 (six .before) in
     let f = F s in
     let out = s .args .out .now in
     later f out ((6, _) ∷ []) _ _ _ refl (one-yes 6 _ (yes-six six))
-    (later f out (separationQuestions (squareOf f) (f .k)) (laterQuestions f) _ _ refl (accepted-is two) (call .finish .ensures))
+    (later f out (separationQuestions (squareOf f) (f .k)) (laterQuestions f) _ _ refl (accepted-is two)
+    (later f out (tailQuestions (f .k) (firstTailAverageOf f) (f .indices)) (lastQuestions f) _ _ refl (tailed-is three .passed) (call .finish .ensures)))
 
 pub run-figures-spec : {M : Type 1} → statement M
 run-figures-spec =
@@ -131,6 +171,8 @@ run-figures-spec =
     returns
     separate-totals-requires
     returns-2
+    carry-tail-requires
+    returns-3
     finish-requires
     same-length
-    returns-3)
+    returns-4)

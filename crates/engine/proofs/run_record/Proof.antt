@@ -42,14 +42,14 @@ last-year-of-requires c κs =
 
 figures-read : (c : tie.After-last-year-of) →
     let at = c .before .before .before in
-    figures (c .last-year-of .result) (at .read .last .1 .0) (at .read .last .1 .1 .0) (at .read .last .1 .1 .1 .0) (at .read .last .1 .1 .1 .1 .0) (at .read .result .weight) (at .read .last .1 .1 .1 .1 .1 .0)
+    figures (c .last-year-of .result) (at .read .last .1 .0) (at .read .last .1 .1 .0) (at .read .last .1 .1 .1 .0) (at .read .last .1 .1 .1 .1 .0) (at .read .result .weight) (at .read .last .1 .1 .1 .1 .1 .0) (at .read .result .tail)
     ≡ figuresOf (start at .args .packed .now)
 figures-read c =
     let at = c .before .before .before in
     let s = start at in
     let packed = s .args .packed .now in
     let e = at .read .ensures .1 in
-    figures-are packed (figures-filled packed (bytes at) (s .pre .0) (yes-fields (c .before))) _ _ _ _ _ _ _ (c .last-year-of .ensures .0) (e .1 .0) (e .1 .1 .0) (e .1 .1 .1 .0) (e .1 .1 .1 .1 .0) (e .0) (e .1 .1 .1 .1 .1)
+    figures-are packed (figures-filled packed (bytes at) (s .pre .0) (yes-fields (c .before))) _ _ _ _ _ _ _ _ (c .last-year-of .ensures .0) (e .1 .0) (e .1 .1 .0) (e .1 .1 .1 .0) (e .1 .1 .1 .1 .0) (e .0) (e .1 .1 .1 .1 .1 .0) (e .1 .1 .1 .1 .1 .1)
 
 run-figures-requires : tie.Need-run-figures-requires
 run-figures-requires c κs =

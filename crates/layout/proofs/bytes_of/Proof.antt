@@ -1,4 +1,4 @@
--- The end of the places is the bits of the record, at most 6313. Assumes nothing.
+-- The end of the places is the bits of the record, at most 6370. Assumes nothing.
 use mathlib.Core.Path.{ap}
 use native.Mathlib.Omega.{arith}
 use borrow.Author.Needs.{needs}

@@ -11,11 +11,11 @@ use Rattle.layout.proofs.places_of.Statement.{statement}
 use Rattle.layout.proofs.places_of.Tie as tie
 
 -- numbers that are the places, one by one, make the places
-of-places : {n a b d e f g : ℕ} (k : ℕ)
-    → n ≡ cells k → a ≡ startOf k 2 → b ≡ startOf k 3 → d ≡ startOf k 4 → e ≡ startOf k 5 → f ≡ startOf k 6 → g ≡ bitCount k
-    → _≡_ {A = Places} (record { cells = n; increments = a; indices = b; reporting = d; weight = e; ulae = f; end = g }) (placesOf k)
+of-places : {n a b d e f g h : ℕ} (k : ℕ)
+    → n ≡ cells k → a ≡ startOf k 2 → b ≡ startOf k 3 → d ≡ startOf k 4 → e ≡ startOf k 5 → f ≡ startOf k 6 → g ≡ startOf k 7 → h ≡ bitCount k
+    → _≡_ {A = Places} (record { cells = n; increments = a; indices = b; reporting = d; weight = e; ulae = f; tail = g; end = h }) (placesOf k)
 unfolding placesOf
-of-places k p q r s t u v = rw (p, q, r, s, t, u, v)
+of-places k p q r s t u v w = rw (p, q, r, s, t, u, v, w)
 
 cells-of-requires : tie.Need-cells-of-requires
 cells-of-requires c κs = search needs
@@ -31,6 +31,9 @@ mul-indices c = search needs
 
 add-indices : tie.Need-add-indices
 add-indices c = search needs
+
+add-reporting-2 : tie.Need-add-reporting-2
+add-reporting-2 c = search needs
 
 mul-reporting : tie.Need-mul-reporting
 mul-reporting c = search needs
@@ -50,19 +53,22 @@ add-weight-2 c = search needs
 add-ulae : tie.Need-add-ulae
 add-ulae c = search needs
 
+add-tail : tie.Need-add-tail
+add-tail c = search needs
+
+mul-tail : tie.Need-mul-tail
+mul-tail c = search needs
+
+add-tail-2 : tie.Need-add-tail-2
+add-tail-2 c = search needs
+
 add-end : tie.Need-add-end
 add-end c = search needs
-
-mul-end : tie.Need-mul-end
-mul-end c = search needs
-
-add-end-2 : tie.Need-add-end-2
-add-end-2 c = search needs
 
 returns : tie.Need-returns
 returns c =
     let s = starts (c .before .args .k) in
-    of-places (c .before .args .k) (c .cells-of .ensures .0) (omega arith) (omega arith) (omega arith) (omega arith) (omega arith) (omega arith)
+    of-places (c .before .args .k) (c .cells-of .ensures .0) (omega arith) (omega arith) (omega arith) (omega arith) (omega arith) (omega arith) (omega arith)
 
 pub places-of-spec : {M : Type 1} → statement M
 places-of-spec =
@@ -73,13 +79,15 @@ places-of-spec =
     add-increments
     mul-indices
     add-indices
-    mul-reporting
     add-reporting
+    mul-reporting
+    add-reporting-2
     add-weight
     mul-weight
     add-weight-2
     add-ulae
+    add-tail
+    mul-tail
+    add-tail-2
     add-end
-    mul-end
-    add-end-2
     returns)

@@ -2,7 +2,7 @@
 use native.Mathlib.Omega.{arith}
 use Prim.Native.Nat.{ℕ}
 use mathlib.Core.Path.{_≡_}
-use Rattle.rules.specs.Results.{shareSection, levelSection, futureLevelSection, paymentSection, provisionSection, provisionTotalSection, notReportedSection, reserveSection, reserveTotalSection, ratioSection, factorSection, completedSection, sectionStart}
+use Rattle.rules.specs.Results.{shareSection, levelSection, futureLevelSection, paymentSection, provisionSection, provisionTotalSection, notReportedSection, reserveSection, reserveTotalSection, ratioSection, factorSection, completedSection, tailSection, sectionStart}
 use Rattle.laws.proofs.TriangleRows.{cells-least}
 use Rattle.listing.specs.declared.Starts.{Starts}
 use Rattle.listing.specs.Starts.{startsOf}
@@ -12,8 +12,8 @@ use Rattle.listing.proofs.starts_of.Statement.{statement}
 use Rattle.listing.proofs.starts_of.Tie as tie
 
 -- starts that are those of the sections
-of-starts : {a b d e f g h i j l m n : ℕ} (k : ℕ) → a ≡ sectionStart k shareSection → b ≡ sectionStart k levelSection → d ≡ sectionStart k futureLevelSection → e ≡ sectionStart k paymentSection → f ≡ sectionStart k provisionSection → g ≡ sectionStart k provisionTotalSection
-    → h ≡ sectionStart k notReportedSection → i ≡ sectionStart k reserveSection → j ≡ sectionStart k reserveTotalSection → l ≡ sectionStart k ratioSection → m ≡ sectionStart k factorSection → n ≡ sectionStart k completedSection
+of-starts : {a b d e f g h i j l m n o : ℕ} (k : ℕ) → a ≡ sectionStart k shareSection → b ≡ sectionStart k levelSection → d ≡ sectionStart k futureLevelSection → e ≡ sectionStart k paymentSection → f ≡ sectionStart k provisionSection → g ≡ sectionStart k provisionTotalSection
+    → h ≡ sectionStart k notReportedSection → i ≡ sectionStart k reserveSection → j ≡ sectionStart k reserveTotalSection → l ≡ sectionStart k ratioSection → m ≡ sectionStart k factorSection → n ≡ sectionStart k completedSection → o ≡ sectionStart k tailSection
     → _≡_ {A = Starts}
     (record {
       shares = a;
@@ -28,10 +28,11 @@ of-starts : {a b d e f g h i j l m n : ℕ} (k : ℕ) → a ≡ sectionStart k s
       ratio = l;
       factors = m;
       completed = n;
+      tails = o;
     })
     (startsOf k)
 unfolding startsOf
-of-starts k p1 p2 p3 p4 p5 p6 p7 p8 p9 p10 p11 p12 = rw (p1, p2, p3, p4, p5, p6, p7, p8, p9, p10, p11, p12)
+of-starts k p1 p2 p3 p4 p5 p6 p7 p8 p9 p10 p11 p12 p13 = rw (p1, p2, p3, p4, p5, p6, p7, p8, p9, p10, p11, p12, p13)
 
 add-n : tie.Need-add-n
 add-n c = search needs
@@ -75,6 +76,9 @@ add-factors c = search needs
 add-completed : tie.Need-add-completed
 add-completed c = search needs
 
+add-tails : tie.Need-add-tails
+add-tails c = search needs
+
 returns : tie.Need-returns
 returns c =
     let k = c .before .args .k in
@@ -82,7 +86,7 @@ returns c =
     let first = c .cells-of .ensures .0 in
     let least = cells-least k in
     of-starts k (omega arith) (omega arith) (omega arith) (omega arith) (omega arith) (omega arith) (omega arith) (omega arith) (omega arith) (omega arith)
-    (omega arith) (omega arith)
+    (omega arith) (omega arith) (omega arith)
 
 pub starts-of-spec : {M : Type 1} → statement M
 starts-of-spec =
@@ -102,4 +106,5 @@ starts-of-spec =
     add-ratio
     add-factors
     add-completed
+    add-tails
     returns)

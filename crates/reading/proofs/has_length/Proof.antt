@@ -1,4 +1,4 @@
--- `reading::has_length` meets its contract: the end of the places is the bits of the record, of which there are at most 6313. Assumes nothing.
+-- `reading::has_length` meets its contract: the end of the places is the bits of the record, of which there are at most 6370. Assumes nothing.
 use mathlib.Core.Path.{_≡_}
 use mathlib.Core.Bool.{false}
 use mathlib.Core.List.{List}

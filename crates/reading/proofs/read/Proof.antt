@@ -65,6 +65,12 @@ else-5 c = c .before .before .before
 abbrev at-6 : tie.Else6 → tie.After-places-of
 at-6 c = at-5 (else-5 c)
 
+abbrev else-6 : tie.Else7 → tie.Else6
+else-6 c = c .before .before
+
+abbrev at-7 : tie.Else7 → tie.After-places-of
+at-7 c = at-6 (else-6 c)
+
 -- the record has passed questions 1 and 2
 is-whole : (c : tie.After-places-of) → WholeRecord (bytes c)
 is-whole c = whole-record (bytes c) (λ i. omega (arith, c .before .before .shared-slice-known .given i)) (c .before .before .before .pre)
@@ -129,28 +135,14 @@ yes-4 c =
     passed-more (bytes (at-4 c)) 4 (yes-3 (call .before .before)) (fits-4 call ∙ not-false (call .fill-row3 .result) (c .if4 .left))
 
 -- the weight, where it is in range and where it is not
+in-5 : (c : tie.Else5) → (fits (bytes (at-5 c)) 5 ≡ true) × (c .before .field .result ≡ getD (rowRead (bytes (at-5 c)) 5) 0 0)
+in-5 c = one-in (places (at-5 c) .weight) 20 (rows-found (at-5 c) .weight) (yes-4 (else-4 c)) (c .before .field .ensures) (c .if5 .left)
+
+out-5 : (c : tie.Then5) → (fits (bytes (at-4 (c .before .before))) 5 ≡ false) × (0 ≡ getD (rowRead (bytes (at-4 (c .before .before))) 5) 0 0)
+out-5 c = one-out (places (at-4 (c .before .before)) .weight) 20 (rows-found (at-4 (c .before .before)) .weight) (yes-4 (c .before .before)) (c .before .field .ensures) (c .if5 .taken)
+
 yes-5 : (c : tie.Else5) → Passed (bytes (at-5 c)) 6
-yes-5 c =
-    let s = bytes (at-5 c) in
-    let at = places (at-5 c) .weight in
-    passed-more s 5 (yes-4 (else-4 c)) (rows-found (at-5 c) .weight .same ∙ one-in s at 20 million (c .before .field .result) (c .before .field .ensures) (c .if5 .left) .0)
-
-filled-5 : (c : tie.Else5) → c .before .field .result ≡ getD (rowRead (bytes (at-5 c)) 5) 0 0
-filled-5 c =
-    let s = bytes (at-5 c) in
-    let at = places (at-5 c) .weight in
-    rw (rows-found (at-5 c) .weight .read (yes-4 (else-4 c))) (sym (one-in s at 20 million (c .before .field .result) (c .before .field .ensures) (c .if5 .left) .1))
-
-no-5 : (c : tie.Then5) → fits (bytes (at-4 (c .before .before))) 5 ≡ false
-no-5 c =
-    let p = at-4 (c .before .before) in
-    rows-found p .weight .same ∙ one-out (bytes p) (places p .weight) 20 million (c .before .field .result) (c .before .field .ensures) (c .if5 .taken) .0
-
-none-5 : (c : tie.Then5) → 0 ≡ getD (rowRead (bytes (at-4 (c .before .before))) 5) 0 0
-none-5 c =
-    let p = at-4 (c .before .before) in
-    rw (rows-found p .weight .read (yes-4 (c .before .before)))
-    (sym (one-out (bytes p) (places p .weight) 20 million (c .before .field .result) (c .before .field .ensures) (c .if5 .taken) .1))
+yes-5 c = passed-more (bytes (at-5 c)) 5 (yes-4 (else-4 c)) (in-5 c .0)
 
 -- the ULAE totals: whether they are in range, and their array
 fits-6 : (c : tie.After-fill-row4) → fits (bytes (at-5 (c .before .before))) 6 ≡ c .fill-row4 .result
@@ -165,6 +157,16 @@ yes-6 c =
     let call = c .before in
     passed-more (bytes (at-6 c)) 6 (yes-5 (call .before .before)) (fits-6 call ∙ not-false (call .fill-row4 .result) (c .if6 .left))
 
+-- the amount still to be paid, where it is in range and where it is not
+in-7 : (c : tie.Else7) → (fits (bytes (at-7 c)) 7 ≡ true) × (c .before .field2 .result ≡ getD (rowRead (bytes (at-7 c)) 7) 0 0)
+in-7 c = one-in (places (at-7 c) .tail) 34 (rows-found (at-7 c) .tail) (yes-6 (else-6 c)) (c .before .field2 .ensures) (c .if7 .left)
+
+out-7 : (c : tie.Then7) → (fits (bytes (at-6 (c .before .before))) 7 ≡ false) × (0 ≡ getD (rowRead (bytes (at-6 (c .before .before))) 7) 0 0)
+out-7 c = one-out (places (at-6 (c .before .before)) .tail) 34 (rows-found (at-6 (c .before .before)) .tail) (yes-6 (c .before .before)) (c .before .field2 .ensures) (c .if7 .taken)
+
+yes-7 : (c : tie.Else7) → Passed (bytes (at-7 c)) 8
+yes-7 c = passed-more (bytes (at-7 c)) 7 (yes-6 (else-6 c)) (in-7 c .0)
+
 last-year-of-requires : tie.Need-last-year-of-requires
 last-year-of-requires c κs = years-known (c .before .args .s .now) (opening-yes (c .before .args .s .now) (c .before .pre) .0) .0
 
@@ -175,7 +177,7 @@ add-n : tie.Need-add-n
 add-n c = search needs
 
 fill-row-requires : tie.Need-fill-row-requires
-fill-row-requires c κs = (rows-within (c .before) .exposures, omega (arith, c .before .before .last-year-of .ensures .1))
+fill-row-requires c κs = let rows = rows-within (c .before) in search needs
 
 returns : tie.Need-returns
 returns c =
@@ -186,12 +188,12 @@ returns c =
       answer-4 s (out-of-range s (is-whole at) 1 (omega arith) no),
       (
         rw (not-read s 5 1 (omega arith) no),
-        (filled-1 call, (rw (not-read s 2 1 (omega arith) no), (rw (not-read s 3 1 (omega arith) no), (rw (not-read s 4 1 (omega arith) no), rw (not-read s 6 1 (omega arith) no))))),
+        (filled-1 call, (rw (not-read s 2 1 (omega arith) no), (rw (not-read s 3 1 (omega arith) no), (rw (not-read s 4 1 (omega arith) no), (rw (not-read s 6 1 (omega arith) no), rw (not-read s 7 1 (omega arith) no)))))),
       ),
     )
 
 fill-increments-requires : tie.Need-fill-increments-requires
-fill-increments-requires c κs = let rows = rows-within (at-1 (c .before)) in (rows .increments, rows .few)
+fill-increments-requires c κs = let rows = rows-within (at-1 (c .before)) in search needs
 
 returns-2 : tie.Need-returns-2
 returns-2 c =
@@ -203,12 +205,12 @@ returns-2 c =
       answer-4 s (out-of-range s (is-whole at) 2 (omega arith) no),
       (
         rw (not-read s 5 2 (omega arith) no),
-        (filled-1 (e1 .before), (filled-2 call, (rw (not-read s 3 2 (omega arith) no), (rw (not-read s 4 2 (omega arith) no), rw (not-read s 6 2 (omega arith) no))))),
+        (filled-1 (e1 .before), (filled-2 call, (rw (not-read s 3 2 (omega arith) no), (rw (not-read s 4 2 (omega arith) no), (rw (not-read s 6 2 (omega arith) no), rw (not-read s 7 2 (omega arith) no)))))),
       ),
     )
 
 fill-row-requires-2 : tie.Need-fill-row-requires-2
-fill-row-requires-2 c κs = (rows-within (at-2 (c .before)) .indices, omega (arith, at-2 (c .before) .before .last-year-of .ensures .1))
+fill-row-requires-2 c κs = let rows = rows-within (at-2 (c .before)) in search needs
 
 returns-3 : tie.Need-returns-3
 returns-3 c =
@@ -221,12 +223,12 @@ returns-3 c =
       answer-4 s (out-of-range s (is-whole at) 3 (omega arith) no),
       (
         rw (not-read s 5 3 (omega arith) no),
-        (filled-1 (e1 .before), (filled-2 (e2 .before), (filled-3 call, (rw (not-read s 4 3 (omega arith) no), rw (not-read s 6 3 (omega arith) no))))),
+        (filled-1 (e1 .before), (filled-2 (e2 .before), (filled-3 call, (rw (not-read s 4 3 (omega arith) no), (rw (not-read s 6 3 (omega arith) no), rw (not-read s 7 3 (omega arith) no)))))),
       ),
     )
 
 fill-row-requires-3 : tie.Need-fill-row-requires-3
-fill-row-requires-3 c κs = (rows-within (at-3 (c .before)) .reporting, omega (arith, at-3 (c .before) .before .last-year-of .ensures .1))
+fill-row-requires-3 c κs = let rows = rows-within (at-3 (c .before)) in search needs
 
 returns-4 : tie.Need-returns-4
 returns-4 c =
@@ -240,14 +242,12 @@ returns-4 c =
       answer-4 s (out-of-range s (is-whole at) 4 (omega arith) no),
       (
         rw (not-read s 5 4 (omega arith) no),
-        (filled-1 (e1 .before), (filled-2 (e2 .before), (filled-3 (e3 .before), (filled-4 call, rw (not-read s 6 4 (omega arith) no))))),
+        (filled-1 (e1 .before), (filled-2 (e2 .before), (filled-3 (e3 .before), (filled-4 call, (rw (not-read s 6 4 (omega arith) no), rw (not-read s 7 4 (omega arith) no)))))),
       ),
     )
 
 field-requires : tie.Need-field-requires
-field-requires c κs =
-    let row = rows-within (at-4 c) .weight in
-    record { some = row .some; narrow = row .narrow; word = row .word; short = row .short; inside = row .inside }
+field-requires c κs = let rows = rows-within (at-4 c) in search needs
 
 returns-5 : tie.Need-returns-5
 returns-5 c =
@@ -258,16 +258,16 @@ returns-5 c =
     let e1 = else-1 e2 in
     let at = at-1 e1 in
     let s = bytes at in
-    let no = no-5 c in (
+    let no = out-5 c .0 in (
       answer-4 s (out-of-range s (is-whole at) 5 (omega arith) no),
       (
-        none-5 c,
-        (filled-1 (e1 .before), (filled-2 (e2 .before), (filled-3 (e3 .before), (filled-4 (e4 .before), rw (not-read s 6 5 (omega arith) no))))),
+        out-5 c .1,
+        (filled-1 (e1 .before), (filled-2 (e2 .before), (filled-3 (e3 .before), (filled-4 (e4 .before), (rw (not-read s 6 5 (omega arith) no), rw (not-read s 7 5 (omega arith) no)))))),
       ),
     )
 
 fill-row-requires-4 : tie.Need-fill-row-requires-4
-fill-row-requires-4 c κs = (rows-within (at-5 (c .before)) .ulae, omega (arith, at-5 (c .before) .before .last-year-of .ensures .1))
+fill-row-requires-4 c κs = let rows = rows-within (at-5 (c .before)) in search needs
 
 returns-6 : tie.Need-returns-6
 returns-6 c =
@@ -282,8 +282,29 @@ returns-6 c =
     let no = fits-6 call ∙ not-true (call .fill-row4 .result) (c .if6 .taken) in (
       answer-4 s (out-of-range s (is-whole at) 6 (omega arith) no),
       (
-        filled-5 e5,
-        (filled-1 (e1 .before), (filled-2 (e2 .before), (filled-3 (e3 .before), (filled-4 (e4 .before), filled-6 call)))),
+        in-5 e5 .1,
+        (filled-1 (e1 .before), (filled-2 (e2 .before), (filled-3 (e3 .before), (filled-4 (e4 .before), (filled-6 call, rw (not-read s 7 6 (omega arith) no)))))),
+      ),
+    )
+
+field-requires-2 : tie.Need-field-requires-2
+field-requires-2 c κs = let rows = rows-within (at-6 c) in search needs
+
+returns-7 : tie.Need-returns-7
+returns-7 c =
+    let call = c .before in
+    let e6 = call .before in
+    let e5 = else-5 e6 in
+    let e4 = else-4 e5 in
+    let e3 = else-3 e4 in
+    let e2 = else-2 e3 in
+    let e1 = else-1 e2 in
+    let at = at-1 e1 in
+    let s = bytes at in (
+      answer-4 s (out-of-range s (is-whole at) 7 (omega arith) (out-7 c .0)),
+      (
+        in-5 e5 .1,
+        (filled-1 (e1 .before), (filled-2 (e2 .before), (filled-3 (e3 .before), (filled-4 (e4 .before), (filled-6 (e6 .before), out-7 c .1))))),
       ),
     )
 
@@ -295,54 +316,36 @@ in-range : (c : tie.Else4) → every (between 0 million) (shares-row (at-4 c)) �
 in-range c = sym (c .before .fill-row3 .ensures .0) ∙ not-false (c .before .fill-row3 .result) (c .if4 .left)
 
 abbrev shares-array : tie.After-sum-of-arg2 → List ℕ
-shares-array c = else-4 (else-5 (c .before .before)) .before .fill-row3 .last .1 .1 .1 .1 .1 .1 .0
+shares-array c = else-4 (else-5 (else-6 (c .before .before))) .before .fill-row3 .last .1 .1 .1 .1 .1 .1 .0
 
-shares : (c : tie.After-sum-of-arg2) → take (last-year (at-6 (c .before .before)) + 1) (shares-array c) ≡ shares-row (at-6 (c .before .before))
+shares : (c : tie.After-sum-of-arg2) → take (last-year (at-7 (c .before .before)) + 1) (shares-array c) ≡ shares-row (at-7 (c .before .before))
 shares c =
-    let p = at-6 (c .before .before) in
-    let e4 = else-4 (else-5 (c .before .before)) in
+    let p = at-7 (c .before .before) in
+    let e4 = else-4 (else-5 (else-6 (c .before .before))) in
     row-stored (bytes p) (places p .reporting) 20 (last-year p + 1) 0 million (p .before .before .before .args .reporting .now) (shares-array c)
     (e4 .before .fill-row3 .ensures .1) (omega (arith, c .sum-of-arg2 .given .0, p .before .last-year-of .ensures .1)) (in-range e4)
 
-sum-asked : (c : tie.After-sum-of) → sharesSum (bytes (at-6 (c .before .before .before))) ≡ eqb (c .sum-of .result) million
+sum-asked : (c : tie.After-sum-of) → sharesSum (bytes (at-7 (c .before .before .before))) ≡ eqb (c .sum-of .result) million
 sum-asked c =
-    let p = at-6 (c .before .before .before) in
+    let p = at-7 (c .before .before .before) in
     sum-at (is-whole p) (last-year p) (places p) (p .before .last-year-of .ensures .0) (p .places-of .ensures)
     ∙ ap (λ (n : ℕ). eqb n million) (ap total (sym (shares (c .before))) ∙ sym (c .sum-of .ensures))
 
 sum-of-requires : tie.Need-sum-of-requires
 sum-of-requires c κs =
-    let p = at-6 (c .before .before) in
+    let p = at-7 (c .before .before) in
     let few = p .before .last-year-of .ensures .1 in (
       omega (arith, c .sum-of-arg2 .given .0),
       (
         omega arith,
-        λ i h. omega (arith, stored-most 0 million (last-year p + 1) (shares-array c) (shares-row p) (shares c) (in-range (else-4 (else-5 (c .before .before)))) i h),
-      ),
-    )
-
-returns-7 : tie.Need-returns-7
-returns-7 c =
-    let e6 = c .before .before .before .before in
-    let e5 = else-5 e6 in
-    let e4 = else-4 e5 in
-    let e3 = else-3 e4 in
-    let e2 = else-2 e3 in
-    let e1 = else-1 e2 in
-    let s = bytes (at-1 e1) in
-    let answer =
-    answer-5 s (in-ranges s (is-whole (at-1 e1)) (yes-6 e6))
-    (sum-asked (c .before) ∙ ne-eqb (c .before .sum-of .result) million (c .if7 .taken)) in (
-      answer,
-      (
-        filled-5 e5,
-        (filled-1 (e1 .before), (filled-2 (e2 .before), (filled-3 (e3 .before), (filled-4 (e4 .before), filled-6 (e6 .before))))),
+        λ i h. omega (arith, stored-most 0 million (last-year p + 1) (shares-array c) (shares-row p) (shares c) (in-range (else-4 (else-5 (else-6 (c .before .before))))) i h),
       ),
     )
 
 returns-8 : tie.Need-returns-8
 returns-8 c =
-    let e6 = c .before .before .before .before in
+    let e7 = c .before .before .before .before in
+    let e6 = else-6 e7 in
     let e5 = else-5 e6 in
     let e4 = else-4 e5 in
     let e3 = else-3 e4 in
@@ -350,12 +353,32 @@ returns-8 c =
     let e1 = else-1 e2 in
     let s = bytes (at-1 e1) in
     let answer =
-    answer-0 s (in-ranges s (is-whole (at-1 e1)) (yes-6 e6))
-    (sum-asked (c .before) ∙ eq-eqb (c .before .sum-of .result) million (c .if7 .left)) in (
+    answer-5 s (in-ranges s (is-whole (at-1 e1)) (yes-7 e7))
+    (sum-asked (c .before) ∙ ne-eqb (c .before .sum-of .result) million (c .if8 .taken)) in (
       answer,
       (
-        filled-5 e5,
-        (filled-1 (e1 .before), (filled-2 (e2 .before), (filled-3 (e3 .before), (filled-4 (e4 .before), filled-6 (e6 .before))))),
+        in-5 e5 .1,
+        (filled-1 (e1 .before), (filled-2 (e2 .before), (filled-3 (e3 .before), (filled-4 (e4 .before), (filled-6 (e6 .before), in-7 e7 .1))))),
+      ),
+    )
+
+returns-9 : tie.Need-returns-9
+returns-9 c =
+    let e7 = c .before .before .before .before in
+    let e6 = else-6 e7 in
+    let e5 = else-5 e6 in
+    let e4 = else-4 e5 in
+    let e3 = else-3 e4 in
+    let e2 = else-2 e3 in
+    let e1 = else-1 e2 in
+    let s = bytes (at-1 e1) in
+    let answer =
+    answer-0 s (in-ranges s (is-whole (at-1 e1)) (yes-7 e7))
+    (sum-asked (c .before) ∙ eq-eqb (c .before .sum-of .result) million (c .if8 .left)) in (
+      answer,
+      (
+        in-5 e5 .1,
+        (filled-1 (e1 .before), (filled-2 (e2 .before), (filled-3 (e3 .before), (filled-4 (e4 .before), (filled-6 (e6 .before), in-7 e7 .1))))),
       ),
     )
 
@@ -378,6 +401,8 @@ read-spec =
     returns-5
     fill-row-requires-4
     returns-6
-    sum-of-requires
+    field-requires-2
     returns-7
-    returns-8)
+    sum-of-requires
+    returns-8
+    returns-9)

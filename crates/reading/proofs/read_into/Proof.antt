@@ -81,8 +81,11 @@ put-assumptions-requires c κs =
           (
             omega (arith, read .1 .0 ∙ f .weight, s .weight),
             (
-              signable mostAmount (read .1 .1 .1 .1 .1 .1 ∙ f .ulae) (s .ulae) (lit< tt),
-              omega (arith, c .before .before .before .before .before .put-triangle .ensures .0, start e .pre .1, fields-count (lastYearOf (bytes e)), ap cells (year .0)),
+              signable mostAmount (read .1 .1 .1 .1 .1 .1 .0 ∙ f .ulae) (s .ulae) (lit< tt),
+              (
+                omega (arith, read .1 .1 .1 .1 .1 .1 .1 ∙ f .tail, s .tail),
+                omega (arith, c .before .before .before .before .before .put-triangle .ensures .0, start e .pre .1, fields-count (lastYearOf (bytes e)), ap cells (year .0)),
+              ),
             ),
           ),
         ),
@@ -102,7 +105,7 @@ returns-2 c =
     let put =
     fields-put (bytes e) (whole-record (bytes e) (small e) (start e .pre .0)) (start e .args .list .now) (c .before .before .before .before .before .before .before .before .before .before .before .last-year-of .ensures .0)
     (read .1 .1 .0 ∙ f .exposures) (read .1 .1 .1 .0 ∙ f .increments) (read .1 .1 .1 .1 .0 ∙ f .indices) (read .1 .1 .1 .1 .1 .0 ∙ f .reporting)
-    (read .1 .0 ∙ f .weight) (read .1 .1 .1 .1 .1 .1 ∙ f .ulae) (triangle .0) in
+    (read .1 .0 ∙ f .weight) (read .1 .1 .1 .1 .1 .1 .0 ∙ f .ulae) (read .1 .1 .1 .1 .1 .1 .1 ∙ f .tail) (triangle .0) in
     (sym (accepted e), rw (accepted e, c .before .put-assumptions .ensures, triangle .1) put)
 
 pub read-into-spec : {M : Type 1} → statement M

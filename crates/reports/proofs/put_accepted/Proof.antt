@@ -5,7 +5,7 @@ use Rattle.rules.specs.Record.{figuresOf}
 use Rattle.composing.proofs.Puts.{put-same}
 use Rattle.listing.proofs.Known.{at-starts}
 use Rattle.outcomes.proofs.Passed.{accepted, some}
-use Rattle.reports.proofs.PagesAccepted.{ladder-fits, page-is}
+use Rattle.reports.proofs.PagesAccepted.{tails-fit, ladder-fits, page-is}
 use Rattle.reports.proofs.put_accepted.Statement.{statement}
 use Rattle.reports.proofs.put_accepted.Tie as tie
 
@@ -34,9 +34,12 @@ put-form-requires c κs =
     let paid = c .before .before .before .before .before .before .fill-paid in (
       year .last-year-of .ensures .1,
       (
-        paid .ensures .1,
-        ladder-fits (s .args .packed .now) (s .pre .0) (year .last-year-of .result) (s .args .list .now) _ _ (year .last-year-of .ensures .0) (s .pre .1) (paid .ensures .1)
-            (c .before .before .before .ladder-of .ensures),
+        tails-fit (s .args .packed .now) (s .pre .0) (year .last-year-of .result) (s .args .list .now) (year .last-year-of .ensures .0) (s .pre .1),
+        (
+          paid .ensures .1,
+          ladder-fits (s .args .packed .now) (s .pre .0) (year .last-year-of .result) (s .args .list .now) _ _ (year .last-year-of .ensures .0) (s .pre .1) (paid .ensures .1)
+              (c .before .before .before .ladder-of .ensures),
+        ),
       ),
     )
 

@@ -54,15 +54,31 @@ returns-6 c =
 returns-7 : tie.Need-returns-7
 unfolding dueAt
 returns-7 c =
-    let k = c .before .before .before .before .before .before .args .k in
-    let i = c .before .before .before .before .before .before .args .place in
+    let k = c .before .before .before .before .before .before .before .args .k in
+    let i = c .before .before .before .before .before .before .before .args .place in
     rw (
-      ne-eqb i 0 (c .before .before .before .before .before .if1 .left),
-      ne-eqb i 1 (c .before .before .before .before .if2 .left),
-      le-ltb i (k + 3) (c .before .before .before .if3 .left),
-      ne-eqb i (k + 3) (c .before .before .if4 .left),
-      ne-eqb i (k + 4) (c .before .if5 .left),
-      ne-eqb i (k + 5) (c .if6 .left),
+      ne-eqb i 0 (c .before .before .before .before .before .before .if1 .left),
+      ne-eqb i 1 (c .before .before .before .before .before .if2 .left),
+      le-ltb i (k + 3) (c .before .before .before .before .if3 .left),
+      ne-eqb i (k + 3) (c .before .before .before .if4 .left),
+      ne-eqb i (k + 4) (c .before .before .if5 .left),
+      ne-eqb i (k + 5) (c .before .if6 .left),
+      eq-eqb i (k + 6) (c .if7 .taken),
+    )
+
+returns-8 : tie.Need-returns-8
+unfolding dueAt
+returns-8 c =
+    let k = c .before .before .before .before .before .before .before .args .k in
+    let i = c .before .before .before .before .before .before .before .args .place in
+    rw (
+      ne-eqb i 0 (c .before .before .before .before .before .before .if1 .left),
+      ne-eqb i 1 (c .before .before .before .before .before .if2 .left),
+      le-ltb i (k + 3) (c .before .before .before .before .if3 .left),
+      ne-eqb i (k + 3) (c .before .before .before .if4 .left),
+      ne-eqb i (k + 4) (c .before .before .if5 .left),
+      ne-eqb i (k + 5) (c .before .if6 .left),
+      ne-eqb i (k + 6) (c .if7 .left),
     )
 
 pub due-at-spec : {M : Type 1} → statement M
@@ -82,6 +98,7 @@ due-at-spec =
     returns-3
     (λ c. search needs)
     (λ c. search needs)
+    (λ c. search needs)
     returns-4
     (λ c. search needs)
     (λ c. search needs)
@@ -92,4 +109,7 @@ due-at-spec =
     returns-6
     (λ c. search needs)
     (λ c. search needs)
-    returns-7)
+    (λ c. search needs)
+    returns-7
+    (λ c. search needs)
+    returns-8)

@@ -89,7 +89,7 @@ returns c =
     let e = given-is (s .args .k) (s .args .list .now) (s .pre .0) (s .pre .1 .0) (r .result) (r .ensures) (b .before .cells-of .result) (b .before .cells-of .ensures .0) in
     let long : length (take m (s .args .buffer .now)) ≡ m = length-take-le m (s .args .buffer .now) (omega arith) in (
       d .doonamurk-write .ensures .0 ∙ ap₂ writeAnswer e (long ∙ b .bytes-of .ensures .0),
-      same-written _ _ m (byteCount (s .args .k)) (s .args .buffer .now) (d .doonamurk-write .last .1 .1 .1 .1 .1 .1 .1 .0) e (b .bytes-of .ensures .0) (d .doonamurk-write .ensures .1),
+      same-written _ _ m (byteCount (s .args .k)) (s .args .buffer .now) (d .doonamurk-write .last .1 .1 .1 .1 .1 .1 .1 .1 .0) e (b .bytes-of .ensures .0) (d .doonamurk-write .ensures .1),
     )
 
 pub write-fields-spec : {M : Type 1} → statement M

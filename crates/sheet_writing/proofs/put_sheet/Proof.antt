@@ -22,7 +22,7 @@ use Rattle.sheet_writing.proofs.put_sheet.Tie as tie
 
 abbrev Inv-loop : tie.InvT-loop
 Inv-loop out₀ list k n end₀ from₀ i₀ out end from i =
-    (k < 16) × ((n ≡ k + 7) × ((i ≤ n) × ((from ≡ startAt k i) × Put out₀ out 0 end (linesOf (upTo (dueAt k) i) list))))
+    (k < 16) × ((n ≡ k + 8) × ((i ≤ n) × ((from ≡ startAt k i) × Put out₀ out 0 end (linesOf (upTo (dueAt k) i) list))))
 
 abbrev μ-loop : tie.MeasureT-loop
 μ-loop out₀ list k n end₀ from₀ i₀ out end from i = n - i
@@ -73,7 +73,7 @@ unfolding sheetOf dueLines
 returns c =
     let l = c .before .loop in
     let k = c .before .before .size-of .result in
-    let e : l .i ≡ k + 7 = omega arith in
+    let e : l .i ≡ k + 8 = omega arith in
     rw (← years (c .before .before) .0) (rw e at (l .inv .1 .1 .1 .1))
 
 pub put-sheet-spec : {M : Type 1} → statement M

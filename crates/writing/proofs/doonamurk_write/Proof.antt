@@ -22,7 +22,7 @@ use Rattle.writing.proofs.doonamurk_write.Tie as tie
 -- what the function is given
 abbrev from : tie.Start → Figures
 from s =
-    figures (s .args .k) (s .args .exposures .now) (s .args .increments .now) (s .args .indices .now) (s .args .reporting .now) (s .args .weight) (s .args .ulae .now)
+    figures (s .args .k) (s .args .exposures .now) (s .args .increments .now) (s .args .indices .now) (s .args .reporting .now) (s .args .weight) (s .args .ulae .now) (s .args .tail)
 
 -- where it starts, from each question that was passed
 abbrev start-1 : tie.After-given-last-year → tie.Start

@@ -8,6 +8,9 @@ use Rattle.rules.specs.Record.{byteCount, cells}
 use Rattle.writing.proofs.given_lengths.Statement.{statement}
 use Rattle.writing.proofs.given_lengths.Tie as tie
 
+add-n : tie.Need-add-n
+add-n c = search needs
+
 bytes-of-requires : tie.Need-bytes-of-requires
 bytes-of-requires c κs = search needs
 
@@ -15,9 +18,6 @@ returns : tie.Need-returns
 returns c =
     let a = c .before .before .args in
     rw (ne-eqb (a .m) (byteCount (a .k)) (λ e. omega arith))
-
-add-if2 : tie.Need-add-if2
-add-if2 c = search needs
 
 returns-2 : tie.Need-returns-2
 returns-2 c =
@@ -35,18 +35,12 @@ returns-3 c =
 returns-4 : tie.Need-returns-4
 returns-4 c =
     let a = c .before .before .before .before .before .before .args in
-    simp (ne-eqb (a .indices) (a .k) (λ e. omega arith), and-false)
-
-add-if5 : tie.Need-add-if5
-add-if5 c = search needs
+    simp (ne-eqb (a .indices) (a .k + 1) (λ e. omega arith), and-false)
 
 returns-5 : tie.Need-returns-5
 returns-5 c =
     let a = c .before .before .before .before .before .before .before .args in
     simp (ne-eqb (a .reporting) (a .k + 1) (λ e. omega arith), and-false)
-
-add-result : tie.Need-add-result
-add-result c = search needs
 
 returns-6 : tie.Need-returns-6
 returns-6 c =
@@ -55,22 +49,11 @@ returns-6 c =
       eq-eqb (a .m) (byteCount (a .k)) (omega arith),
       eq-eqb (a .exposures) (a .k + 1) (omega arith),
       eq-eqb (a .increments) (cells (a .k)) (omega arith),
-      eq-eqb (a .indices) (a .k) (omega arith),
+      eq-eqb (a .indices) (a .k + 1) (omega arith),
       eq-eqb (a .reporting) (a .k + 1) (omega arith),
     )
 
 pub given-lengths-spec : {M : Type 1} → statement M
 given-lengths-spec =
     tie.close
-    (tie.spec
-    bytes-of-requires
-    returns
-    add-if2
-    returns-2
-    cells-of-requires
-    returns-3
-    returns-4
-    add-if5
-    returns-5
-    add-result
-    returns-6)
+    (tie.spec add-n bytes-of-requires returns returns-2 cells-of-requires returns-3 returns-4 returns-5 returns-6)

@@ -59,7 +59,12 @@ within-requires-4 c κs = search needs
 
 returns-6 : tie.Need-returns-6
 returns-6 c =
-    let d4 = c .before .before in
+    let a = c .before .before .before .before .before .before .before .before .before .before .before .before .before .before .before .args in
+    simp (whole 0 mostAmount (a .ulae .now) (c .before .within4 .ensures) ∙ not-true _ (c .if6 .taken), and-false)
+
+returns-7 : tie.Need-returns-7
+returns-7 c =
+    let d4 = c .before .before .before in
     let d3 = d4 .before .before in
     let d2 = d3 .before .before in
     let d1 = d2 .before .before in
@@ -71,8 +76,9 @@ returns-6 c =
       whole 0 million (a .reporting .now) (d4 .before .within3 .ensures) ∙ not-false _ (d4 .if4 .left),
       leb·zero (a .weight),
       le-leb (a .weight) million (omega arith),
+      whole 0 mostAmount (a .ulae .now) (c .before .within4 .ensures) ∙ not-false _ (c .if6 .left),
+      leb·zero (a .tail),
     )
-    (sym (whole 0 mostAmount (a .ulae .now) (c .within4 .ensures)))
 
 pub given-ranges-spec : {M : Type 1} → statement M
 given-ranges-spec =
@@ -88,4 +94,5 @@ given-ranges-spec =
     returns-4
     returns-5
     within-requires-4
-    returns-6)
+    returns-6
+    returns-7)

@@ -1,14 +1,14 @@
 -- `writing::put_record` meets its contract: after each call one row more is packed, and the filling bits end the record. Assumes nothing.
-use mathlib.Core.Path.{_≡_, refl, ap, _∙_}
-use mathlib.Core.List.{[], _∷_}
-use lib.Dec.{lit<, lit≤}
+use borrow.Author.Needs.{needs}
+use native.Mathlib.Omega.{arith}
+use mathlib.Core.Path.{_≡_, ap, _∙_}
+use lib.Dec.{lit≤}
 use lib.Pow.{pow-pos}
-use Rattle.rules.specs.Record.{Figures, figures, bitCount, million, mostAmount, mostIndex}
+use Rattle.rules.specs.Record.{Figures, figures, bitCount}
 use Rattle.layout.specs.declared.Places.{Places}
 use Rattle.layout.specs.Places.{placesOf}
 use Rattle.packing.proofs.Puts.{packed-then}
-use Rattle.layout.proofs.RecordSizes.{fit-between}
-use Rattle.writing.proofs.RowsGiven.{few-years, ranges-hold}
+use Rattle.writing.proofs.RowsGiven.{few-years, ranges-hold, ranges-fit}
 use Rattle.writing.proofs.Recorded.{FirstRows, packed-one, no-rows, ready, Fills, fills, recorded}
 use Rattle.writing.proofs.put_record.Statement.{statement}
 use Rattle.writing.proofs.put_record.Tie as tie
@@ -16,7 +16,7 @@ use Rattle.writing.proofs.put_record.Tie as tie
 -- what the function is given
 abbrev from : tie.Start → Figures
 from s =
-    figures (s .args .k) (s .args .exposures .now) (s .args .increments .now) (s .args .indices .now) (s .args .reporting .now) (s .args .weight) (s .args .ulae .now)
+    figures (s .args .k) (s .args .exposures .now) (s .args .increments .now) (s .args .indices .now) (s .args .reporting .now) (s .args .weight) (s .args .ulae .now) (s .args .tail)
 
 -- where it starts, from the end of each row
 abbrev start-1 : tie.After-put → tie.Start
@@ -39,6 +39,9 @@ start-6 c = start-5 (c .before .before .before .before)
 
 abbrev start-7 : tie.After-put-row4 → tie.Start
 start-7 c = start-6 (c .before .before .before .before)
+
+abbrev start-8 : tie.After-put3 → tie.Start
+start-8 c = start-7 (c .before .before .before .before)
 
 -- the rows that are packed at the end of each row
 rows-1 : (c : tie.After-put) → FirstRows (from (start-1 c)) 1 (start-1 c .args .buffer .now) (c .put .last .0) (c .put .result)
@@ -76,69 +79,80 @@ rows-7 c =
     let d = rows-6 (c .before .before .before .before) in
     record { long = c .put-row4 .kept .0 ∙ d .long; packed = packed-then (d .packed) (c .put-row4 .ensures) }
 
+rows-8 : (c : tie.After-put3) → FirstRows (from (start-8 c)) 8 (start-8 c .args .buffer .now) (c .put3 .last .0) (c .put3 .result)
+rows-8 c =
+    let d = rows-7 (c .before .before .before .before) in
+    record { long = c .put3 .kept .0 ∙ d .long; packed = packed-then (d .packed) (packed-one (c .put3 .ensures)) }
+
 put-requires : tie.Need-put-requires
 put-requires c κs =
     let s = c .before .before .before .before .before .before in
     let g = from s in
     let buffer = s .args .buffer .now in
-    (ready g buffer (s .pre) 0 4 (no-rows g buffer (s .pre)) refl, (lit≤ tt, few-years g (s .pre .years)))
+    (ready g buffer (s .pre) 0 4 (no-rows g buffer (s .pre)) (omega arith), (lit≤ tt, few-years g (s .pre .years)))
 
 put-row-requires : tie.Need-put-row-requires
 put-row-requires c κs =
     let d = c .before .before .before in
     let s = start-1 d in
-    let r = ranges-hold (from s) (s .pre .ranges) in
-    (ready (from s) (s .args .buffer .now) (s .pre) 1 _ (rows-1 d) refl, (lit≤ tt, fit-between 1 million 20 (lit< tt) (s .args .exposures .now) (r .exposures)))
+    let fit = ranges-fit (from s) (s .pre .ranges) in
+    (ready (from s) (s .args .buffer .now) (s .pre) 1 _ (rows-1 d) (omega arith), search needs)
 
 put-increments-requires : tie.Need-put-increments-requires
 put-increments-requires c κs =
     let d = c .before .before .before in
     let s = start-2 d in
-    let r = ranges-hold (from s) (s .pre .ranges) in
-    (ready (from s) (s .args .buffer .now) (s .pre) 2 _ (rows-2 d) refl, r .increments)
+    (ready (from s) (s .args .buffer .now) (s .pre) 2 _ (rows-2 d) (omega arith), ranges-hold (from s) (s .pre .ranges) .increments)
 
 put-row-requires-2 : tie.Need-put-row-requires-2
 put-row-requires-2 c κs =
     let d = c .before .before .before in
     let s = start-3 d in
-    let r = ranges-hold (from s) (s .pre .ranges) in
-    (ready (from s) (s .args .buffer .now) (s .pre) 3 _ (rows-3 d) refl, (lit≤ tt, fit-between 1 mostIndex 23 (lit< tt) (s .args .indices .now) (r .indices)))
+    let fit = ranges-fit (from s) (s .pre .ranges) in
+    (ready (from s) (s .args .buffer .now) (s .pre) 3 _ (rows-3 d) (omega arith), search needs)
 
 put-row-requires-3 : tie.Need-put-row-requires-3
 put-row-requires-3 c κs =
     let d = c .before .before .before in
     let s = start-4 d in
-    let r = ranges-hold (from s) (s .pre .ranges) in
-    (ready (from s) (s .args .buffer .now) (s .pre) 4 _ (rows-4 d) refl, (lit≤ tt, fit-between 0 million 20 (lit< tt) (s .args .reporting .now) (r .reporting)))
+    let fit = ranges-fit (from s) (s .pre .ranges) in
+    (ready (from s) (s .args .buffer .now) (s .pre) 4 _ (rows-4 d) (omega arith), search needs)
 
 put-requires-2 : tie.Need-put-requires-2
 put-requires-2 c κs =
     let d = c .before .before .before in
     let s = start-5 d in
-    let r = ranges-hold (from s) (s .pre .ranges) in
-    (ready (from s) (s .args .buffer .now) (s .pre) 5 _ (rows-5 d) refl, (lit≤ tt, fit-between 0 million 20 (lit< tt) (s .args .weight ∷ []) (r .weight) 0))
+    let fit = ranges-fit (from s) (s .pre .ranges) in
+    (ready (from s) (s .args .buffer .now) (s .pre) 5 _ (rows-5 d) (omega arith), search needs)
 
 put-row-requires-4 : tie.Need-put-row-requires-4
 put-row-requires-4 c κs =
     let d = c .before .before .before in
     let s = start-6 d in
-    let r = ranges-hold (from s) (s .pre .ranges) in
-    (ready (from s) (s .args .buffer .now) (s .pre) 6 _ (rows-6 d) refl, (lit≤ tt, fit-between 0 mostAmount 34 (lit< tt) (s .args .ulae .now) (r .ulae)))
+    let fit = ranges-fit (from s) (s .pre .ranges) in
+    (ready (from s) (s .args .buffer .now) (s .pre) 6 _ (rows-6 d) (omega arith), search needs)
+
+put-requires-3 : tie.Need-put-requires-3
+put-requires-3 c κs =
+    let d = c .before .before .before in
+    let s = start-7 d in
+    let fit = ranges-fit (from s) (s .pre .ranges) in
+    (ready (from s) (s .args .buffer .now) (s .pre) 7 _ (rows-7 d) (omega arith), search needs)
 
 places-of-requires : tie.Need-places-of-requires
 places-of-requires c κs =
-    let s = start-7 (c .before .before) in
+    let s = start-8 (c .before .before) in
     few-years (from s) (s .pre .years)
 
 -- where the fields end, and what the put of the filling bits asks
-ends : (c : tie.After-places-of) → c .places-of .result .end ≡ bitCount (start-7 (c .before .before .before) .args .k)
+ends : (c : tie.After-places-of) → c .places-of .result .end ≡ bitCount (start-8 (c .before .before .before) .args .k)
 unfolding placesOf
 ends c = ap (λ (p : Places). p .end) (c .places-of .ensures)
 
-filling : (c : tie.After-put-row4) → Fills (start-7 c .args .k) (c .put-row4 .last .0) (c .put-row4 .result)
+filling : (c : tie.After-put3) → Fills (start-8 c .args .k) (c .put3 .last .0) (c .put3 .result)
 filling c =
-    let s = start-7 c in
-    fills (from s) (s .args .buffer .now) (s .pre) (rows-7 c)
+    let s = start-8 c in
+    fills (from s) (s .args .buffer .now) (s .pre) (rows-8 c)
 
 mul-put : tie.Need-mul-put
 mul-put c = record { fits = filling (c .before .before .before .before) .short }
@@ -146,23 +160,23 @@ mul-put c = record { fits = filling (c .before .before .before .before) .short }
 sub-put : tie.Need-sub-put
 sub-put c = rw (ends (c .before)) (filling (c .before .before .before .before) .room)
 
-put-requires-3 : tie.Need-put-requires-3
-put-requires-3 c κs =
+put-requires-4 : tie.Need-put-requires-4
+put-requires-4 c κs =
     let f = filling (c .before .before .before .before) in
     rw (ends (c .before)) (f .ready, (f .few, pow-pos _))
 
 same-length : tie.Need-same-length
 same-length c =
     let p = c .before .before in
-    p .put3 .kept .0 ∙ rows-7 (p .before .before .before .before .before) .long
+    p .put4 .kept .0 ∙ rows-8 (p .before .before .before .before .before) .long
 
 returns : tie.Need-returns
 returns c =
     let p = c .before .before in
     let d = p .before .before .before .before .before in
-    let s = start-7 d in
-    let last = rw (ends (p .before .before)) at (p .put3 .ensures) in
-    recorded (from s) (s .args .buffer .now) (s .pre) (rows-7 d) last (p .put3 .kept .0) (λ i. c .slice-known9 .given i .fits)
+    let s = start-8 d in
+    let last = rw (ends (p .before .before)) at (p .put4 .ensures) in
+    recorded (from s) (s .args .buffer .now) (s .pre) (rows-8 d) last (p .put4 .kept .0) (λ i. c .slice-known10 .given i .fits)
 
 pub put-record-spec : {M : Type 1} → statement M
 put-record-spec =
@@ -175,9 +189,10 @@ put-record-spec =
     put-row-requires-3
     put-requires-2
     put-row-requires-4
+    put-requires-3
     places-of-requires
     mul-put
     sub-put
-    put-requires-3
+    put-requires-4
     same-length
     returns)

@@ -23,7 +23,7 @@ const BATCH_NANOS: f64 = 100_000.0;
 const PASSES: usize = 3;
 const PYTHON_RUNS: u32 = 15;
 const MANY: usize = 100_000;
-const ROOM: usize = 489;
+const ROOM: usize = paper::LONGEST;
 
 global_asm!(
     ".pushsection .text.layout_padding,\"ax\",@progbits",
@@ -57,6 +57,9 @@ struct Times {
     rust: f64,
 }
 
+/// The questions in the order in which they are asked.
+const QUESTIONS: [u64; 16] = [1, 2, 3, 4, 5, 6, 7, 8, 9, 10, 18, 19, 11, 12, 13, 14];
+
 /// The records that are timed: accepted, of several lengths, and of sixteen years refused at each question in turn.
 fn rows() -> Vec<Row> {
     let mut rows: Vec<Row> = [1, 4, 9, 15]
@@ -67,7 +70,7 @@ fn rows() -> Vec<Row> {
             answer: 0,
         })
         .into();
-    for question in 1..=14 {
+    for question in QUESTIONS {
         let short = question == 3;
         let record = if short {
             records::pack(&records::account(15))
@@ -288,7 +291,7 @@ fn compare(rows: &[Row], times: &[Vec<Times>]) -> Result<(), String> {
 }
 
 /// What is done between one refusal and the next.
-const STAGES: [(u64, &str); 6] = [
+const STAGES: [(u64, &str); 7] = [
     (2, "opening, questions 1 and 2"),
     (5, "fields and ranges, questions 3 to 5"),
     (
@@ -296,6 +299,7 @@ const STAGES: [(u64, &str); 6] = [
         "cumulatives, averages, their totals and T, questions 6 to 8",
     ),
     (10, "shares and levels, questions 9 and 10"),
+    (19, "payments after the last year, questions 18 and 19"),
     (
         13,
         "completed triangle to development factors, questions 11 to 13",

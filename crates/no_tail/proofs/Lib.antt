@@ -1,0 +1,13 @@
+pub mod Document01
+pub mod NothingLeft
+pub mod LastIndex
+pub mod Rows
+pub mod SameValues
+pub mod SameFields
+pub mod SameRun
+pub mod Fitting
+pub mod Opening
+pub mod OtherCodes
+pub mod NoTail
+pub mod Sizes01
+pub mod Worked01
