@@ -1,8 +1,8 @@
 -- Which of the two an input is, a text or a record. Assumes nothing.
 --
 -- A record with a paid increment from 0 to 1,048,575 is never taken for a text: of the field's 35 bits the first 15 are zero, and eight of those are a whole
--- byte of the record. A record of larger amounts only could in principle be of such bytes, with k from 2 to 7 and at least 524,288 still to be paid, since of a smaller
--- amount the first 15 bits are zero too; of the bytes of a real one half have their first bit set, and the shortest has 70.
+-- byte of the record. A record of larger amounts only could in principle be of such bytes, with k from 2 to 7 and at least 524,288 still to be
+-- paid, since of a smaller amount the first 15 bits are zero too; of the bytes of a real one half have their first bit set, and the shortest has 70.
 use Prim.Native.Nat.{ℕ}
 use mathlib.Core.Bool.{Bool, cond, _&&_, _||_}
 use mathlib.Core.List.{List}

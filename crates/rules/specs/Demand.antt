@@ -1,5 +1,5 @@
--- The third demand (document 01, with the tail payments of request 3 of document 02), of the one list that an accepted run fills, and of every exact solution carried on unrounded. Entries are found by
--- their places in the list. Assumes nothing.
+-- The third demand (document 01, with the tail payments of request 3 of document 02), of the one list that an accepted run fills, and of every exact solution
+-- carried on unrounded. Entries are found by their places in the list. Assumes nothing.
 use Prim.Native.Nat.{ℕ, _+_, _-_, _*_, _≤_, _<_}
 use mathlib.Core.Path.{_≡_}
 use mathlib.Core.List.{List}

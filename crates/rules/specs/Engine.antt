@@ -1,5 +1,5 @@
--- The engine (document 01, "Questions in their order" and "The result list", with request 3 of document 02): from any record and any result buffer to the number and the list.
--- Assumes nothing.
+-- The engine (document 01, "Questions in their order" and "The result list", with request 3 of document 02): from any record and any result
+-- buffer to the number and the list. Assumes nothing.
 use Prim.Native.Nat.{ℕ}
 use mathlib.Core.Bool.{Bool}
 use mathlib.Core.List.{List, [], _∷_, _++_}

@@ -188,7 +188,8 @@ ulaeIn k vs = map natAbs (section (layout k) 6 vs)
 unfoldable pub tailIn : ℕ → List ℤ → ℕ
 tailIn k vs = getD (map natAbs (section (layout k) 7 vs)) 0 0
 
--- figures: k, lists, the increments by row, the weight and the amount still to be paid. A writer is given lists of any lengths; those of a record stand in arrays (`figuresOf`)
+-- figures: k, lists, the increments by row, the weight and the amount still to be paid. A writer is given lists of any lengths; those of a record stand in
+-- arrays (`figuresOf`)
 pub record Figures : Type 0 where
   pub k : ℕ
   pub exposures : List ℕ

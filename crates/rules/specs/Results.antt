@@ -1,4 +1,5 @@
--- The result list (document 01, with the tail payments of request 3 of document 02 at its end): its sections in their order, over lists, and those of the figures f. Assumes nothing.
+-- The result list (document 01, with the tail payments of request 3 of document 02 at its end): its sections in their order, over lists, and those of the
+-- figures f. Assumes nothing.
 use Prim.Native.Nat.{ℕ, _+_, _-_}
 use mathlib.Core.List.{List, [], _∷_, _++_, map}
 use lib.IntN.{ℤ, pos}

@@ -77,7 +77,7 @@ returns-2 c =
     let out = s .args .out .now in
     let n = at .separate-totals .result .answer in
     later f out ((6, _) ∷ []) _ out n refl (one-yes 6 _ (yes-six six))
-    (first-refused f out (separationQuestions (squareOf f) (f .k)) (laterQuestions f) n (sym (answer-is at)) (c .if2 .taken))
+    (first-refused f out (separationQuestions (squareOf f) (f .k)) _ n (sym (answer-is at)) (c .if2 .taken))
 
 -- the separation is accepted
 abbrev separate2 : tie.Else2 → tie.After-separate-totals
@@ -110,8 +110,8 @@ returns-3 c =
     let out = s .args .out .now in
     let n = carried .carry-tail .result in
     later f out ((6, _) ∷ []) _ out n refl (one-yes 6 _ (yes-six six))
-    (later f out (separationQuestions (squareOf f) (f .k)) (laterQuestions f) out n refl (accepted-is two)
-    (first-refused f out (tailQuestions (f .k) (firstTailAverageOf f) (f .indices)) (lastQuestions f) n (sym (carried .carry-tail .ensures .0)) (c .if3 .taken)))
+    (later f out (separationQuestions (squareOf f) (f .k)) _ out n refl (accepted-is two)
+    (first-refused f out (tailQuestions (f .k) (firstTailAverageOf f) (f .indices)) _ n (sym (carried .carry-tail .ensures .0)) (c .if3 .taken)))
 
 -- the tail is carried on
 tailed-is : (c : tie.Else3) →
