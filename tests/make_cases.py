@@ -1,8 +1,8 @@
 #!/usr/bin/env python3
 """make_cases.py: writes the stored input and expected output of the test programs read_cases, write_cases and run_cases and of the programs reserve,
 reserve_many, gather, fields, report, csv, pack and unpack, and the input of motor_account and report_html; the records of the examples from their texts, their
-pages and their lists as comma-separated values (tests/pages); records that question 7 refuses, with what is said of them (tests/refusals); and the texts that
-pack must accept or refuse, with the record of each or what pack says (tests/texts).
+pages and their lists as comma-separated values (tests/pages for the valuation year 2026, tests/pages/2027); records that question 7 refuses, with what is said
+of them (tests/refusals); and the texts that pack must accept or refuse, with the record of each or what pack says (tests/texts).
 
 What is expected comes from model.py, page.py and sheet.py, which are written from documents 01 and 02 and from the docs and share nothing with the Rattle code.
 """
@@ -441,17 +441,119 @@ def tail_refusals():
         yield number_, fields_of([100, million], [[0, 40], [660000]], e, U=[most, most], a=a)
 
 
+def paid_back(k, latest, n=None, **other):
+    """Fields with 40 paid back and this paid in the latest year; the 40 are of 10,000 claims, so that their average is 0."""
+    rows = [[60] + [0] * (k - i) for i in range(k + 1)]
+    rows[1][-1], rows[k] = -40, [latest]
+    return fields_of(n or changed([1] * (k + 1), 1, 10000), rows, **other)
+
+
+def deep(k, b, U):
+    """Fields with 1 paid in the latest year and, by payments after the last year, ultimates of 10^12 in all rows but the first, a little less in the last."""
+    rows = [[0, 1] + [0] * (k - 1)] + [[100000] + [0] * (k - i) for i in range(1, k)] + [[101]]
+    rows[1][0], rows[1][-1] = 100100, -100
+    return fields_of([1] + [20000] * k, rows, [model.M] + [5 * model.M] * k, b, model.M, U, a=10**7 - 1)
+
+
+def growth_accepted():
+    """The answer before 2027, the answer from 2027 on, and fields: both are accepted, and the ULAE ratio under growth is another one."""
+    million = 10**6
+    two, at = model.TWO_YEARS, places(1)
+    # weights of 0, a millionth and 1; with a weight of 0 the ratio stays, a ratio of 1 too
+    for w in (0, 1, million):
+        yield 0, 0, changed(two, at["w"], w)
+    yield 0, 0, changed(changed(two, at["w"], 0), at["U"] + 1, 160)
+    # what is reported is rounded down once
+    yield 0, 0, fields_of([1] * 3, [[7, 3, 2], [8, 5], [9]], b=[333333, 333333, 333334], w=700000, U=[9, 8, 7])
+    yield 0, 0, fields_of([3, 7, 2, 5], [[70, 30, -2, 3], [80, -3, 9], [90, 31], [77]], b=[250001, 249999] * 2, w=999999, U=[40, 50, 60, 70], a=9)
+    source = random.Random(5)
+    for k in (2, 8, 15):
+        yield 0, 0, account(k, source)
+    # the largest ultimates, reported evenly and in one year: the largest divisor, 10^18
+    for b in ([62500] * 16, [0, million] + [0] * 14):
+        yield 0, 0, deep(15, b, [1400102] + [0] * 15)
+
+
+def growth_edges():
+    """As growth_accepted: both sides of questions 15, 16 and 17."""
+    million, late = 10**6, [0, 10**6]
+    # 15: Y below 0, of 0 and of 1
+    yield 0, 15, model.PAID_BACK
+    for since, latest in ((15, 40), (0, 41)):
+        yield 0, since, changed(model.PAID_BACK, places(2)["P"] + 5, latest)
+        yield 0, since, paid_back(15, latest, U=[20] * 16)
+    for since, latest in ((15, 1), (0, 2)):
+        yield 0, since, fields_of([300, 1], [[10, -1], [latest]], U=[3, 4])
+    # 16: a divisor of 0, and of 1 by what is paid, by the weight and by what is reported
+    yield 0, 16, fields_of([1, 1], [[1, 0], [2000000]], b=late, w=million)
+    for since, latest in ((0, million), (16, million + 1)):
+        yield 0, since, fields_of([1, 1], [[1, 0], [latest]], b=late, w=million)
+    yield 0, 0, fields_of([1, 1], [[1, 0], [2000000]], b=late, w=million - 1)
+    yield 0, 0, fields_of([1, 1], [[1, 0], [2000000]], b=[1, 999999], w=million)
+    # 17: a corrected ratio of 1.06; of 1 and a millionth more; of 1, of 2 and of a million by a divisor of a millionth
+    yield 0, 17, fields_of([1, 1], [[60, 40], [66]], [1100000, million], late, million, [66, 100])
+    for since, total in ((0, 714285), (17, 714286)):
+        yield 0, since, fields_of([1000, 1000], [[300000, 200000], [500000]], b=late, w=million, U=[total, 0])
+    for since, total in ((0, 2), (17, 3), (17, million + 1)):
+        yield 0, since, fields_of([1, 1], [[1, 0], [million]], b=late, w=million, U=[total, 0])
+
+
+def growth_refusals():
+    """As growth_accepted: two questions say no, or more, 15 to 17 among them."""
+    million, most, late = 10**6, 10**10, [0, 10**6]
+    # 15, and a divisor of that Y would be above 0 and give 17, or be 0; 15 and 13, 15 and 14
+    yield 0, 15, fields_of([1, 100, 1], [[0, 1, 0], [50, -40], [1]], b=[0, 0, million], U=[6, 3, 3])
+    yield 13, 15, fields_of([1, 10000, 1], [[0, 0, 0], [50, -40], [1]], b=[0, 0, million], w=million)
+    yield 14, 15, fields_of([1, million, 1], [[0, 5000, 245000], [most, -5 * 10**9], [million]])
+    # 16 and 13, 16 and 14; 17 and 13, 17 and 14
+    yield 13, 16, fields_of([1, 1], [[0, 0], [2000000]], b=late, w=million)
+    yield 14, 16, fields_of([1, million], [[1, 49], [most]], b=late, w=million)
+    yield 13, 17, fields_of([1, 1], [[0, 100], [66]], b=late, w=million, U=[66, 100])
+    yield 14, 17, fields_of([1, million], [[1, 49], [most]], b=late, w=million - 1, U=[10**9, 0])
+    # 12, and 15, 16 and 17 in turn
+    yield 12, 12, changed(model.PAID_BACK, places(2)["U"], 100)
+    yield 12, 12, fields_of([1, 1], [[1, 0], [2000000]], b=late, w=million, U=[2000000, 2])
+    yield 12, 12, fields_of([1, 1], [[60, 40], [66]], b=late, w=million, U=[66, 101])
+    # each question before 12, and 15
+    yield 11, 11, paid_back(2, 1, [1, 20000, 1], e=[million, 5 * million, million], a=10**7)
+    yield 19, 19, paid_back(2, 1, e=[1, 6, 1], a=10**7)
+    yield 18, 18, paid_back(2, 1, a=10**7 + 1)
+    yield 10, 10, fields_of([100, million, 100], [[5000, 25, 200000], [300000, -250000], [26]])
+    yield 9, 9, fields_of([100, million, 100], [[0, 60001, 5 * 10**8], [7 * 10**8, -6 * 10**8], [60001]])
+    yield 8, 8, fields_of([300, 300], [[10, -1], [1]])
+    yield 7, 7, fields_of([1, 1, 1], [[60, 0, 0], [60, -40], [1]])
+    yield 6, 6, fields_of([1, 1], [[60, -61], [1]])
+    yield 5, 5, changed(model.PAID_BACK, places(2)["b"], 0)
+
+
+def growth_cases():
+    return (*growth_accepted(), *growth_edges(), *growth_refusals())
+
+
 def run_inputs():
-    """Lengths of the result buffer and records."""
+    """Valuation years, lengths of the result buffer and records."""
     for place, fields in enumerate(accepted()):
         record, count = model.pack(fields), model.result_count(fields[0])
-        assert model.run(record, count)[0] == 0, (place, fields, model.run(record, count)[0])
+        assert model.run(2026, record, count)[0] == 0, (place, fields, model.run(2026, record, count)[0])
         # every third buffer is longer than the list
-        yield count + (place % 3 == 2), record
+        yield 2026, count + (place % 3 == 2), record
     for number_, fields in refused():
         record, count = model.pack(fields), model.result_count(fields[0])
-        assert model.run(record, count)[0] == number_, (number_, fields, model.run(record, count)[0])
-        yield count, record
+        assert model.run(2026, record, count)[0] == number_, (number_, fields, model.run(2026, record, count)[0])
+        yield 2026, count, record
+    for room, record in damaged_and_short():
+        yield 2026, room, record
+    for before, since, fields in growth_cases():
+        record, count = model.pack(fields), model.result_count(fields[0])
+        for year, number_ in ((2026, before), (2027, since)):
+            assert model.run(year, record, count)[0] == number_, (year, number_, fields, model.run(year, record, count)[0])
+            if year == 2027 or before != since:
+                yield year, count, record
+    yield from years()
+
+
+def damaged_and_short():
+    """Lengths of the result buffer and records that are refused under questions 1 to 4, and the longest list in a longer buffer."""
     two, longest = model.pack(model.TWO_YEARS), model.pack(account(15, random.Random(3)))
     filled = longest[:-1] + bytes([longest[-1] | 1])
     assert model.bit_count(15) % 8 and filled != longest
@@ -469,6 +571,29 @@ def run_inputs():
     yield 489, longest
     yield 504, longest
     yield 512, longest
+
+
+def years():
+    """As run_inputs: the two years, also with payments after the last year, the motor account, and a record that 15, 16 and 17 each refuse, in other years; cut
+    to fewer bits some of these are before 2027."""
+    for year in (0, 2027, 2028, 65535, 2**16 + 2026, 2**32 + 2026, 2**63, 2**64 - 1):
+        yield year, 22, model.pack(model.TWO_YEARS)
+    tail = changed(changed(model.TWO_YEARS, places(1)["e"] + 1, 1210000), places(1)["a"], 100)
+    yield 2027, 22, model.pack(tail)
+    yield 2027, model.result_count(3), model.pack(model.MOTOR_ACCOUNT)
+    for fields in {since: fields for _, since, fields in growth_edges() if since}.values():
+        for year in (0, 2**64 - 1):
+            yield year, model.result_count(fields[0]), model.pack(fields)
+    # a buffer that is an entry too short, and no record, come before what the year asks
+    yield 2027, 21, model.pack(model.TWO_YEARS)
+    yield 2027, model.result_count(2) - 1, model.pack(model.PAID_BACK)
+    yield 2027, 22, b""
+    yield 2**64 - 1, 22, b"\x00"
+
+
+def of_year(year, rest):
+    """What a program that runs the engine is given: the valuation year in two bytes, the high one first, and then the record or the records."""
+    return year.to_bytes(2, "big") + rest
 
 
 def main():
@@ -489,9 +614,9 @@ def main():
         wanted += "unchanged\n" if record is None else record.hex() + "\n"
     store("write_cases", given, wanted)
     given, wanted, numbers = b"", "", []
-    for room, record in run_inputs():
-        given += room.to_bytes(2, "big") + len(record).to_bytes(2, "big") + record
-        number_, results = model.run(record, room)
+    for year, room, record in run_inputs():
+        given += year.to_bytes(8, "big") + room.to_bytes(2, "big") + len(record).to_bytes(2, "big") + record
+        number_, results = model.run(year, record, room)
         numbers.append(number_)
         wanted += shown(number_, results, room)
     store("run_cases", given, wanted)
@@ -500,11 +625,13 @@ def main():
     store("fields", record, "".join(f"{v}\n" for v in model.TWO_YEARS))
     record = model.pack(model.MOTOR_ACCOUNT)
     for name in ("motor_account", "report_html"):
-        put(os.path.join(CRATES, name, "stdin"), record)
-    store("reserve", record, "".join(f"{v}\n" for v in model.run(record, model.result_count(3))[1]))
-    store("report", record, page.page(record))
-    records = [record for _, record in run_inputs()]
-    store("reserve_many", b"".join(len(record).to_bytes(2, "big") + record for record in records), "".join(map(row, records)))
+        put(os.path.join(CRATES, name, "stdin"), of_year(2026, record))
+    store("reserve", of_year(2026, record), "".join(f"{v}\n" for v in model.run(2026, record, model.result_count(3))[1]))
+    store("report", of_year(2026, record), page.page(2026, record))
+    # every record once; run_cases has most of them in 2026
+    records = list(dict.fromkeys(record for *_, record in run_inputs()))
+    stream = b"".join(len(record).to_bytes(2, "big") + record for record in records)
+    store("reserve_many", of_year(2027, stream), "".join(row(2027, record) for record in records))
     gather(record)
     examples()
     refusals()
@@ -532,12 +659,15 @@ def examples():
         assert said is None, said
         record = model.pack(fields)
         put(os.path.splitext(path)[0] + ".rec", record)
-        put(os.path.join(HERE, "pages", name + ".txt"), page.page(record))
-        put(os.path.join(HERE, "pages", name + ".csv"), page.csv(record))
+        put(os.path.join(HERE, "pages", name + ".txt"), page.page(2026, record))
+        put(os.path.join(HERE, "pages", name + ".csv"), page.csv(2026, record))
+        if name in ("two_years", "liability_tail"):
+            put(os.path.join(HERE, "pages", "2027", name + ".txt"), page.page(2027, record))
+            put(os.path.join(HERE, "pages", "2027", name + ".csv"), page.csv(2027, record))
         if name == "liability_book":
             store("pack", given, record)
             store("unpack", record, page.sheet(fields))
-            store("csv", record, page.csv(record))
+            store("csv", of_year(2027, record), page.csv(2027, record))
 
 
 def refusals():
@@ -573,9 +703,9 @@ def texts():
         print(f"tests/texts/{name} is not made here")
 
 
-def row(record):
+def row(year, record):
     """The line of a record among many: the entries of its list with blanks between, or its refusal."""
-    number_, results = model.run(record, model.result_count(15))
+    number_, results = model.run(year, record, model.result_count(15))
     return (f"refused {number_}" if number_ else " ".join(map(str, results))) + "\n"
 
 

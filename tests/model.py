@@ -1,5 +1,5 @@
-"""Document 01's record and engine, with requests 3 and 4 of document 02 (payments after the last year, halves to the even hundredth), in plain Python, written
-from the paper and not from the Rattle code.
+"""Document 01's record and engine, with requests 1, 3 and 4 of document 02 (the ULAE ratio under growth, payments after the last year, halves to the even
+hundredth), in plain Python, written from the paper and not from the Rattle code.
 
 Used to make the stored inputs and expected outputs of the test programs (make_cases.py), and timed beside the engine by tests/benchmark.
 """
@@ -7,6 +7,8 @@ from fractions import Fraction
 
 S = 10**9
 M = 10**6
+# the first valuation year whose ULAE ratio is corrected for growth
+FIRST_CORRECTED = 2027
 
 
 def cells(k):
@@ -160,8 +162,39 @@ def tail_payments(n, e, a):
     return [claims * unit // 100 for claims, unit in zip(n, t)]
 
 
-def results(k, n, P, e, b, w, U, a):
-    """The result list of fields that have passed questions 4 and 5; P by row."""
+def plain_ratio(P, U):
+    """The ULAE ratio of what is paid, P by row, under question 12."""
+    paid = sum(map(sum, P))
+    if paid < 1 or sum(U) > paid:
+        raise Refused(12)
+    return M * sum(U) // paid
+
+
+def growth(k, P, b, w, X):
+    """What the ratio is corrected by, under questions 15 and 16: what is reported in the latest payment year (B), what is paid in it (Y), and the divisor."""
+    paid = sum(P[i][k - i] for i in range(k + 1))
+    if paid < 1:
+        raise Refused(15)
+    reported = sum(b[j] * X[k - j] for j in range(k + 1)) // M
+    divisor = M - w + w * reported // paid
+    if divisor == 0:
+        raise Refused(16)
+    return reported, paid, divisor
+
+
+def ratio_used(year, p, k, P, b, w, X):
+    """The plain ratio p, or from 2027 on the one corrected for growth, under questions 15 to 17."""
+    if year < FIRST_CORRECTED:
+        return p
+    _, _, divisor = growth(k, P, b, w, X)
+    corrected = p * M // divisor
+    if corrected > M:
+        raise Refused(17)
+    return corrected
+
+
+def results(year, k, n, P, e, b, w, U, a):
+    """The result list of a valuation year and of fields that have passed questions 4 and 5; P by row."""
     years = range(k + 1)
     C = [[sum(row[:j + 1]) for j in range(len(row))] for row in P]
     if any(not 0 <= c <= 10**11 for row in C for c in row):
@@ -175,10 +208,7 @@ def results(k, n, P, e, b, w, U, a):
     X = [C[i][k - i] + R[i] for i in years]
     if max(X) > 10**12:
         raise Refused(11)
-    paid = sum(map(sum, P))
-    if paid < 1 or sum(U) > paid:
-        raise Refused(12)
-    p = M * sum(U) // paid
+    p = ratio_used(year, plain_ratio(P, U), k, P, b, w, X)
     N = [X[i] * sum(b[k - i + 1:]) // M for i in years]
     H = [(w * N[i] + (M - w) * R[i]) // M for i in years]
     Q = [p * H[i] // M for i in years]
@@ -200,12 +230,12 @@ def results(k, n, P, e, b, w, U, a):
     return sum(s, []) + r + level + L[1:] + sum(y, []) + R + [sum(R)] + N + Q + [sum(Q)] + [p] + m + completed + z
 
 
-def run(record, room):
-    """The answer to a record and the result list where it is 0, for a buffer of `room` entries."""
+def run(year, record, room):
+    """The answer to a record in a valuation year and the result list where it is 0, for a buffer of `room` entries."""
     try:
         given = lists(read(record, room, result_count))
         k = given["k"][0]
-        out = results(k, given["n"], by_row(k, given["P"]), given["e"], given["b"], given["w"][0], given["U"], given["a"][0])
+        out = results(year, k, given["n"], by_row(k, given["P"]), given["e"], given["b"], given["w"][0], given["U"], given["a"][0])
         assert len(out) == result_count(k)
         return 0, out
     except Refused as no:
@@ -220,19 +250,24 @@ MOTOR_ACCOUNT = ([3, 1, 1, 1, 1] + MOTOR + [1100000, 1210000, 1331000, M] + [700
 THREE_YEARS = [2, 100, 100, 100, 0, 5000, 999999, 0, 0, 1, M, M, M, M, 0, 0, 0, 0, 0, 0, 0]
 
 
+# document 02's request 1 on paper: Y is -39, and with the last cell 41 it is 1
+PAID_BACK = [2, 1, 100, 1, 0, 1, 0, 50, -40, 1, M, M, M, M, 0, 0, 500000, 0, 0, 0, 0]
+
+
 def marked():
-    """The items of document 01's "Marked triangles and edges", averages as request 4 of document 02 marks them, the amount zero as request 3 does."""
-    def put(*changes):
+    """The items of document 01's "Marked triangles and edges", which are of 2026, averages as request 4 of document 02 marks them, the amount zero as request 3
+    does; and what the ratio under growth makes of the two years."""
+    def put(*changes, year=2026):
         fields = list(TWO_YEARS)
         for at, value in changes:
             fields[at] = value
-        return run(pack(fields), 22)
+        return run(year, pack(fields), 22)
 
     assert (bit_count(1), byte_count(1), bit_count(15), byte_count(15)) == (357, 45, 6370, 797)
     assert (cells(15), result_count(1), result_count(15)) == (136, 22, 505)
-    printed = "6000 4000 6600 622641509 377358491 9636 10600 11660 44 0 44 44 0 22 0 3 3 96385 1666666 109 0 0"
-    assert put() == (0, [int(x) for x in printed.split()])
-    number, out = run(pack(MOTOR_ACCOUNT), result_count(3))
+    printed = [int(x) for x in "6000 4000 6600 622641509 377358491 9636 10600 11660 44 0 44 44 0 22 0 3 3 96385 1666666 109 0 0".split()]
+    assert put() == put(year=0) == (0, printed)
+    number, out = run(2026, pack(MOTOR_ACCOUNT), result_count(3))
     assert number == 0 and out[10:14] == [583475514, 287767456, 86614799, 42142231]
     assert out[14:18] == [86378, 98939, 101998, 113900] and out[-4:] == [0] * 4
     assert [average(*a) for a in ((1, 8), (-1, 8), (1, 3), (1, 200), (1, 201))] == [12, -12, 33, 0, 0]
@@ -241,10 +276,21 @@ def marked():
     assert put((3, 0)) == (13, None)
     assert put((12, 161)) == (12, None)
     assert put((12, 160))[0] == 0 and put((12, 160))[1][17] == M
-    assert run(pack(THREE_YEARS), result_count(2)) == (9, None)
+    assert run(2026, pack(THREE_YEARS), result_count(2)) == (9, None)
     # an amount of 100 for year 0, carried to year 1 by e_2 / e_1 = 1.1: provisions, claims not reported and reserves
-    number, out = put((7, 1210000), (13, 100))
+    tail = (7, 1210000), (13, 100)
+    number, out = put(*tail)
     assert number == 0 and out[9:17] == [100, 154, 254, 0, 44, 4, 9, 13] and out[20:] == [100, 110]
+    # 108 are reported and 106 paid in the latest year, the divisor is 1,009,433: the ratio alone changes
+    assert growth(1, [[60, 40], [66]], [800000, 200000], 500000, [100, 110]) == (108, 106, 1009433)
+    assert put(year=2027) == put(year=2**64 - 1) == (0, printed[:17] + [95484] + printed[18:])
+    assert put(*tail, year=2027) == (0, out[:14] + [3, 6, 9, 63458] + out[18:])
+    # Y is below 1, and is 1; all is reported a year late and the weight is 1: the divisor is 0, and the corrected ratio 1,060,000
+    late = PAID_BACK[:9] + [41] + PAID_BACK[10:]
+    assert [run(year, pack(fields), result_count(2))[0] for fields in (PAID_BACK, late) for year in (2026, 2027)] == [0, 15, 0, 0]
+    reported_late = (8, 0), (9, M), (10, M)
+    assert [put((3, 1), (4, 0), (5, 2000000), *reported_late, year=year)[0] for year in (2026, 2027)] == [0, 16]
+    assert [put((11, 66), (12, 100), *reported_late, year=year)[0] for year in (2026, 2027)] == [0, 17]
 
 
 marked()

@@ -48,19 +48,44 @@ def past_diagonal(k, rows):
     return line("year", range(k + 1), CELL) + "".join(line(i, [None] * (k + 1 - i) + rows[i], CELL) for i in range(k + 1))
 
 
-def page(record):
-    """The page that report writes of a record that the engine accepts."""
+def worked(year, record):
+    """Of a record that the engine accepts in a valuation year: k, the result list, what is paid by origin year, the plain ULAE ratio, and from 2027 on what is
+    reported and paid in the latest year and the divisor."""
     k = record[0] >> 4
-    number, results = model.run(record, model.result_count(k))
+    number, results = model.run(year, record, model.result_count(k))
     assert number == 0
+    given = model.lists(model.read(record, model.field_count(k)))
+    P = model.by_row(k, given["P"])
+    paid = [sum(row) for row in P]
+    provisions = sections(k, results)[5]
+    growth = None
+    if year >= model.FIRST_CORRECTED:
+        growth = model.growth(k, P, given["b"], given["w"][0], [paid[i] + provisions[i] for i in range(k + 1)])
+    return k, results, paid, model.plain_ratio(P, given["U"]), growth
+
+
+def ratio_lines(plain, growth, ratio):
+    """The block of the ULAE ratio: the plain one, and where it is corrected by what, and the corrected one."""
+    figures = [("ULAE ratio, plain", fixed(plain, 6))]
+    if growth:
+        reported, paid, divisor = growth
+        figures += [("Reported in the latest year, B", reported), ("Paid in the latest year, Y", paid), ("Divisor", fixed(divisor, 6)),
+                    ("ULAE ratio, corrected for growth", fixed(ratio, 6))]
+    return "".join(f"{name:34}{value:>17}\n" for name, value in figures)
+
+
+def page(year, record):
+    """The page that report writes of a record that the engine accepts in a valuation year."""
+    k, results, paid, plain, growth = worked(year, record)
     (averages, shares, levels, future, payments, provisions, provision_total, unreported, reserves, reserve_total, ratio, factors,
      completed, tails) = sections(k, results)
     years = range(k + 1)
-    paid = [sum(row) for row in model.by_row(k, model.lists(model.read(record, model.field_count(k)))["P"])]
     # the chain ladder completes nothing of year 0
     ladder = [completed[i][-1] if i else paid[0] for i in years]
 
-    text = "Averages paid a claim, by origin year and development year\n"
+    text = f"Valuation year {year}\n"
+
+    text += "\nAverages paid a claim, by origin year and development year\n"
     text += line("year", years, CELL)
     for i in years:
         text += line(i, [fixed(s, 2) for s in averages[i]], CELL)
@@ -85,7 +110,7 @@ def page(record):
     columns = [sum(paid), provision_total, sum(tails), sum(paid) + provision_total, None, reserve_total, sum(ladder), sum(ladder) - sum(paid)]
     text += line("total", columns, AMOUNT)
 
-    text += f"\nULAE ratio {fixed(ratio, 6)}\n"
+    text += "\n" + ratio_lines(plain, growth, ratio)
 
     text += "\nChain ladder: development factors, from each development year to the next\n"
     text += line("year", ["factor"], CELL)
@@ -96,11 +121,10 @@ def page(record):
     return text + past_diagonal(k, completed)
 
 
-def csv(record):
-    """The lines that csv writes of a record that the engine accepts: section, origin year, development or payment year, value, unit."""
-    k = record[0] >> 4
-    number, results = model.run(record, model.result_count(k))
-    assert number == 0
+def csv(year, record):
+    """The lines that csv writes of a record that the engine accepts in a valuation year: section, origin year, development or payment year, value, unit. The
+    result list comes first, and then what it does not have."""
+    k, results, _, plain, growth = worked(year, record)
     (averages, shares, levels, future, payments, provisions, provision_total, unreported, reserves, reserve_total, ratio, factors,
      completed, tails) = sections(k, results)
     claim, money = "hundredths a claim", "currency units"
@@ -127,13 +151,21 @@ def csv(record):
     put("completed cumulative", money, past(completed))
     put("tail payment", money, ((i, "", value) for i, value in enumerate(tails)))
     assert [value for *_, value, _ in lines[1:]] == results
+    put("valuation year", "year", [("", "", year)])
+    put("plain ulae ratio", "millionths", [("", "", plain)])
+    if growth:
+        reported, paid, divisor = growth
+        put("reported in the latest year", money, [("", "", reported)])
+        put("paid in the latest year", money, [("", "", paid)])
+        put("divisor of the ulae ratio", "millionths", [("", "", divisor)])
+        put("corrected ulae ratio", "millionths", [("", "", ratio)])
     return "".join(",".join(str(cell) for cell in line) + "\n" for line in lines)
 
 
 def totals_refusal(record):
     """The line that tells why question 7 refuses a record: the first column, else the first diagonal, that adds up to less than 0, else the whole."""
     k = record[0] >> 4
-    assert model.run(record, model.result_count(k))[0] == 7
+    assert model.run(2026, record, model.result_count(k))[0] == 7
     given = model.lists(model.read(record, model.field_count(k)))
     averages = [[model.average(paid, given["n"][i]) for paid in row] for i, row in enumerate(model.by_row(k, given["P"]))]
     years = range(k + 1)

@@ -1,4 +1,4 @@
-/* Doonamurk, a reserving engine: from one record of paid claims, exposures and assumptions to its result list.
+/* Doonamurk, a reserving engine: from one record of paid claims, exposures and assumptions to its result list for a valuation year.
  *
  * Link target/lib/libdoonamurk.a or libdoonamurk.so (bindings/build makes both; x86-64 Linux). docs/FORMAT.md has the record, the lists and the
  * questions.
@@ -26,9 +26,12 @@
  *   19  Is the average of what is still to be paid after year k, carried to each year by the indices, at most 5 * 10^9?
  *   11  Is every ultimate at most 10^12?
  *   12  Is the total of paid increments at least 1, and the total of the ULAE totals at most that?
+ *   15  From valuation year 2027 on: is the total paid in the latest payment year at least 1?
+ *   16  From valuation year 2027 on: is the divisor of the ULAE ratio not 0?
+ *   17  From valuation year 2027 on: is the corrected ULAE ratio at most 1,000,000?
  *   13  Is every chain-ladder base at least 1, and every development factor at most 50,000,000?
  *   14  Is every completed cumulative at most 10^11?
- * run asks all of them, read 1 to 5, and write 1, 2, 4 and 5.
+ * run asks all of them, but 15 to 17 only from valuation year 2027 on; read asks 1 to 5, and write 1, 2, 4 and 5.
  */
 #ifndef DOONAMURK_H
 #define DOONAMURK_H
@@ -66,7 +69,7 @@ enum doonamurk_section {
     DOONAMURK_NOT_REPORTED,          /* origin years 0 to k */
     DOONAMURK_ULAE_RESERVES,         /* origin years 0 to k */
     DOONAMURK_TOTAL_ULAE_RESERVE,    /* one entry */
-    DOONAMURK_ULAE_RATIO,            /* one entry */
+    DOONAMURK_ULAE_RATIO,            /* one entry: the ratio that is used, from valuation year 2027 on the corrected one */
     DOONAMURK_DEVELOPMENT_FACTORS,   /* development years 0 to k - 1, each to the next */
     DOONAMURK_COMPLETED_CUMULATIVES, /* future cells */
     DOONAMURK_TAIL_PAYMENTS,         /* origin years 0 to k: paid after year k, and part of the provisions */
@@ -105,16 +108,17 @@ static inline size_t doonamurk_section_start(size_t k, enum doonamurk_section se
 static inline size_t doonamurk_cell(size_t k, size_t i, size_t j) { return i * (k + 1) - i * (i - 1) / 2 + j; }
 static inline size_t doonamurk_future_cell(size_t k, size_t i, size_t j) { return i * (i - 1) / 2 + (i + j - k - 1); }
 
-/* Runs from a record to its result list.
+/* Runs from a record to its result list for a valuation year.
  *
- * Answers 0 and fills the first doonamurk_result_count(k) entries of results; entries past them keep what they held. Else answers 1 to 14, 18 or 19, the first
- * question that says no, and leaves all of results as it was; too short a buffer is question 3.
+ * Answers 0 and fills the first doonamurk_result_count(k) entries of results; entries past them keep what they held. Else answers 1 to 19, the first question
+ * that says no, and leaves all of results as it was; too short a buffer is question 3.
  *
+ * valuation_year        any number; from 2027 on the ULAE ratio is corrected for growth and questions 15 to 17 are asked. It is no part of the record
  * record, record_len    any bytes, of any length; only read
  * results, results_len  the buffer that is filled; DOONAMURK_RESULTS_MAX entries hold every list
  *
  * The caller owns both and nothing is kept or freed; neither may be null and they must not overlap; any number of threads may call at once. */
-uint64_t doonamurk_run(const uint8_t *record, size_t record_len, int64_t *results, size_t results_len);
+uint64_t doonamurk_run(uint64_t valuation_year, const uint8_t *record, size_t record_len, int64_t *results, size_t results_len);
 
 /* Reads a record into a list of its fields.
  *

@@ -1,5 +1,5 @@
-/* Tests the C functions on Taylor's motor account, on document 01's two years, also with payments after the last year, on refusals, and from several threads at
- * once. Says which check fails, and ends with status 1. */
+/* Tests the C functions on Taylor's motor account, on document 01's two years, also with payments after the last year and in other valuation years, on refusals,
+ * and from several threads at once. Says which check fails, and ends with status 1. */
 #include "doonamurk.h"
 
 #include <pthread.h>
@@ -74,7 +74,7 @@ static void named_sections(void)
     int64_t list[DOONAMURK_RESULTS_MAX];
     size_t k = MOTOR_K;
     check(write_motor(k, 1, 10, record, doonamurk_record_bytes(k)) == 0, "the motor account is written");
-    check(doonamurk_run(record, doonamurk_record_bytes(k), list, DOONAMURK_RESULTS_MAX) == 0, "the motor account is accepted");
+    check(doonamurk_run(2026, record, doonamurk_record_bytes(k), list, DOONAMURK_RESULTS_MAX) == 0, "the motor account is accepted");
     check(list[doonamurk_section_start(k, DOONAMURK_AVERAGES) + doonamurk_cell(k, 2, 1)] == 33200, "an average by its years");
     check(list[doonamurk_section_start(k, DOONAMURK_SHARES) + 3] == 42142231, "a share by its year");
     check(list[doonamurk_section_start(k, DOONAMURK_PAYMENTS) + doonamurk_future_cell(k, 3, 1)] == 360, "a payment by its years");
@@ -100,7 +100,7 @@ static void two_years(void)
     uint8_t record[45];
     int64_t results[22];
     write_two_years(1100000, 1000000, 0, record);
-    check(doonamurk_run(record, 45, results, 22) == 0, "the two years are accepted");
+    check(doonamurk_run(2026, record, 45, results, 22) == 0, "the two years are accepted");
     check(memcmp(results, printed, sizeof printed) == 0, "the two years have the printed list");
 }
 
@@ -111,11 +111,30 @@ static void tail_payments(void)
     uint8_t record[45];
     int64_t results[22], fields[14];
     write_two_years(1100000, 1210000, 100, record);
-    check(doonamurk_run(record, 45, results, 22) == 0, "an amount still to be paid is accepted");
+    check(doonamurk_run(2026, record, 45, results, 22) == 0, "an amount still to be paid is accepted");
     check(memcmp(results + doonamurk_section_start(1, DOONAMURK_TAIL_PAYMENTS), tails, sizeof tails) == 0, "payments after the last year");
     check(memcmp(results + doonamurk_section_start(1, DOONAMURK_PROVISIONS), provisions, sizeof provisions) == 0, "provisions with them");
     check(memcmp(results + doonamurk_section_start(1, DOONAMURK_ULAE_RESERVES), reserves, sizeof reserves) == 0, "ULAE reserves with them");
     check(doonamurk_read(record, 45, fields, 14) == 0 && fields[7] == 1210000 && fields[13] == 100, "the last index and the amount are read");
+}
+
+/* The ratio of a valuation year: from 2027 on 108 are reported in the latest year and 106 paid, and the divisor is 1.009433. */
+static void valuation_years(void)
+{
+    static const struct { uint64_t year; int64_t ratio, ratio_with_tail; } due[] = {
+        {0, 96385, 96385}, {2026, 96385, 96385}, {2027, 95484, 63458}, {2028, 95484, 63458}, {UINT64_MAX, 95484, 63458},
+    };
+    uint8_t record[45], with_tail[45];
+    int64_t results[22];
+    size_t ratio = doonamurk_section_start(1, DOONAMURK_ULAE_RATIO), reserves = doonamurk_section_start(1, DOONAMURK_ULAE_RESERVES);
+    write_two_years(1100000, 1000000, 0, record);
+    write_two_years(1100000, 1210000, 100, with_tail);
+    for (size_t i = 0; i < sizeof due / sizeof *due; i++) {
+        check(doonamurk_run(due[i].year, record, 45, results, 22) == 0 && results[ratio] == due[i].ratio, "the ratio of a valuation year");
+        check(doonamurk_run(due[i].year, with_tail, 45, results, 22) == 0 && results[ratio] == due[i].ratio_with_tail,
+              "the ratio of a valuation year with payments after the last year");
+    }
+    check(results[reserves] == 3 && results[reserves + 1] == 6, "ULAE reserves by the corrected ratio");
 }
 
 /* Averages that lie halfway between two hundredths go to the even one, negative ones too. */
@@ -128,7 +147,7 @@ static void halves(void)
     int64_t results[DOONAMURK_RESULTS_MAX];
     size_t bytes = doonamurk_record_bytes(3);
     check(doonamurk_write(3, exposures, 4, increments, 10, indices, 4, reporting, 4, 0, ulae, 4, 0, record, bytes) == 0, "halves are written");
-    check(doonamurk_run(record, bytes, results, DOONAMURK_RESULTS_MAX) == 0, "halves are accepted");
+    check(doonamurk_run(2026, record, bytes, results, DOONAMURK_RESULTS_MAX) == 0, "halves are accepted");
     check(memcmp(results, averages, sizeof averages) == 0, "halves go to the even hundredth");
 }
 
@@ -141,7 +160,7 @@ static void motor_account(void)
     size_t bytes = doonamurk_record_bytes(MOTOR_K), count = doonamurk_result_count(MOTOR_K);
     check(write_motor(MOTOR_K, 1, 10, record, bytes) == 0, "the motor account is written");
     fill(results, DOONAMURK_RESULTS_MAX);
-    check(doonamurk_run(record, bytes, results, DOONAMURK_RESULTS_MAX) == 0, "the motor account is accepted");
+    check(doonamurk_run(2026, record, bytes, results, DOONAMURK_RESULTS_MAX) == 0, "the motor account is accepted");
     check(memcmp(results + 10, shares, sizeof shares) == 0, "shares of the motor account");
     check(memcmp(results + 14, levels, sizeof levels) == 0, "levels of the motor account");
     check(filled(results, count, DOONAMURK_RESULTS_MAX), "entries past the list keep what they held");
@@ -154,16 +173,21 @@ static void motor_account(void)
 }
 
 /* A refused run or read leaves every entry. */
-static void refused(uint64_t number, const uint8_t *record, size_t len, size_t room, const char *what)
+static void refused_in(uint64_t year, uint64_t number, const uint8_t *record, size_t len, size_t room, const char *what)
 {
     int64_t results[DOONAMURK_RESULTS_MAX];
     fill(results, DOONAMURK_RESULTS_MAX);
-    uint64_t answer = doonamurk_run(record, len, results, room);
+    uint64_t answer = doonamurk_run(year, record, len, results, room);
     check(answer == number && filled(results, 0, DOONAMURK_RESULTS_MAX), what);
     if (number <= 5 && number != 3) {
         answer = doonamurk_read(record, len, results, room);
         check(answer == number && filled(results, 0, DOONAMURK_RESULTS_MAX), what);
     }
+}
+
+static void refused(uint64_t number, const uint8_t *record, size_t len, size_t room, const char *what)
+{
+    refused_in(2026, number, record, len, room, what);
 }
 
 static void refusals(void)
@@ -205,6 +229,25 @@ static void refusals(void)
     refused(18, changed, 45, 22, "refused 18: an average still to be paid above 10^9");
     write_two_years(1, 6, 10000000, changed);
     refused(19, changed, 45, 22, "refused 19: an average carried to year 1 above 5 * 10^9");
+}
+
+/* What only valuation years from 2027 on ask; in 2026 each of these is accepted. */
+static void growth_refusals(void)
+{
+    const struct { uint64_t exposures[2]; int64_t cells[3]; uint64_t ulae[2]; uint64_t number; const char *what; } asked[] = {
+        {{300, 1}, {10, -1, 1}, {0, 0}, 15, "refused 15: as much is paid back in the latest year as is paid"},
+        {{1, 1}, {1, 0, 2000000}, {0, 0}, 16, "refused 16: the divisor is 0"},
+        {{1, 1}, {60, 40, 66}, {66, 100}, 17, "refused 17: the corrected ratio is 1.06"},
+    };
+    const uint64_t indices[] = {1100000, 1000000}, reporting[] = {0, 1000000};
+    for (size_t i = 0; i < sizeof asked / sizeof *asked; i++) {
+        uint8_t record[45];
+        int64_t results[22];
+        check(doonamurk_write(1, asked[i].exposures, 2, asked[i].cells, 3, indices, 2, reporting, 2, 1000000, asked[i].ulae, 2, 0, record, 45) == 0,
+              "a changed two years is written");
+        check(doonamurk_run(2026, record, 45, results, 22) == 0, "what 2027 asks is not asked in 2026");
+        refused_in(2027, asked[i].number, record, 45, 22, asked[i].what);
+    }
 }
 
 static void refused_writes(void)
@@ -254,7 +297,7 @@ static void *run_many(void *given)
     for (int n = 0; n < RUNS; n++) {
         int64_t results[DOONAMURK_RESULTS_MAX];
         fill(results, DOONAMURK_RESULTS_MAX);
-        uint64_t answer = doonamurk_run(work->record, doonamurk_record_bytes(MOTOR_K), results, DOONAMURK_RESULTS_MAX);
+        uint64_t answer = doonamurk_run(2026, work->record, doonamurk_record_bytes(MOTOR_K), results, DOONAMURK_RESULTS_MAX);
         if (answer != 0 || memcmp(results, work->expected, count * sizeof *results) != 0 || !filled(results, count, DOONAMURK_RESULTS_MAX))
             work->different++;
     }
@@ -267,7 +310,7 @@ static void threads(void)
     int64_t expected[DOONAMURK_RESULTS_MAX];
     size_t bytes = doonamurk_record_bytes(MOTOR_K);
     check(write_motor(MOTOR_K, 1, 10, record, bytes) == 0, "the motor account is written");
-    check(doonamurk_run(record, bytes, expected, DOONAMURK_RESULTS_MAX) == 0, "the motor account is accepted");
+    check(doonamurk_run(2026, record, bytes, expected, DOONAMURK_RESULTS_MAX) == 0, "the motor account is accepted");
     pthread_t thread[THREADS];
     struct work work[THREADS];
     int started = 0;
@@ -290,9 +333,11 @@ int main(void)
     named_sections();
     two_years();
     tail_payments();
+    valuation_years();
     halves();
     motor_account();
     refusals();
+    growth_refusals();
     refused_writes();
     threads();
     return failures != 0;

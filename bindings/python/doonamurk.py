@@ -1,7 +1,7 @@
 """Calls the proved reserving engine from Python: run, read and write, over the shared library that bindings/build makes.
 
     import doonamurk
-    results = doonamurk.run(open("examples/motor_account.rec", "rb").read())
+    results = doonamurk.run(open("examples/motor_account.rec", "rb").read(), year=2026)
     doonamurk.sections(results)["provisions"]        {0: 0, 1: 52, 2: 166, 3: 542}, by origin year
 
 A refusal is raised as Refused, with the number of the first question that says no. docs/FORMAT.md has the record, the lists and the questions.
@@ -41,6 +41,9 @@ QUESTIONS = {
     19: "Is the average of what is still to be paid after year k, carried to each year by the indices, at most 5 * 10^9?",
     11: "Is every ultimate at most 10^12?",
     12: "Is the total of paid increments at least 1, and the total of the ULAE totals at most that?",
+    15: "From valuation year 2027 on: is the total paid in the latest payment year at least 1?",
+    16: "From valuation year 2027 on: is the divisor of the ULAE ratio not 0?",
+    17: "From valuation year 2027 on: is the corrected ULAE ratio at most 1,000,000?",
     13: "Is every chain-ladder base at least 1, and every development factor at most 50,000,000?",
     14: "Is every completed cumulative at most 10^11?",
 }
@@ -143,10 +146,9 @@ def _load():
     library = ctypes.CDLL(str(path))
     size = ctypes.c_size_t
     byte_list, signed_list, list_ = (ctypes.POINTER(t) for t in (ctypes.c_uint8, ctypes.c_int64, ctypes.c_uint64))
-    for name in "doonamurk_run", "doonamurk_read":
-        call = getattr(library, name)
-        call.restype = ctypes.c_uint64
-        call.argtypes = [byte_list, size, signed_list, size]
+    library.doonamurk_run.restype = library.doonamurk_read.restype = ctypes.c_uint64
+    library.doonamurk_run.argtypes = [ctypes.c_uint64, byte_list, size, signed_list, size]
+    library.doonamurk_read.argtypes = [byte_list, size, signed_list, size]
     library.doonamurk_write.restype = ctypes.c_uint64
     library.doonamurk_write.argtypes = [
         ctypes.c_uint64, list_, size, signed_list, size, list_, size, list_, size, ctypes.c_uint64, list_, size, ctypes.c_uint64, byte_list, size
@@ -180,14 +182,27 @@ def _filled(call, record, count_of):
     return list(entries)
 
 
-def run(record):
-    """The result list of a record, a list of whole numbers.
+def _year_of(year):
+    """The valuation year as a whole number that 64 bits hold; ctypes would cut any other."""
+    try:
+        year = operator.index(year)
+    except TypeError:
+        raise TypeError(f"year: a whole number is due, not {type(year).__name__}") from None
+    if not 0 <= year < 2**64:
+        raise ValueError(f"year: {year} is not from 0 to 2^64 - 1")
+    return year
 
-    Refusals: raises Refused with the first of questions 1 to 14, 18 and 19 that says no; question 3 never does, for the list is made as long as it
-    must be. Raises TypeError where the record is not bytes or memory of single bytes.
+
+def run(record, year):
+    """The result list of a record for a valuation year, a list of whole numbers. From 2027 on the ULAE ratio is corrected for growth.
+
+    Refusals: raises Refused with the first of questions 1 to 19 that says no, 15 to 17 only from 2027 on; question 3 never does, for the list is made as long
+    as it must be. Raises ValueError where the year is not from 0 to 2^64 - 1, and TypeError where it is no whole number or where the record is not bytes or
+    memory of single bytes.
     Ownership: the record is copied in and not changed or kept; the list is a new one, the caller's.
     Threads: any number may call at once, with the same record too."""
-    return _filled(_library.doonamurk_run, record, result_count)
+    year = _year_of(year)
+    return _filled(lambda *buffers: _library.doonamurk_run(year, *buffers), record, result_count)
 
 
 def read(record):

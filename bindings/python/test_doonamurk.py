@@ -1,4 +1,4 @@
-"""Taylor's motor account, document 01's two years, payments after the last year, refusals, and the way from fields to a record and back.
+"""Taylor's motor account, document 01's two years, payments after the last year, valuation years, refusals, and the way from fields to a record and back.
 
     python3 -m unittest discover bindings/python
 """
@@ -36,7 +36,7 @@ LEVELS = [86378, 98939, 101998, 113900]
 
 def total_or_number(record):
     """What a worker of a process pool makes of a record."""
-    return doonamurk.sections(doonamurk.run(record))["total_provision"]
+    return doonamurk.sections(doonamurk.run(record, 2026))["total_provision"]
 
 
 class Calls(unittest.TestCase):
@@ -55,27 +55,60 @@ class Calls(unittest.TestCase):
             self.assertEqual((count(1), count(doonamurk.K_MAX)), (first, last))
 
     def test_motor_account(self):
-        results = doonamurk.run(doonamurk.write(**MOTOR))
+        results = doonamurk.run(doonamurk.write(**MOTOR), 2026)
         self.assertEqual(len(results), doonamurk.result_count(3))
         self.assertEqual(results[10:14], SHARES)
         self.assertEqual(results[14:18], LEVELS)
 
     def test_example_file(self):
         record = (Path(__file__).resolve().parents[2] / "examples/motor_account.rec").read_bytes()
-        self.assertEqual(doonamurk.run(record)[10:14], SHARES)
+        self.assertEqual(doonamurk.run(record, 2026)[10:14], SHARES)
 
     def test_two_years(self):
-        self.assertEqual(doonamurk.run(doonamurk.write(**TWO_YEARS)), TWO_YEARS_PRINTED)
+        self.assertEqual(doonamurk.run(doonamurk.write(**TWO_YEARS), 2026), TWO_YEARS_PRINTED)
 
     def test_halves_go_to_the_even_hundredth(self):
         record = doonamurk.write(3, [8] * 4, [401, -1, 3, 5, 403, 7, -3, 405, 9, 407], [1000000] * 4, [1000000, 0, 0, 0], 0, [0] * 4, 0)
-        self.assertEqual(doonamurk.run(record)[:10], [5012, -12, 38, 62, 5038, 88, -38, 5062, 112, 5088])
+        self.assertEqual(doonamurk.run(record, 2026)[:10], [5012, -12, 38, 62, 5038, 88, -38, 5062, 112, 5088])
 
     def test_payments_after_the_last_year(self):
-        named = doonamurk.sections(doonamurk.run(doonamurk.write(**{**TWO_YEARS, "indices": [1100000, 1210000], "tail": 100})))
+        named = doonamurk.sections(doonamurk.run(doonamurk.write(**{**TWO_YEARS, "indices": [1100000, 1210000], "tail": 100}), 2026))
         self.assertEqual(named["tail_payments"], {0: 100, 1: 110})
         self.assertEqual(named["provisions"], {0: 100, 1: 154})
         self.assertEqual((named["not_reported"], named["ulae_reserves"]), ({0: 0, 1: 44}, {0: 4, 1: 9}))
+
+    def test_valuation_years(self):
+        """From 2027 on 108 are reported in the latest year and 106 paid, and the divisor is 1.009433: of the list just the ratio changes."""
+        record = doonamurk.write(**TWO_YEARS)
+        for year in 0, 2026:
+            self.assertEqual(doonamurk.run(record, year), TWO_YEARS_PRINTED)
+        for year in 2027, 2028, 2**16 + 2026, 2**64 - 1:
+            self.assertEqual(doonamurk.run(record, year=year), TWO_YEARS_PRINTED[:17] + [95484] + TWO_YEARS_PRINTED[18:])
+        tail = doonamurk.sections(doonamurk.run(doonamurk.write(**{**TWO_YEARS, "indices": [1100000, 1210000], "tail": 100}), 2027))
+        self.assertEqual((tail["ulae_ratio"], tail["ulae_reserves"]), (63458, {0: 3, 1: 6}))
+
+    def test_refusals_from_2027_on(self):
+        late = dict(reporting=[0, 1000000], weight=1000000)
+        for number, change in (
+            (15, dict(exposures=[300, 1], increments=[10, -1, 1], ulae=[0, 0])),
+            (16, dict(increments=[1, 0, 2000000], **late)),
+            (17, dict(ulae=[66, 100], **late)),
+        ):
+            record = doonamurk.write(**{**TWO_YEARS, **change})
+            self.assertEqual(len(doonamurk.run(record, 2026)), 22)
+            refusal = self.refused(number, doonamurk.run, record, 2027)
+            self.assertEqual(refusal.question, doonamurk.QUESTIONS[number])
+
+    def test_what_a_year_may_be(self):
+        record = doonamurk.write(**TWO_YEARS)
+        for year in -1, 2**64, -(2**64) + 2026, 2**64 + 2026:
+            with self.assertRaisesRegex(ValueError, f"^year: {year} is not from 0 to 2\\^64 - 1$"):
+                doonamurk.run(record, year)
+        for year in 2026.0, "2026", None, b"\x07\xea":
+            with self.assertRaisesRegex(TypeError, "^year: a whole number is due, not "):
+                doonamurk.run(record, year)
+        with self.assertRaises(TypeError):
+            doonamurk.run(record)
 
     def test_round_trip(self):
         record = doonamurk.write(**MOTOR)
@@ -94,7 +127,7 @@ class Calls(unittest.TestCase):
             (2, record[:-1] + bytes([record[-1] | 1])),
             (4, b"\x30\0\0" + record[3:]),
         ):
-            self.refused(number, doonamurk.run, bad)
+            self.refused(number, doonamurk.run, bad, 2026)
             self.refused(number, doonamurk.read, bad)
 
     def test_a_refusal_leaves_the_lent_buffer(self):
@@ -103,7 +136,11 @@ class Calls(unittest.TestCase):
         record = doonamurk.write(**MOTOR)
         zero = doonamurk.write(**{**TWO_YEARS, "increments": [60, 40, 0]})
         library = doonamurk._library
-        run, read = library.doonamurk_run, library.doonamurk_read
+        read = library.doonamurk_read
+
+        def run(*buffers):
+            return library.doonamurk_run(2026, *buffers)
+
         full = doonamurk.RESULTS_MAX
         for number, call, bad, room in (
             (1, run, b"", full), (1, read, b"", full),
@@ -126,14 +163,15 @@ class Calls(unittest.TestCase):
 
     def test_what_a_record_may_be(self):
         record = doonamurk.write(**MOTOR)
-        results = doonamurk.run(record)
+        results = doonamurk.run(record, 2026)
         for same in (bytearray(record), memoryview(record), array.array("B", record), (ctypes.c_uint8 * len(record)).from_buffer_copy(record)):
-            self.assertEqual(doonamurk.run(same), results)
+            self.assertEqual(doonamurk.run(same, 2026), results)
             self.assertEqual(bytes(same), record)
         for other in (list(record), "30", None, array.array("H", [0x30] * 60), 48):
-            for call in doonamurk.run, doonamurk.read:
-                with self.assertRaises(TypeError):
-                    call(other)
+            with self.assertRaises(TypeError):
+                doonamurk.run(other, 2026)
+            with self.assertRaises(TypeError):
+                doonamurk.read(other)
 
     def test_library_named_by_the_environment(self):
         """A path without a folder is a file of the working folder, not of the system's folders."""
@@ -151,7 +189,7 @@ class Calls(unittest.TestCase):
             (18, dict(tail=10000001)),
             (19, dict(indices=[1, 6], tail=10000000)),
         ):
-            refusal = self.refused(number, doonamurk.run, doonamurk.write(**{**TWO_YEARS, **change}))
+            refusal = self.refused(number, doonamurk.run, doonamurk.write(**{**TWO_YEARS, **change}), 2026)
             self.assertEqual(refusal.question, doonamurk.QUESTIONS[number])
 
     def test_refused_writes(self):
@@ -181,7 +219,7 @@ class Calls(unittest.TestCase):
             with self.assertRaisesRegex(TypeError, f"^{next(iter(change))}: whole numbers are due"):
                 doonamurk.write(**{**MOTOR, **change})
         with self.assertRaisesRegex(TypeError, "^record: bytes are due, not str"):
-            doonamurk.run("30")
+            doonamurk.run("30", 2026)
 
     def test_sections(self):
         named = doonamurk.sections(TWO_YEARS_PRINTED)
@@ -201,7 +239,7 @@ class Calls(unittest.TestCase):
             "completed_cumulatives": {(1, 1): 109},
             "tail_payments": {0: 0, 1: 0},
         })
-        motor = doonamurk.sections(doonamurk.run(doonamurk.write(**MOTOR)))
+        motor = doonamurk.sections(doonamurk.run(doonamurk.write(**MOTOR), 2026))
         self.assertEqual(list(motor["shares"].values()), SHARES)
         self.assertEqual(motor["payments"], {(1, 3): 52, (2, 2): 108, (2, 3): 58, (3, 1): 360, (3, 2): 119, (3, 3): 63})
         for k in range(1, doonamurk.K_MAX + 1):
@@ -212,7 +250,7 @@ class Calls(unittest.TestCase):
             doonamurk.sections(TWO_YEARS_PRINTED[1:])
 
     def test_a_refusal_pickles_and_copies(self):
-        refusal = self.refused(2, doonamurk.run, b"\x30")
+        refusal = self.refused(2, doonamurk.run, b"\x30", 2026)
         for same in (pickle.loads(pickle.dumps(refusal)), copy.copy(refusal), copy.deepcopy(refusal)):
             self.assertEqual((type(same), same.number, same.question, str(same)), (doonamurk.Refused, 2, refusal.question, str(refusal)))
 
@@ -223,17 +261,17 @@ class Calls(unittest.TestCase):
             self.refused(8, pool.map, total_or_number, [good, bad, good])
 
     def test_refusal_says_its_question(self):
-        self.assertEqual(str(self.refused(1, doonamurk.run, b"")), "refused 1: Is there a first byte, and is k at least 1?")
+        self.assertEqual(str(self.refused(1, doonamurk.run, b"", 2026)), "refused 1: Is there a first byte, and is k at least 1?")
         self.assertEqual(str(self.refused(1, doonamurk.write, **{**MOTOR, "k": 0})), "refused 1: Is k from 1 to 15?")
 
     def test_threads(self):
         records = [doonamurk.write(**MOTOR), doonamurk.write(**TWO_YEARS)]
-        expected = [doonamurk.run(record) for record in records]
+        expected = [doonamurk.run(record, 2026) for record in records]
         wrong = []
 
         def work(n):
             for _ in range(300):
-                if doonamurk.run(records[n % 2]) != expected[n % 2]:
+                if doonamurk.run(records[n % 2], 2026) != expected[n % 2]:
                     wrong.append(n)
 
         threads = [threading.Thread(target=work, args=(n,)) for n in range(4)]

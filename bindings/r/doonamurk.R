@@ -1,10 +1,10 @@
-# Calls the proved reserving engine from R: doonamurk_run gives the result list of a record, doonamurk_sections its sections by name, doonamurk_read the
-# fields of a record, and doonamurk_write makes a record of figures.
+# Calls the proved reserving engine from R: doonamurk_run gives the result list of a record for a valuation year, doonamurk_sections its sections by name,
+# doonamurk_read the fields of a record, and doonamurk_write makes a record of figures.
 #
 #     source("bindings/r/doonamurk.R")
 #     doonamurk_load("target/lib/doonamurk_r.so")
 #     f <- "examples/motor_account.rec"
-#     doonamurk_run(readBin(f, "raw", file.size(f)))      all of the file: cut short, a file that is too long could pass for a record
+#     doonamurk_run(readBin(f, "raw", file.size(f)), year = 2026)     all of the file: cut short, a file that is too long could pass for a record
 #
 # The library is made by bindings/test, or by hand after bindings/build:
 #
@@ -29,6 +29,9 @@ doonamurk_questions <- c(
   "19" = "Is the average of what is still to be paid after year k, carried to each year by the indices, at most 5 * 10^9?",
   "11" = "Is every ultimate at most 10^12?",
   "12" = "Is the total of paid increments at least 1, and the total of the ULAE totals at most that?",
+  "15" = "From valuation year 2027 on: is the total paid in the latest payment year at least 1?",
+  "16" = "From valuation year 2027 on: is the divisor of the ULAE ratio not 0?",
+  "17" = "From valuation year 2027 on: is the corrected ULAE ratio at most 1,000,000?",
   "13" = "Is every chain-ladder base at least 1, and every development factor at most 50,000,000?",
   "14" = "Is every completed cumulative at most 10^11?"
 )
@@ -57,25 +60,28 @@ doonamurk_refused <- function(number, questions = doonamurk_questions) {
   structure(class = c("doonamurk_refused", "error", "condition"), list(message = message, call = NULL, number = number))
 }
 
-# Calls a function of the glue with a list of just the length that it fills. A vector without bytes would be a null pointer, so one byte stands there.
-# .C copies its arguments: the record stays the caller's and as it was, and the list that comes back is a new one.
-doonamurk_filled <- function(name, record, count) {
+# Calls a function of the glue, with what it takes before the record, and a list of just the length that it fills. A vector without bytes would be a null
+# pointer, so one byte stands there. .C copies its arguments: the record stays the caller's and as it was, and the list that comes back is a new one.
+doonamurk_filled <- function(name, record, count, ...) {
   stopifnot(is.raw(record))
   bytes <- if (length(record) == 0) as.raw(0) else record
-  out <- .C(name, bytes, length(record), double(count), as.integer(count), answer = 0L)
+  out <- .C(name, ..., bytes, length(record), list = double(count), as.integer(count), answer = 0L)
   if (out$answer < 0) stop("a result is past 2^53")
   if (out$answer > 0) stop(doonamurk_refused(out$answer))
-  out[[3]]
+  out$list
 }
 
-# The result list of a record (a raw vector), in whole numbers, all below 2^53 and so exact.
-# Refusals: an error of class "doonamurk_refused" whose number is the first of questions 1 to 14, 18 and 19 that says no; never 3, for the list is made
-# as long as it must be. Another vector than a raw one is a plain error.
+# The result list of a record (a raw vector) for a valuation year, in whole numbers, all below 2^53 and so exact. From 2027 on the ULAE ratio is corrected for
+# growth. The engine takes any year of 64 bits; R has no such numbers, so here it is a whole number from 0 to 2^53.
+# Refusals: an error of class "doonamurk_refused" whose number is the first of questions 1 to 19 that says no, 15 to 17 only from 2027 on; never 3, for the
+# list is made as long as it must be. Another vector than a raw one, or another year, is a plain error.
 # Ownership: the record is copied in and not changed or kept; the list is a new vector.
 # Threads: the engine could be called from many at once, but R calls from its one thread; for more cores start more R processes.
-doonamurk_run <- function(record) {
+doonamurk_run <- function(record, year) {
+  if (length(year) != 1) stop("year: one number is due", call. = FALSE)
+  year <- doonamurk_whole("year", year)
   k <- doonamurk_k(record)
-  doonamurk_filled("doonamurk_r_run", record, 3 * doonamurk_cells(k) + 6 * k + 7)
+  doonamurk_filled("doonamurk_r_run", record, 3 * doonamurk_cells(k) + 6 * k + 7, year)
 }
 
 # The fields of a record (a raw vector) in its order, k first, increments signed.

@@ -1,4 +1,4 @@
-/* What R's .C can call: R has no 64-bit whole numbers and passes everything by reference, so results go out as doubles and counts as ints.
+/* What R's .C can call: R has no 64-bit whole numbers and passes everything by reference, so results and the valuation year are doubles and counts ints.
  *
  * Every result is far below 2^53 (the largest, a total of provisions, is below 2^44), so a double holds it exactly; fits() checks it all the same,
  * and the answer is then -1. A refused call leaves R's vectors as they were.
@@ -26,13 +26,13 @@ static int hand_out(const int64_t *list, double *out, size_t n)
     return 0;
 }
 
-/* The result list of a record. results has *results_len doubles, as many as are to be filled at most. *answer is 0, or 1 to 14, 18 or 19, the first
- * question that says no, or -1; results is filled only where it is 0. */
-void doonamurk_r_run(const unsigned char *record, const int *record_len, double *results, const int *results_len, int *answer)
+/* The result list of a record for a valuation year, which is whole and from 0 to 2^53. results has *results_len doubles, as many as are to be filled at most.
+ * *answer is 0, or 1 to 19, the first question that says no, or -1; results is filled only where it is 0. */
+void doonamurk_r_run(const double *year, const unsigned char *record, const int *record_len, double *results, const int *results_len, int *answer)
 {
     int64_t list[DOONAMURK_RESULTS_MAX];
     size_t room = *results_len < DOONAMURK_RESULTS_MAX ? (size_t)*results_len : DOONAMURK_RESULTS_MAX;
-    *answer = (int)doonamurk_run(record, (size_t)*record_len, list, room);
+    *answer = (int)doonamurk_run((uint64_t)*year, record, (size_t)*record_len, list, room);
     if (*answer == 0)
         *answer = hand_out(list, results, doonamurk_result_count(record[0] >> 4));
 }

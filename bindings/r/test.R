@@ -1,5 +1,5 @@
-# Taylor's motor account, document 01's two years, payments after the last year and refusals. From the repository's root, after bindings/build and
-# with the glue compiled:
+# Taylor's motor account, document 01's two years, payments after the last year, valuation years and refusals. From the repository's root, after bindings/build
+# and with the glue compiled:
 #
 #     Rscript bindings/r/test.R
 #
@@ -12,7 +12,7 @@ record <- function(file) readBin(file, "raw", file.size(file))
 refused <- function(call) tryCatch({ call; 0 }, doonamurk_refused = function(refusal) refusal$number)
 
 motor <- record("examples/motor_account.rec")
-results <- doonamurk_run(motor)
+results <- doonamurk_run(motor, 2026)
 stopifnot(
   length(results) == 55,
   results[11:14] == c(583475514, 287767456, 86614799, 42142231),
@@ -26,12 +26,12 @@ stopifnot(
   fields[6:15] == c(504, 282, 90, 48, 580, 292, 97, 595, 332, 662)
 )
 
-two_years <- doonamurk_run(record("examples/two_years.rec"))
+two_years <- doonamurk_run(record("examples/two_years.rec"), 2026)
 stopifnot(two_years == c(
   6000, 4000, 6600, 622641509, 377358491, 9636, 10600, 11660, 44, 0, 44, 44, 0, 22, 0, 3, 3, 96385, 1666666, 109, 0, 0
 ))
 
-longest <- doonamurk_run(record("examples/liability_book.rec"))
+longest <- doonamurk_run(record("examples/liability_book.rec"), 2026)
 stopifnot(length(longest) == 505, longest == floor(longest), sum(longest[137:152]) == 1e9)
 
 filled <- motor
@@ -39,22 +39,23 @@ filled[length(filled)] <- as.raw(as.integer(filled[length(filled)]) + 1L)
 no_claims <- motor
 no_claims[1:3] <- as.raw(c(0x30, 0, 0))
 stopifnot(
-  refused(doonamurk_run(raw(0))) == 1,
-  refused(doonamurk_run(raw(45))) == 1,
-  refused(doonamurk_run(motor[-1])) == 1,
-  refused(doonamurk_run(head(motor, -1))) == 2,
-  refused(doonamurk_run(filled)) == 2,
-  refused(doonamurk_run(no_claims)) == 4,
+  refused(doonamurk_run(raw(0), 2026)) == 1,
+  refused(doonamurk_run(raw(45), 2026)) == 1,
+  refused(doonamurk_run(motor[-1], 2026)) == 1,
+  refused(doonamurk_run(head(motor, -1), 2026)) == 2,
+  refused(doonamurk_run(filled, 2026)) == 2,
+  refused(doonamurk_run(no_claims, 2026)) == 4,
   refused(doonamurk_read(no_claims)) == 4,
-  refused(doonamurk_run(motor)) == 0
+  refused(doonamurk_run(motor, 2026)) == 0
 )
-words <- tryCatch(doonamurk_run(raw(0)), doonamurk_refused = conditionMessage)
+words <- tryCatch(doonamurk_run(raw(0), 2026), doonamurk_refused = conditionMessage)
 stopifnot(words == "refused 1: Is there a first byte, and is k at least 1?")
 
 # A refusal leaves the lent vector: the functions of the glue themselves, on a vector that holds a pattern.
 left <- function(name, bytes, bytes_len, room, number) {
   pattern <- -1000.5 - seq_len(505)
-  out <- .C(name, bytes, as.integer(bytes_len), lent = pattern, as.integer(room), answer = 0L)
+  lent <- list(bytes, as.integer(bytes_len), lent = pattern, as.integer(room), answer = 0L)
+  out <- do.call(.C, c(name, if (name == "doonamurk_r_run") 2026, lent))
   out$answer == number && identical(out$lent, pattern)
 }
 stopifnot(
@@ -90,22 +91,38 @@ write_motor <- function(exposures = rep(1, 4), paid_ = paid, indices = c(1100000
 }
 stopifnot(identical(write_motor(), motor))
 
+# From valuation year 2027 on the ratio of the two years is another one, and there are questions more; 2^53 is the last year that R can hand over.
+says <- function(call) tryCatch({ call; "nothing" }, error = conditionMessage)
+ratio <- function(bytes, year) doonamurk_sections(doonamurk_run(bytes, year))$ulae_ratio
+changed <- function(exposures, paid, ulae) doonamurk_write(exposures, rbind(paid[1:2], c(paid[3], NA)), c(1100000, 1000000), c(0, 1000000), 1000000, ulae, 0)
+asked <- list(changed(c(300, 1), c(10, -1, 1), c(0, 0)), changed(c(1, 1), c(1, 0, 2000000), c(0, 0)), changed(c(1, 1), c(60, 40, 66), c(66, 100)))
+years <- record("examples/two_years.rec")
+stopifnot(
+  vapply(c(0, 2026, 2027, 2028, 2^53), function(year) ratio(years, year), 0) == c(96385, 96385, 95484, 95484, 95484),
+  ratio(years, 2027L) == 95484,
+  vapply(asked, function(bytes) refused(doonamurk_run(bytes, 2026)), 0) == 0,
+  vapply(asked, function(bytes) refused(doonamurk_run(bytes, 2027)), 0) == c(15, 16, 17),
+  grepl("^year: whole numbers from 0 to 2\\^53 are due", vapply(list(-1, 2026.5, 2^54, NA, "2026"), function(year) says(doonamurk_run(years, year)), "")),
+  grepl("^year: one number is due", says(doonamurk_run(years, c(2026, 2027)))),
+  says(doonamurk_run(years)) != "nothing"
+)
+
 # The two years with 100 still to be paid for year 0, which the indices carry to 110 for year 1; an average too large, and one that they carry too far.
 write_two_years <- function(indices, tail) {
   doonamurk_write(c(1, 1), rbind(c(60, 40), c(66, NA)), indices, c(800000, 200000), 500000, c(6, 10), tail)
 }
-after <- doonamurk_sections(doonamurk_run(write_two_years(c(1100000, 1210000), 100)))
-words <- tryCatch(doonamurk_run(write_two_years(c(1, 6), 10000000)), doonamurk_refused = conditionMessage)
+after <- doonamurk_sections(doonamurk_run(write_two_years(c(1100000, 1210000), 100), 2026))
+words <- tryCatch(doonamurk_run(write_two_years(c(1, 6), 10000000), 2026), doonamurk_refused = conditionMessage)
 stopifnot(
   after$tail_payments == c(100, 110), after$provisions == c(100, 154), after$ulae_reserves == c(4, 9),
-  refused(doonamurk_run(write_two_years(c(1000000, 1000000), 10000001))) == 18,
-  refused(doonamurk_run(write_two_years(c(1, 6), 10000000))) == 19,
+  refused(doonamurk_run(write_two_years(c(1000000, 1000000), 10000001), 2026)) == 18,
+  refused(doonamurk_run(write_two_years(c(1, 6), 10000000), 2026)) == 19,
   words == "refused 19: Is the average of what is still to be paid after year k, carried to each year by the indices, at most 5 * 10^9?"
 )
 
 # Averages that lie halfway between two hundredths go to the even one, negative ones too.
 halves <- write_motor(exposures = rep(8, 4), paid_ = rbind(c(401, -1, 3, 5), c(403, 7, -3, NA), c(405, 9, NA, NA), c(407, NA, NA, NA)))
-stopifnot(doonamurk_run(halves)[1:10] == c(5012, -12, 38, 62, 5038, 88, -38, 5062, 112, 5088))
+stopifnot(doonamurk_run(halves, 2026)[1:10] == c(5012, -12, 38, 62, 5038, 88, -38, 5062, 112, 5088))
 stopifnot(
   refused(write_motor(paid_ = matrix(5, 1, 1))) == 1,
   refused(write_motor(paid_ = replace(matrix(NA_real_, 17, 17), outer(0:16, 0:16, `+`) <= 16, 1))) == 1,
@@ -119,7 +136,6 @@ stopifnot(
 )
 negative <- write_motor(paid_ = replace(paid, 5, -282))
 stopifnot(doonamurk_read(negative)[7] == -282)
-says <- function(call) tryCatch({ call; "nothing" }, error = conditionMessage)
 stopifnot(
   grepl("^weight: ", says(write_motor(weight = 0.5))),
   grepl("^exposures: ", says(write_motor(exposures = c(1, NA, 1, 1)))),

@@ -1,5 +1,5 @@
-//! Safe calls of the proved reserving engine: [`run`] gives the result list of a record, [`read`] its fields, and [`write`] makes the record of
-//! given fields. Each has a form that fills a buffer of the caller's and one that returns a `Vec`.
+//! Safe calls of the proved reserving engine: [`run`] gives the result list of a record for a valuation year, [`read`] its fields, and [`write`] makes the
+//! record of given fields. Each has a form that fills a buffer of the caller's and one that returns a `Vec`.
 //!
 //! The engine has no global state, allocates nothing and keeps nothing: any number of threads may call at once.
 //! The record, the lists and the questions are described in `docs/FORMAT.md`.
@@ -38,6 +38,7 @@ pub const fn result_count(k: usize) -> usize {
 mod engine {
     extern "C" {
         pub fn doonamurk_run(
+            valuation_year: u64,
             record: *const u8,
             record_len: usize,
             results: *mut i64,
@@ -90,7 +91,7 @@ impl Refused {
         self.call
     }
 
-    /// The number of the question, 1 to 14, 18 or 19.
+    /// The number of the question, 1 to 19.
     pub fn number(&self) -> u64 {
         self.number
     }
@@ -123,6 +124,9 @@ impl Refused {
             (_, 12) => {
                 "Is the total of paid increments at least 1, and the total of the ULAE totals at most that?"
             }
+            (_, 15) => "From valuation year 2027 on: is the total paid in the latest payment year at least 1?",
+            (_, 16) => "From valuation year 2027 on: is the divisor of the ULAE ratio not 0?",
+            (_, 17) => "From valuation year 2027 on: is the corrected ULAE ratio at most 1,000,000?",
             (_, 13) => {
                 "Is every chain-ladder base at least 1, and every development factor at most 50,000,000?"
             }
@@ -153,16 +157,18 @@ fn k_of(record: &[u8]) -> usize {
     record.first().map_or(0, |byte| usize::from(byte >> 4))
 }
 
-/// Runs from a record to its result list.
+/// Runs from a record to its result list for a valuation year.
 ///
-/// `Ok` fills the first [`result_count`] entries of `results`; entries past them keep what they held. `Err` names the first of the questions 1 to 14,
-/// 18 and 19 that says no, and leaves all of `results` as it was. `record` may be any bytes of any length; `results` may be longer than the list
-/// ([`RESULTS_MAX`] holds every list), and is refused under question 3 where it is shorter. Both stay the caller's, nothing is kept. Safe to call
-/// from any number of threads.
-pub fn run(record: &[u8], results: &mut [i64]) -> Result<(), Refused> {
+/// From 2027 on the ULAE ratio is corrected for growth; `valuation_year` may be any number, and is no part of the record.
+/// `Ok` fills the first [`result_count`] entries of `results`; entries past them keep what they held. `Err` names the first of the questions 1 to 19
+/// that says no (15 to 17 are asked only from 2027 on), and leaves all of `results` as it was. `record` may be any bytes of any length; `results` may be
+/// longer than the list ([`RESULTS_MAX`] holds every list), and is refused under question 3 where it is shorter. Both stay the caller's, nothing is kept.
+/// Safe to call from any number of threads.
+pub fn run(valuation_year: u64, record: &[u8], results: &mut [i64]) -> Result<(), Refused> {
     // SAFETY: both are slices, so each pointer is non-null and valid for its length, and a borrowed and a lent slice do not overlap.
     let number = unsafe {
         engine::doonamurk_run(
+            valuation_year,
             record.as_ptr(),
             record.len(),
             results.as_mut_ptr(),
@@ -173,9 +179,9 @@ pub fn run(record: &[u8], results: &mut [i64]) -> Result<(), Refused> {
 }
 
 /// Runs from a record to its result list, in a `Vec` of just its length. As [`run`], except that question 3 never says no.
-pub fn run_to_vec(record: &[u8]) -> Result<Vec<i64>, Refused> {
+pub fn run_to_vec(valuation_year: u64, record: &[u8]) -> Result<Vec<i64>, Refused> {
     let mut results = vec![0; result_count(k_of(record))];
-    run(record, &mut results)?;
+    run(valuation_year, record, &mut results)?;
     Ok(results)
 }
 
@@ -202,7 +208,7 @@ pub struct Sections<'a> {
     /// ULAE reserves, origin years 0 to k.
     pub ulae_reserves: &'a [i64],
     pub total_ulae_reserve: i64,
-    /// The ULAE ratio in millionths.
+    /// The ULAE ratio in millionths; from valuation year 2027 on the corrected one.
     pub ulae_ratio: i64,
     /// Development factors in millionths, from each of the development years 0 to k - 1 to the next.
     pub development_factors: &'a [i64],

@@ -1,4 +1,5 @@
-//! Taylor's motor account, document 01's two years, payments after the last year, refusals, threads, and the way from fields to a record and back.
+//! Taylor's motor account, document 01's two years, payments after the last year, valuation years, refusals, threads, and the way from fields to a record and
+//! back.
 
 use doonamurk::{
     cell, cells, field_count, future_cell, read, read_to_vec, record_bytes, result_count, run,
@@ -42,7 +43,7 @@ fn sizes_are_those_of_the_paper() {
 
 #[test]
 fn motor_account() {
-    let results = run_to_vec(&motor()).expect("accepted");
+    let results = run_to_vec(2026, &motor()).expect("accepted");
     assert_eq!(results.len(), result_count(3));
     assert_eq!(
         results[10..14],
@@ -53,7 +54,7 @@ fn motor_account() {
 
 #[test]
 fn sections_by_name() {
-    let results = run_to_vec(&motor()).expect("accepted");
+    let results = run_to_vec(2026, &motor()).expect("accepted");
     let named = sections(3, &results).expect("a whole list");
     assert_eq!(named.averages[cell(3, 2, 1)], 33_200);
     assert_eq!(named.shares, &results[10..14]);
@@ -97,7 +98,75 @@ fn two_years_have_the_printed_list() {
         6000, 4000, 6600, 622641509, 377358491, 9636, 10600, 11660, 44, 0, 44, 44, 0, 22, 0, 3, 3,
         96385, 1666666, 109, 0, 0,
     ];
-    assert_eq!(run_to_vec(&record).expect("accepted"), printed);
+    assert_eq!(run_to_vec(2026, &record).expect("accepted"), printed);
+}
+
+/// The ratio of the two years, changed, in a valuation year, or the refusal.
+fn ratio(valuation_year: u64, fields: &Fields) -> Result<i64, u64> {
+    let record = write_to_vec(fields).expect("written");
+    let results = run_to_vec(valuation_year, &record).map_err(|refused| refused.number())?;
+    Ok(sections(fields.k as usize, &results)
+        .expect("a whole list")
+        .ulae_ratio)
+}
+
+#[test]
+fn from_2027_on_the_ratio_is_corrected_for_growth() {
+    for (year, due) in [
+        (0, 96_385),
+        (2026, 96_385),
+        (2027, 95_484),
+        (u64::MAX, 95_484),
+    ] {
+        assert_eq!(ratio(year, &TWO_YEARS), Ok(due));
+    }
+    let tail = Fields {
+        indices: &[1_100_000, 1_210_000],
+        tail: 100,
+        ..TWO_YEARS
+    };
+    assert_eq!(
+        (ratio(2026, &tail), ratio(2027, &tail)),
+        (Ok(96_385), Ok(63_458))
+    );
+}
+
+#[test]
+fn questions_from_2027_on() {
+    let late = Fields {
+        reporting: &[0, 1_000_000],
+        weight: 1_000_000,
+        ..TWO_YEARS
+    };
+    let changed: [(Fields, u64); 3] = [
+        (
+            Fields {
+                exposures: &[300, 1],
+                increments: &[10, -1, 1],
+                ulae: &[0, 0],
+                ..TWO_YEARS
+            },
+            15,
+        ),
+        (
+            Fields {
+                increments: &[1, 0, 2_000_000],
+                ..late
+            },
+            16,
+        ),
+        (
+            Fields {
+                ulae: &[66, 100],
+                ..late
+            },
+            17,
+        ),
+    ];
+    for (fields, number) in changed {
+        assert!(ratio(2026, &fields).is_ok());
+        assert_eq!(ratio(2027, &fields), Err(number));
+    }
 }
 
 #[test]
@@ -108,7 +177,7 @@ fn payments_after_the_last_year() {
         ..TWO_YEARS
     })
     .expect("written");
-    let results = run_to_vec(&record).expect("accepted");
+    let results = run_to_vec(2026, &record).expect("accepted");
     let named = sections(1, &results).expect("a whole list");
     assert_eq!(named.tail_payments, &[100, 110]);
     assert_eq!(named.provisions, &[100, 154]);
@@ -131,13 +200,13 @@ fn halves_go_to_the_even_hundredth() {
     })
     .expect("written");
     let averages = [5012, -12, 38, 62, 5038, 88, -38, 5062, 112, 5088];
-    assert_eq!(run_to_vec(&record).expect("accepted")[..10], averages);
+    assert_eq!(run_to_vec(2026, &record).expect("accepted")[..10], averages);
 }
 
 #[test]
 fn entries_past_the_list_keep_what_they_held() {
     let mut results = [-7; RESULTS_MAX];
-    run(&motor(), &mut results).expect("accepted");
+    run(2026, &motor(), &mut results).expect("accepted");
     assert!(results[..result_count(3)].iter().all(|&entry| entry >= 0));
     assert!(results[result_count(3)..].iter().all(|&entry| entry == -7));
 }
@@ -159,7 +228,7 @@ fn a_refused_run_or_read_leaves_the_buffer() {
     ];
     for (record, number) in refused {
         let mut list = [-7; RESULTS_MAX];
-        let refusal = run(record, &mut list).expect_err("refused");
+        let refusal = run(2026, record, &mut list).expect_err("refused");
         assert_eq!((refusal.number(), refusal.call()), (number, Call::Run));
         let refusal = read(record, &mut list).expect_err("refused");
         assert_eq!((refusal.number(), refusal.call()), (number, Call::Read));
@@ -171,12 +240,15 @@ fn a_refused_run_or_read_leaves_the_buffer() {
 fn a_short_buffer_is_refused_and_left() {
     let record = motor();
     let mut results = vec![-7; result_count(3) - 1];
-    assert_eq!(run(&record, &mut results).map_err(|r| r.number()), Err(3));
+    assert_eq!(
+        run(2026, &record, &mut results).map_err(|r| r.number()),
+        Err(3)
+    );
     assert!(results.iter().all(|&entry| entry == -7));
     let mut list = vec![-7; field_count(3) - 1];
     assert_eq!(read(&record, &mut list).map_err(|r| r.number()), Err(3));
     assert!(list.iter().all(|&entry| entry == -7));
-    assert_eq!(run(&record, &mut []).map_err(|r| r.number()), Err(3));
+    assert_eq!(run(2026, &record, &mut []).map_err(|r| r.number()), Err(3));
 }
 
 #[test]
@@ -221,7 +293,7 @@ fn marked_refusals_of_the_engine() {
     ];
     for (fields, number) in changed {
         let record = write_to_vec(&fields).expect("written");
-        let refusal = run_to_vec(&record).expect_err("refused");
+        let refusal = run_to_vec(2026, &record).expect_err("refused");
         assert_eq!(refusal.number(), number);
         assert!(refusal.question().ends_with('?'));
     }
@@ -292,7 +364,7 @@ fn a_refused_write_leaves_the_buffer() {
 
 #[test]
 fn a_refusal_says_its_question() {
-    let refusal = run_to_vec(&[]).expect_err("refused");
+    let refusal = run_to_vec(2026, &[]).expect_err("refused");
     assert_eq!(
         refusal.to_string(),
         "refused 1: Is there a first byte, and is k at least 1?"
@@ -328,14 +400,14 @@ fn threads_run_at_once_and_agree() {
     let records = [motor(), write_to_vec(&TWO_YEARS).expect("written")];
     let expected: Vec<Vec<i64>> = records
         .iter()
-        .map(|record| run_to_vec(record).expect("accepted"))
+        .map(|record| run_to_vec(2026, record).expect("accepted"))
         .collect();
     std::thread::scope(|scope| {
         for n in 0..4 {
             let (record, expected) = (&records[n % 2], &expected[n % 2]);
             scope.spawn(move || {
                 for _ in 0..2000 {
-                    assert_eq!(run_to_vec(record).as_ref(), Ok(expected));
+                    assert_eq!(run_to_vec(2026, record).as_ref(), Ok(expected));
                 }
             });
         }

@@ -1,4 +1,4 @@
--- A section of the result list as comma-separated values: a line for each entry, in the list's order. Assumes nothing.
+-- A section of the result list as comma-separated values: a line for each entry, in the list's order. And the line of a number beside the list. Assumes nothing.
 use Prim.Native.Nat.{ℕ, _+_}
 use mathlib.Core.Bool.{Bool, true, false, cond}
 use mathlib.Core.List.{List, [], _++_}
@@ -46,3 +46,7 @@ csvRow list name unit origin year i y n p = joined (upTo (λ j. csvLine name uni
 -- a section: the entries of the list from place p on
 unfoldable pub csvSection : List ℤ → List ℕ → List ℕ → Shape → ℕ → List ℕ
 csvSection list name unit s p = rowsBy (csvRow list name unit (s .origin) (s .year)) (s .n) 0 (s .rows) p
+
+-- the line of a number beside the list, of no year
+unfoldable pub csvBeside : List ℕ → List ℕ → ℕ → List ℕ
+csvBeside name unit n = name ++ (ascii ",,," ++ (decimal n ++ (ascii "," ++ (unit ++ ascii "\n"))))

@@ -1,4 +1,4 @@
-// A section of the result list as comma-separated values in a lent buffer.
+// A section of the result list as comma-separated values in a lent buffer, and the line of a number beside the list.
 use composing::put_byte;
 use composing::put_bytes;
 use composing::put_decimal;
@@ -15,7 +15,7 @@ ghost use Prim.Native.Nat.{_+_, _≤_, _<_};
 ghost use Rattle.rules.specs.Results.{mostEntries};
 ghost use Rattle.composing.specs.Text.{ascii, integer, Put};
 ghost use Rattle.rows.specs.Rows.{entriesIn};
-ghost use Rattle.csv_rows.specs.Csv.{givenCells, futureCells, byOrigin, byYear, alone, yearText, csvLine, csvRow, csvSection};
+ghost use Rattle.csv_rows.specs.Csv.{givenCells, futureCells, byOrigin, byYear, alone, yearText, csvLine, csvRow, csvSection, csvBeside};
 
 // The rows of a section, and whether its entries have an origin year and a development or payment year.
 pub struct Shape {
@@ -207,4 +207,16 @@ pub fn put_section(
         row = next_row(row);
     }
     end
+}
+
+// The line of a number beside the list, of no year.
+pub fn put_beside(out: &mut [u8], at: usize, name: &[u8], unit: &[u8], n: u64) -> usize
+    ensures { λ r. ⌜ Put (now (out .entry)) (now (out .exit)) at r (csvBeside (now (name .entry)) (now (unit .entry)) n) ⌝ }
+{
+    let a = put_bytes(out, at, name);
+    let b = put_bytes(out, a, b",,,");
+    let c = put_decimal(out, b, n);
+    let d = put_byte(out, c, 44);
+    let e = put_bytes(out, d, unit);
+    put_byte(out, e, 10)
 }

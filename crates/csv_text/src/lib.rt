@@ -1,11 +1,14 @@
-// The result list as comma-separated values in a lent buffer.
+// The result list as comma-separated values in a lent buffer, with the valuation year, the plain ULAE ratio and what corrects it.
 use composing::put_bytes;
 use csv_rows::by_itself;
 use csv_rows::by_origin;
 use csv_rows::by_year;
 use csv_rows::future_cells;
 use csv_rows::given_cells;
+use csv_rows::put_beside;
 use csv_rows::put_section;
+use growth::Correction;
+use growth::corrects;
 use listing::Starts;
 use listing::starts_of;
 use rules::MOST_ENTRIES;
@@ -13,7 +16,7 @@ ghost use mathlib.Core.Path.{_≡_};
 ghost use Prim.Native.Nat.{_<_};
 ghost use Rattle.composing.specs.Text.{Put};
 ghost use Rattle.listing.specs.Starts.{startsOf};
-ghost use Rattle.csv_text.specs.Csv.{separationLines, completionLines, expenseLines, ladderLines, tailLines, csvOf};
+ghost use Rattle.csv_text.specs.Csv.{separationLines, completionLines, expenseLines, ladderLines, tailLines, listLines, correctionLines, correctedLine, valuationLines, csvOf};
 
 // The averages, the shares and the levels.
 fn put_separation(
@@ -201,10 +204,10 @@ fn put_tails(
     )
 }
 
-// The whole list, from the start of the buffer on.
-pub fn put_csv(out: &mut [u8], list: &[i64; MOST_ENTRIES], k: usize) -> usize
+// The whole list, under a heading.
+fn put_list(out: &mut [u8], list: &[i64; MOST_ENTRIES], k: usize) -> usize
     requires { ⌜ k < 16 ⌝ }
-    ensures { λ r. ⌜ Put (now (out .entry)) (now (out .exit)) 0 r (csvOf k (now (list .entry))) ⌝ }
+    ensures { λ r. ⌜ Put (now (out .entry)) (now (out .exit)) 0 r (listLines k (now (list .entry))) ⌝ }
 {
     let places = starts_of(k);
     let a = put_bytes(
@@ -217,4 +220,84 @@ pub fn put_csv(out: &mut [u8], list: &[i64; MOST_ENTRIES], k: usize) -> usize
     let d = put_expense(out, c, list, k, places);
     let e = put_ladder(out, d, list, k, places);
     put_tails(out, e, list, k, places)
+}
+
+// What is reported and what is paid in the latest year, and the divisor.
+fn put_correction(out: &mut [u8], at: usize, correction: Correction) -> usize
+    ensures { λ r. ⌜ Put (now (out .entry)) (now (out .exit)) at r (correctionLines correction) ⌝ }
+{
+    let a = put_beside(
+        out,
+        at,
+        b"reported in the latest year",
+        b"currency units",
+        correction.reported,
+    );
+    let b = put_beside(
+        out,
+        a,
+        b"paid in the latest year",
+        b"currency units",
+        correction.paid,
+    );
+    put_beside(
+        out,
+        b,
+        b"divisor of the ulae ratio",
+        b"millionths",
+        correction.divisor,
+    )
+}
+
+// The corrected ratio, which the list has in its place.
+fn put_corrected(out: &mut [u8], at: usize, list: &[i64; MOST_ENTRIES], k: usize) -> usize
+    requires { ⌜ k < 16 ⌝ }
+    ensures { λ r. ⌜ Put (now (out .entry)) (now (out .exit)) at r (correctedLine k (now (list .entry))) ⌝ }
+{
+    let places = starts_of(k);
+    put_section(
+        out,
+        at,
+        list,
+        b"corrected ulae ratio",
+        b"millionths",
+        by_itself(),
+        places.ratio,
+    )
+}
+
+// The valuation year and the plain ratio, and what corrects it where the year's is corrected.
+fn put_valuation(
+    out: &mut [u8],
+    at: usize,
+    list: &[i64; MOST_ENTRIES],
+    k: usize,
+    year: u64,
+    correction: Correction,
+) -> usize
+    requires { ⌜ k < 16 ⌝ }
+    ensures { λ r. ⌜ Put (now (out .entry)) (now (out .exit)) at r (valuationLines year k (now (list .entry)) correction) ⌝ }
+{
+    let a = put_beside(out, at, b"valuation year", b"year", year);
+    let b = put_beside(out, a, b"plain ulae ratio", b"millionths", correction.plain);
+    if corrects(year) {
+        let c = put_correction(out, b, correction);
+        return put_corrected(out, c, list, k);
+    }
+    b
+}
+
+// The whole, from the start of the buffer on.
+pub fn put_csv(
+    out: &mut [u8],
+    list: &[i64; MOST_ENTRIES],
+    k: usize,
+    year: u64,
+    correction: Correction,
+) -> usize
+    requires { ⌜ k < 16 ⌝ }
+    ensures { λ r. ⌜ Put (now (out .entry)) (now (out .exit)) 0 r (csvOf year k (now (list .entry)) correction) ⌝ }
+{
+    let a = put_list(out, list, k);
+    put_valuation(out, a, list, k, year, correction)
 }

@@ -11,14 +11,17 @@ use lib.IntN.{ℤ, pos}
 use lib.ListN.{getD, take, replicate}
 use lib.Seq.{sets}
 use Rattle.rules.specs.Lists.{total, upTo, padded, joined, every}
-use Rattle.rules.specs.Record.{Figures, cells, mostAmount}
+use Rattle.rules.specs.Questions.{firstNo, afterCall}
+use Rattle.rules.specs.Record.{Figures, million, cells, mostAmount}
 use Rattle.rules.specs.Triangle.{mostCumulative, paidTo}
 use Rattle.rules.specs.Separation.{billion, shareOf, levelOf, factorsOf, levelsPass, totalsPass, separationQuestions, separateAnswer}
 use Rattle.rules.specs.Tail.{tailAverage, tailPayment, tailPayments, mostTailAverage, tailAveragesPass, tailQuestions}
 use Rattle.rules.specs.Completion.{futureLevel, futureLevels, paymentRow, payments, provision, provisions, ultimate, mostUltimate, ultimatesPass}
-use Rattle.rules.specs.Expense.{paidTotal, ulaeTotal, ratioPass, ratioOf}
+use Rattle.rules.specs.Expense.{paidTotal, ulaeTotal, ratioPass, plainRatio}
+use Rattle.rules.specs.Growth.{latestReported, latestPaid, divisorOf, growthQuestions, usedRatio}
 use Rattle.rules.specs.Ladder.{developed, base, developmentFactor, developmentFactors, mostFactor, factorPasses, factorsPass, completedRow, completedAll, completedPass}
-use Rattle.rules.specs.Results.{squareOf, latestOf, factorsIn, firstTailAverageOf, paidIn, levelsIn, tailsIn, provisionsIn, developmentIn, ratioIn, sections, resultsOf}
+use Rattle.rules.specs.Results.{squareOf, latestDiagonalOf, factorsIn, firstTailAverageOf, paidIn, levelsIn, tailsIn, provisionsIn, developmentIn, plainRatioIn, latestReportedIn, latestPaidIn, divisorIn, usedRatioIn, sections, resultsOf}
+use Rattle.rules.specs.Engine.{correctionQuestions}
 use Rattle.laws.proofs.Lists.{length-upTo, upTo-ext, every-upTo, every-same, total-most, both-left, take-padded}
 use Rattle.laws.proofs.Padded.{filled-at}
 use Rattle.laws.proofs.Joined.{sets-filled, future-length, future-cells, future-most}
@@ -30,7 +33,8 @@ use Rattle.completion.specs.Asked.{Completable, mostPayment, rowsAsked}
 use Rattle.entries.specs.Leading.{leading, passing}
 use Rattle.entries.proofs.Leading.{leading-all, asked-all, passing-all}
 use Rattle.ladder.specs.Columns.{developedIn, baseIn, Ladderable}
-use Rattle.allowance.proofs.Rates.{ratio-most}
+use Rattle.expense.specs.Reservable.{Reservable}
+use Rattle.allowance.proofs.Rates.{ratio-most, used-most}
 use Rattle.results.proofs.SectionPlaces.{length-payments, length-completed}
 use Rattle.results.proofs.Limits.{shares-most, levels-most, ahead-most, ultimates-most, addable-payments, addable-tails, addable-provisions, factors-most, addable-completed, most-list}
 use Rattle.engine.specs.Stages.{Separated, Tailed, Printable, printedList}
@@ -53,12 +57,12 @@ module _ (f : Figures) (s : List (List ℤ)) (v c r l : List ℕ) (h : Separated
   levels-yes = say 10
 
   -- the latest level is the latest diagonal, at most S
-  latest-most : latestOf f ≤ billion
-  unfolding latestOf squareOf
+  latest-most : latestDiagonalOf f ≤ billion
+  unfolding latestDiagonalOf squareOf
   latest-most = diagonal-most (squareOf f) k (h .sound .few) (zero-outside k (f .exposures) (f .increments) (h .sound .few)) totals-yes k (omega arith)
 
-  pub latest-is : getD l (f .k) 0 ≡ latestOf f
-  unfolding latestOf factorsIn factorsOf
+  pub latest-is : getD l (f .k) 0 ≡ latestDiagonalOf f
+  unfolding latestDiagonalOf factorsIn factorsOf
   latest-is = rw (h .levels) (filled-at 16 0 (levelOf (squareOf f) k) (k + 1) k 0 (omega arith) ∙ latest-level (squareOf f) k)
 
   -- no level is above S
@@ -75,7 +79,7 @@ module _ (f : Figures) (s : List (List ℤ)) (v c r l : List ℕ) (h : Separated
     pub ahead-is : a ≡ levelsIn f
     unfolding levelsIn futureLevels
     ahead-is =
-        e ∙ rw latest-is (sets-filled 16 0 (futureLevels k (latestOf f) (f .indices)) (omega (arith, length-upTo (λ t. futureLevel (latestOf f) (getD (f .indices) t 0)) k, h .sound .few)))
+        e ∙ rw latest-is (sets-filled 16 0 (futureLevels k (latestDiagonalOf f) (f .indices)) (omega (arith, length-upTo (λ t. futureLevel (latestDiagonalOf f) (getD (f .indices) t 0)) k, h .sound .few)))
 
     pub completable : Completable (f .k) (f .exposures) r a
     completable = record {
@@ -140,9 +144,37 @@ module _ (f : Figures) (s : List (List ℤ)) (v c r l : List ℕ) (h : Separated
   unfolding ratioPass
   paid-least n m q = leb-true 1 n (both-left (leb 1 n) (leb m n) q)
 
-  pub ratio-is : (n m : ℕ) → n ≡ total (take (f .k + 1) c) → m ≡ total (take (f .k + 1) (f .ulae)) → ratioOf (pos n) m ≡ ratioIn f
-  unfolding ulaeTotal ratioIn
-  ratio-is n m p q = rw (p, q, paid-all)
+  pub plain-is : (n m : ℕ) → n ≡ total (take (f .k + 1) c) → m ≡ total (take (f .k + 1) (f .ulae)) → plainRatio (pos n) m ≡ plainRatioIn f
+  unfolding ulaeTotal plainRatioIn
+  plain-is n m p q = rw (p, q, paid-all)
+
+  -- questions 15, 16 and 17, of the provisions q and the plain ratio p
+  module _ (q : List ℕ) (p : ℕ) (provisions : q ≡ provisionsIn f) (plain : p ≡ plainRatioIn f) where
+    pub reservable : ultimatesPass (f .k) (paidIn f) (provisionsIn f) ≡ true → ratioPass (paidTotal (f .k) (f .increments)) (ulaeTotal (f .k) (f .ulae)) ≡ true
+        → Reservable (f .k) c q (f .reporting) (f .weight) p
+    unfolding plainRatioIn
+    reservable q11 q12 = record {
+      few = h .sound .few;
+      ultimates = rw (h .paid, provisions) (ultimates-most f q11);
+      reporting = h .sound .reporting-sum;
+      weight = h .sound .weight;
+      ratio = rw plain (ratio-most (paidTotal (f .k) (f .increments)) (ulaeTotal (f .k) (f .ulae)) q12);
+    }
+
+    divisor-is : divisorOf (f .weight) (latestReported (f .k) (f .reporting) c q) (latestPaid (f .k) (f .increments)) ≡ divisorIn f
+    unfolding divisorIn latestReportedIn latestPaidIn
+    divisor-is = rw (h .paid, provisions)
+
+    pub correction-is : (year n : ℕ)
+        → n ≡ firstNo (growthQuestions year p (latestPaid (f .k) (f .increments)) (divisorOf (f .weight) (latestReported (f .k) (f .reporting) c q) (latestPaid (f .k) (f .increments))))
+        → firstNo (correctionQuestions year f) ≡ n
+    unfolding correctionQuestions latestPaidIn
+    correction-is year n e = sym (rw (divisor-is, plain) at e)
+
+    pub used-is : (year n x : ℕ) → n ≡ 0
+        → x ≡ afterCall n (usedRatio year p (divisorOf (f .weight) (latestReported (f .k) (f .reporting) c q) (latestPaid (f .k) (f .increments)))) p → x ≡ usedRatioIn year f
+    unfolding usedRatioIn afterCall
+    used-is year n x z e = rw (divisor-is, plain, z) at e
 
   -- question 13
   paid-at : (i : ℕ) → i ≤ f .k → getD c i 0 ≡ paidTo (f .k) (f .increments) i
@@ -198,29 +230,31 @@ module _ (f : Figures) (s : List (List ℤ)) (v c r l : List ℕ) (h : Separated
         let size = future-length row (length-completed k (paidIn f) (developmentIn f)) (k + 1) in
         e ∙ rw (h .paid, p, passing-all (λ z. leb z mostCumulative) all q) (sets-filled 120 0 all (omega (arith, size, future-most (k + 1) (omega (arith, h .sound .few)))))
 
--- all that was worked out of figures that pass every question: the future levels a, the payments y, the provisions q, the ratio p, the development
--- factors m and the completed cumulatives x
-pub record Worked (f : Figures) (a y q : List ℕ) (p : ℕ) (m x : List ℕ) : Type 0 where
+-- all that was worked out of figures that pass every question in a valuation year: the future levels a, the payments y, the provisions q, the ratio p, the
+-- development factors m and the completed cumulatives x
+pub record Worked (year : ℕ) (f : Figures) (a y q : List ℕ) (p : ℕ) (m x : List ℕ) : Type 0 where
   pub eleven : ultimatesPass (f .k) (paidIn f) (provisionsIn f) ≡ true
   pub twelve : ratioPass (paidTotal (f .k) (f .increments)) (ulaeTotal (f .k) (f .ulae)) ≡ true
+  pub correction : firstNo (correctionQuestions year f) ≡ 0
   pub thirteen : factorsPass (f .k) (developed (f .k) (f .increments)) (base (f .k) (f .increments)) ≡ true
   pub fourteen : completedPass (completedAll (f .k) (paidIn f) (developmentIn f)) ≡ true
   pub ahead : a ≡ levelsIn f
   pub payments : y ≡ padded 120 0 (payments (f .k) (f .exposures) (factorsIn f .shares) (levelsIn f))
   pub provisions : q ≡ provisionsIn f
-  pub ratio : p ≡ ratioIn f
+  pub ratio : p ≡ usedRatioIn year f
   pub factors : m ≡ developmentIn f
   pub completed : x ≡ padded 120 0 (completedAll (f .k) (paidIn f) (developmentIn f))
 
-pub worked : (f : Figures) {a y q : List ℕ} {p : ℕ} {m x : List ℕ} → ultimatesPass (f .k) (paidIn f) (provisionsIn f) ≡ true
-    → ratioPass (paidTotal (f .k) (f .increments)) (ulaeTotal (f .k) (f .ulae)) ≡ true
+pub worked : (year : ℕ) (f : Figures) {a y q : List ℕ} {p : ℕ} {m x : List ℕ} → ultimatesPass (f .k) (paidIn f) (provisionsIn f) ≡ true
+    → ratioPass (paidTotal (f .k) (f .increments)) (ulaeTotal (f .k) (f .ulae)) ≡ true → firstNo (correctionQuestions year f) ≡ 0
     → factorsPass (f .k) (developed (f .k) (f .increments)) (base (f .k) (f .increments)) ≡ true
     → completedPass (completedAll (f .k) (paidIn f) (developmentIn f)) ≡ true → a ≡ levelsIn f
-    → y ≡ padded 120 0 (payments (f .k) (f .exposures) (factorsIn f .shares) (levelsIn f)) → q ≡ provisionsIn f → p ≡ ratioIn f → m ≡ developmentIn f
-    → x ≡ padded 120 0 (completedAll (f .k) (paidIn f) (developmentIn f)) → Worked f a y q p m x
-worked f q11 q12 q13 q14 ea ey eq ep em ex = record {
+    → y ≡ padded 120 0 (payments (f .k) (f .exposures) (factorsIn f .shares) (levelsIn f)) → q ≡ provisionsIn f → p ≡ usedRatioIn year f → m ≡ developmentIn f
+    → x ≡ padded 120 0 (completedAll (f .k) (paidIn f) (developmentIn f)) → Worked year f a y q p m x
+worked year f q11 q12 qc q13 q14 ea ey eq ep em ex = record {
   eleven = q11;
   twelve = q12;
+  correction = qc;
   thirteen = q13;
   fourteen = q14;
   ahead = ea;
@@ -241,9 +275,9 @@ module _ (f : Figures) where
   unfolding factorsIn factorsOf
   take-levels = take-padded 16 (f .k + 1) 0 _ (length-upTo (levelOf (squareOf f) (f .k)) (f .k + 1))
 
-  take-ahead : take (f .k) (levelsIn f) ≡ futureLevels (f .k) (latestOf f) (f .indices)
+  take-ahead : take (f .k) (levelsIn f) ≡ futureLevels (f .k) (latestDiagonalOf f) (f .indices)
   unfolding levelsIn futureLevels
-  take-ahead = take-padded 16 (f .k) 0 _ (length-upTo (λ t. futureLevel (latestOf f) (getD (f .indices) t 0)) (f .k))
+  take-ahead = take-padded 16 (f .k) 0 _ (length-upTo (λ t. futureLevel (latestDiagonalOf f) (getD (f .indices) t 0)) (f .k))
 
   take-payments : take (cells (f .k) - (f .k + 1)) (padded 120 0 (payments (f .k) (f .exposures) (factorsIn f .shares) (levelsIn f))) ≡ payments (f .k) (f .exposures) (factorsIn f .shares) (levelsIn f)
   unfolding payments
@@ -271,9 +305,16 @@ module _ (f : Figures) where
       take-padded 120 (cells (f .k) - (f .k + 1)) 0 (joined (upTo row (f .k + 1)))
       (omega (arith, future-length row (length-completed (f .k) (paidIn f) (developmentIn f)) (f .k + 1), future-cells (f .k)))
 
-module _ (f : Figures) (s : List (List ℤ)) (v c r l : List ℕ) (h : Separated f s v c r l) (a y q : List ℕ) (p : ℕ) (m x : List ℕ) (w : Worked f a y q p m x) (z : List ℕ) (t : Tailed f z) where
+module _ (f : Figures) (s : List (List ℤ)) (v c r l : List ℕ) (h : Separated f s v c r l) (a y q : List ℕ) (p : ℕ) (m x : List ℕ) (year : ℕ) (w : Worked year f a y q p m x) (z : List ℕ) (t : Tailed f z) where
+  -- the ratio is at most M
+  ratio-fits : p ≤ million
+  unfolding plainRatioIn usedRatioIn correctionQuestions growthQuestions every
+  ratio-fits =
+      rw (w .ratio)
+      (used-most year (plainRatioIn f) (divisorIn f) (ratio-most (paidTotal (f .k) (f .increments)) (ulaeTotal (f .k) (f .ulae)) (w .twelve))
+      (yes-said 17 (correctionQuestions year f) refl (w .correction)))
+
   pub printable : Printable (f .k) r l a y q c (f .reporting) (f .weight) p m x z
-  unfolding ratioIn
   printable = record {
     few = h .sound .few;
     shares = rw (h .shares) (λ j. le-trans (shares-most f j) (omega arith));
@@ -286,7 +327,7 @@ module _ (f : Figures) (s : List (List ℤ)) (v c r l : List ℕ) (h : Separated
       ultimates = rw (h .paid, w .provisions) (ultimates-most f (w .eleven));
       reporting = h .sound .reporting-sum;
       weight = h .sound .weight;
-      ratio = rw (w .ratio) (ratio-most (paidTotal (f .k) (f .increments)) (ulaeTotal (f .k) (f .ulae)) (w .twelve));
+      ratio = ratio-fits;
     };
     factors = rw (w .factors) (λ j. le-trans (factors-most f (w .thirteen) j) (omega arith));
     completed = rw (w .completed) (addable-completed (completedAll (f .k) (paidIn f) (developmentIn f)) (w .fourteen));
@@ -294,7 +335,7 @@ module _ (f : Figures) (s : List (List ℤ)) (v c r l : List ℕ) (h : Separated
   }
 
   -- the list that is put is the figures' own
-  pub printed-is : printedList (f .k) s r l a y q c (f .reporting) (f .weight) p m x z ≡ resultsOf f
+  pub printed-is : printedList (f .k) s r l a y q c (f .reporting) (f .weight) p m x z ≡ resultsOf year f
   unfolding printedList resultsOf sections
   printed-is =
       rw (h .square, h .paid, h .shares, h .levels, w .ahead, w .payments, w .provisions, w .ratio, w .factors, w .completed, t .tails, take-shares f, take-levels f, take-ahead f, take-payments f, take-provisions f, take-factors f, take-completed f, take-tails f)

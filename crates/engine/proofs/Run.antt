@@ -23,23 +23,23 @@ use Rattle.engine.specs.Stages.{Answers}
 use Rattle.engine.proofs.RunQuestions.{answered, one-said}
 
 -- what a run that answers n and leaves `held` in the buffer `out` has to show
-abbrev pub Ran : List ℕ → List ℤ → ℕ → List ℤ → Type 0
-Ran s out n held = (n ≡ runAnswer s (length out)) × ((held ≡ runInto s out) × (n ≡ 0 → ThirdDemand (figuresOf s) held))
+abbrev pub Ran : ℕ → List ℕ → List ℤ → ℕ → List ℤ → Type 0
+Ran year s out n held = (n ≡ runAnswer year s (length out)) × ((held ≡ runInto year s out) × (n ≡ 0 → ThirdDemand (figuresOf s) held))
 
-module _ (s : List ℕ) (out : List ℤ) (bytes : Fit 8 s) where
+module _ (year : ℕ) (s : List ℕ) (out : List ℤ) (bytes : Fit 8 s) where
   -- the third demand, of what an accepted run leaves
-  demanded : firstNo (questions s (length out)) ≡ 0 → ThirdDemand (figuresOf s) (sets out 0 (resultsOf (figuresOf s)))
+  demanded : firstNo (questions year s (length out)) ≡ 0 → ThirdDemand (figuresOf s) (sets out 0 (resultsOf year (figuresOf s)))
   unfolding questions openingQuestions fieldQuestions holdsList figuresOf every
   demanded h =
       let f = figuresOf s in
       let first = both-zero (openingQuestions s) ((3, holdsList s (length out)) ∷ _) refl h in
       let room = both-zero ((3, holdsList s (length out)) ∷ []) _ refl (first .1) in
-      let fields = both-zero (fieldQuestions s) (figureQuestions f) refl (room .1) in
-      let fits : 0 + length (resultsOf f) ≤ length out = omega (arith, results-length f, leb-true (resultCount (lastYearOf s)) (length out) (one-said 2 (holdsList s (length out)) (room .0))) in
-      rw (sets-eq (resultsOf f) out 0 fits)
-      (third-demand f (sound-figures s bytes (first .0) (fields .0)) (answered f (fields .1)) (drop (0 + length (resultsOf f)) out))
+      let fields = both-zero (fieldQuestions s) (figureQuestions year f) refl (room .1) in
+      let fits : 0 + length (resultsOf year f) ≤ length out = omega (arith, results-length year f, leb-true (resultCount (lastYearOf s)) (length out) (one-said 2 (holdsList s (length out)) (room .0))) in
+      rw (sets-eq (resultsOf year f) out 0 fits)
+      (third-demand year f (sound-figures s bytes (first .0) (fields .0)) (answered year f (fields .1)) (drop (0 + length (resultsOf year f)) out))
 
   -- a run that has asked all its questions
-  pub ran : (n : ℕ) (held : List ℤ) → Answers (questions s (length out)) (figuresOf s) out held n → Ran s out n held
+  pub ran : (n : ℕ) (held : List ℤ) → Answers (questions year s (length out)) year (figuresOf s) out held n → Ran year s out n held
   unfolding runAnswer runInto afterCall
   ran n held h = (h .0, (h .1, λ z. let none = sym (h .0) ∙ z in rw (h .1, none) (demanded none)))

@@ -59,6 +59,6 @@ printedList k s r l a y q c b w ratio m x z =
     ++ (reserveSections (upTo (notReported k b c q) (k + 1)) (upTo (reserve k ratio w b c q) (k + 1)) ratio
     ++ (ladderSections (take k m) (take (cells k - (k + 1)) x) ++ tailSections (take (k + 1) z)))))
 
--- what a function that asks the questions qs of the figures f answers, n, and leaves in the buffer that held `out`
-abbrev pub Answers : List (ℕ × Bool) → Figures → List ℤ → List ℤ → ℕ → Type 0
-Answers qs f out left n = (n ≡ firstNo qs) × (left ≡ afterCall (firstNo qs) (sets out 0 (resultsOf f)) out)
+-- what a function that asks the questions qs of a valuation year and the figures f answers, n, and leaves in the buffer that held `out`
+abbrev pub Answers : List (ℕ × Bool) → ℕ → Figures → List ℤ → List ℤ → ℕ → Type 0
+Answers qs year f out left n = (n ≡ firstNo qs) × (left ≡ afterCall (firstNo qs) (sets out 0 (resultsOf year f)) out)

@@ -1,9 +1,10 @@
-// The engine: from a record to the result list, under questions 1 to 14, 18 and 19. It asks every question before it writes.
+// The engine: from a valuation year and a record to the result list, under questions 1 to 19. It asks every question before it writes.
 use completion::fill_levels;
 use entries::sum_of;
+use expense::plain_ratio;
 use expense::put_reserves;
-use expense::ratio_of;
 use expense::ratio_passes;
+use growth::used_ratio;
 use ladder::development_factors;
 use listing::entries_of;
 use listing::put_completion;
@@ -61,8 +62,9 @@ fn put_results<'a>(
     put_last(out, c, factors, completed, tails, k);
 }
 
-// Questions 11 to 14 of figures whose separation was accepted and whose tail was carried on, and the list where all say yes. The latest diagonal is the latest level.
+// Questions 11 to 17 of figures whose separation was accepted and whose tail was carried on, and the list where all say yes. The latest diagonal is the latest level.
 fn finish<'a>(
+    year: u64,
     k: usize,
     exposures: &[u64; 16],
     increments: &[i64; 136],
@@ -81,8 +83,8 @@ fn finish<'a>(
 ) -> u64
     requires { ⌜ Separated (figures k (now exposures) (now increments) (now indices) (now reporting) weight (now ulae) tail) (now square) (now sums) (now paid) (now shares) (now levels)
         × (Tailed (figures k (now exposures) (now increments) (now indices) (now reporting) weight (now ulae) tail) (now tails) × (resultCount k ≤ length (now out))) ⌝ }
-    ensures { λ r. ⌜ Answers (lastQuestions (figures k (now (exposures .entry)) (now (increments .entry)) (now (indices .entry)) (now (reporting .entry)) weight (now (ulae .entry)) tail))
-        (figures k (now (exposures .entry)) (now (increments .entry)) (now (indices .entry)) (now (reporting .entry)) weight (now (ulae .entry)) tail) (now (out .entry)) (now (out .exit)) r ⌝ }
+    ensures { λ r. ⌜ Answers (lastQuestions year (figures k (now (exposures .entry)) (now (increments .entry)) (now (indices .entry)) (now (reporting .entry)) weight (now (ulae .entry)) tail))
+        year (figures k (now (exposures .entry)) (now (increments .entry)) (now (indices .entry)) (now (reporting .entry)) weight (now (ulae .entry)) tail) (now (out .entry)) (now (out .exit)) r ⌝ }
 {
     let n = k + 1;
     let mut ahead = [0u64; 16];
@@ -106,6 +108,20 @@ fn finish<'a>(
     if !ratio_passes(total, spent) {
         return 12;
     }
+    let plain = plain_ratio(total, spent);
+    let used = used_ratio(
+        year,
+        k,
+        increments,
+        reporting,
+        weight,
+        paid,
+        &provisions,
+        plain,
+    );
+    if used.answer != ACCEPTED {
+        return used.answer;
+    }
     let mut factors = [0u64; 16];
     if !development_factors(k, sums, paid, &mut factors) {
         return 13;
@@ -126,7 +142,7 @@ fn finish<'a>(
         paid,
         reporting,
         weight,
-        ratio_of(total, spent),
+        used.ratio,
         &factors,
         &completed,
         tails,
@@ -136,6 +152,7 @@ fn finish<'a>(
 
 // The questions from 6 on of figures that have passed 4 and 5, and the list where all say yes.
 pub fn run_figures(
+    year: u64,
     k: usize,
     exposures: &[u64; 16],
     increments: &[i64; 136],
@@ -147,8 +164,8 @@ pub fn run_figures(
     out: &mut [i64],
 ) -> u64
     requires { ⌜ Sound (figures k (now exposures) (now increments) (now indices) (now reporting) weight (now ulae) tail) × (resultCount k ≤ length (now out)) ⌝ }
-    ensures { λ r. ⌜ Answers (figureQuestions (figures k (now (exposures .entry)) (now (increments .entry)) (now (indices .entry)) (now (reporting .entry)) weight (now (ulae .entry)) tail))
-        (figures k (now (exposures .entry)) (now (increments .entry)) (now (indices .entry)) (now (reporting .entry)) weight (now (ulae .entry)) tail) (now (out .entry)) (now (out .exit)) r ⌝ }
+    ensures { λ r. ⌜ Answers (figureQuestions year (figures k (now (exposures .entry)) (now (increments .entry)) (now (indices .entry)) (now (reporting .entry)) weight (now (ulae .entry)) tail))
+        year (figures k (now (exposures .entry)) (now (increments .entry)) (now (indices .entry)) (now (reporting .entry)) weight (now (ulae .entry)) tail) (now (out .entry)) (now (out .exit)) r ⌝ }
 {
     let mut square = [[0i64; 16]; 16];
     let mut sums = [0u64; 16];
@@ -178,6 +195,7 @@ pub fn run_figures(
     }
     let factors = separation.factors;
     finish(
+        year,
         k,
         exposures,
         increments,
@@ -197,9 +215,9 @@ pub fn run_figures(
 }
 
 // The questions from 4 on of a record that has passed 1, 2 and 3, and the list where all say yes.
-fn run_record(packed: &[u8], out: &mut [i64]) -> u64
+fn run_record(year: u64, packed: &[u8], out: &mut [i64]) -> u64
     requires { ⌜ (firstNo (openingQuestions (now packed)) ≡ 0) × (resultCount (lastYearOf (now packed)) ≤ length (now out)) ⌝ }
-    ensures { λ r. ⌜ Answers (fieldQuestions (now (packed .entry)) ++ figureQuestions (figuresOf (now (packed .entry)))) (figuresOf (now (packed .entry))) (now (out .entry)) (now (out .exit)) r ⌝ }
+    ensures { λ r. ⌜ Answers (fieldQuestions (now (packed .entry)) ++ figureQuestions year (figuresOf (now (packed .entry)))) year (figuresOf (now (packed .entry))) (now (out .entry)) (now (out .exit)) r ⌝ }
 {
     let mut exposures = [0u64; 16];
     let mut increments = [0i64; 136];
@@ -218,6 +236,7 @@ fn run_record(packed: &[u8], out: &mut [i64]) -> u64
         return opened.answer;
     }
     run_figures(
+        year,
         last_year_of(packed),
         &exposures,
         &increments,
@@ -238,12 +257,12 @@ fn holds_list(s: &[u8], m: usize) -> bool
     entries_of(last_year_of(s)) <= m
 }
 
-// Fills the result list of the record and answers 0, or leaves the buffer and answers the number of the first question, in their order, that says no.
+// Fills the result list of the record in a valuation year and answers 0, or leaves the buffer and answers the number of the first question, in their order, that says no.
 // Entries of a longer buffer keep what they held. Of every accepted run the third demand holds.
 #[no_mangle]
-pub extern "C" fn doonamurk_run(packed: &[u8], results: &mut [i64]) -> u64
-    ensures { λ r. ⌜ (r ≡ runAnswer (now (packed .entry)) (length (now (results .entry))))
-        × ((now (results .exit) ≡ runInto (now (packed .entry)) (now (results .entry)))
+pub extern "C" fn doonamurk_run(valuation_year: u64, packed: &[u8], results: &mut [i64]) -> u64
+    ensures { λ r. ⌜ (r ≡ runAnswer «valuation_year» (now (packed .entry)) (length (now (results .entry))))
+        × ((now (results .exit) ≡ runInto «valuation_year» (now (packed .entry)) (now (results .entry)))
         × (r ≡ 0 → ThirdDemand (figuresOf (now (packed .entry))) (now (results .exit)))) ⌝ }
 {
     let answer = opens(packed);
@@ -253,5 +272,5 @@ pub extern "C" fn doonamurk_run(packed: &[u8], results: &mut [i64]) -> u64
     if !holds_list(packed, results.len()) {
         return 3;
     }
-    run_record(packed, results)
+    run_record(valuation_year, packed, results)
 }

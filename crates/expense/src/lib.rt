@@ -1,4 +1,4 @@
-// The ULAE reserve by the New York method: the ratio under question 12, what is not yet reported, and the reserve.
+// The ULAE reserve by the New York method: the plain ratio under question 12, what is not yet reported, and the reserve.
 use entries::put_natural;
 use rules::MILLION;
 ghost use mathlib.Core.Path.{_≡_};
@@ -9,7 +9,7 @@ ghost use lib.Seq.{sets};
 ghost use Rattle.rules.specs.Lists.{upTo, joined};
 ghost use Rattle.rules.specs.Record.{million, mostAmount};
 ghost use Rattle.rules.specs.Completion.{mostUltimate};
-ghost use Rattle.rules.specs.Expense.{ratioPass, ratioOf, notReported, reserveOf, reserve};
+ghost use Rattle.rules.specs.Expense.{ratioPass, plainRatio, notReported, reserveOf, reserve};
 ghost use Rattle.rules.specs.Results.{reserveSections};
 ghost use Rattle.expense.specs.Reservable.{Reservable};
 
@@ -23,10 +23,10 @@ pub fn ratio_passes(paid: u64, spent: u64) -> bool
     spent <= paid
 }
 
-// The ratio p: the ULAE totals over the paid total, in millionths.
-pub fn ratio_of(paid: u64, spent: u64) -> u64
+// The plain ratio: the ULAE totals over the paid total, in millionths.
+pub fn plain_ratio(paid: u64, spent: u64) -> u64
     requires { ⌜ (1 ≤ paid) × (spent ≤ 16 * mostAmount) ⌝ }
-    ensures { λ r. ⌜ r ≡ ratioOf (pos paid) spent ⌝ }
+    ensures { λ r. ⌜ r ≡ plainRatio (pos paid) spent ⌝ }
 {
     MILLION * spent / paid
 }

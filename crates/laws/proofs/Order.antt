@@ -6,14 +6,14 @@ use lib.IntN.{ℤ, pos, negsuc}
 use lib.Signed.{ltZ, leZ}
 
 -- below is not at least
-less-yes : (a b : ℤ) → ltZ a b ≡ true → leZ b a ≡ false
+pub less-yes : (a b : ℤ) → ltZ a b ≡ true → leZ b a ≡ false
 less-yes (pos a) (pos b) t = lt-leb b a (ltb-true a b t)
 less-yes (pos a) (negsuc b) t = sym t
 less-yes (negsuc a) (pos b) t = refl
 less-yes (negsuc a) (negsuc b) t = lt-leb a b (ltb-true b a t)
 
 -- not below is at least
-less-no : (a b : ℤ) → ltZ a b ≡ false → leZ b a ≡ true
+pub less-no : (a b : ℤ) → ltZ a b ≡ false → leZ b a ≡ true
 less-no (pos a) (pos b) t = le-leb b a (ltb-false a b t)
 less-no (pos a) (negsuc b) t = refl
 less-no (negsuc a) (pos b) t = sym t

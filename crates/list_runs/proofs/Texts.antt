@@ -22,26 +22,26 @@ use Rattle.list_text.specs.EntryLines.{entriesBy, entriesText, refusedText}
 use Rattle.list_runs.specs.Runs.{runText, fieldsText}
 
 -- a refused run and a refused reading
-pub run-refused : (s : List ℕ) (between n : ℕ) → n ≡ runAnswer s mostEntries → (n ≡ 0 → ⊥) → refusedText n ≡ runText between s
+pub run-refused : (year : ℕ) (s : List ℕ) (between n : ℕ) → n ≡ runAnswer year s mostEntries → (n ≡ 0 → ⊥) → refusedText n ≡ runText between year s
 unfolding runText
-run-refused s between n e h = rw (← e, ne-eqb n 0 h)
+run-refused year s between n e h = rw (← e, ne-eqb n 0 h)
 
 pub read-refused : (s : List ℕ) (n : ℕ) → n ≡ readAnswer s mostFields → (n ≡ 0 → ⊥) → refusedText n ≡ fieldsText s
 unfolding fieldsText
 read-refused s n e h = rw (← e, ne-eqb n 0 h)
 
 -- an accepted run: the record has a first byte, and the list begins with the results
-module _ (s : List ℕ) (r : runAnswer s mostEntries ≡ 0) where
+module _ (year : ℕ) (s : List ℕ) (r : runAnswer year s mostEntries ≡ 0) where
   pub run-some : 1 ≤ length s
   unfolding runAnswer questions openingQuestions every
   run-some = years-known s (opening-yes s (both-zero (openingQuestions s) _ refl r .0) .0) .0
 
-  pub run-accepted : (between n : ℕ) (list : List ℤ) → list ≡ runInto s (replicate mostEntries (pos 0)) → n ≡ resultCount (lastYearOf s) → n ≤ mostEntries
-      → entriesBy between (take n list) ≡ runText between s
+  pub run-accepted : (between n : ℕ) (list : List ℤ) → list ≡ runInto year s (replicate mostEntries (pos 0)) → n ≡ resultCount (lastYearOf s) → n ≤ mostEntries
+      → entriesBy between (take n list) ≡ runText between year s
   unfolding runInto afterCall figuresOf runText
   run-accepted between n list e f l =
-      let front : take n list ≡ resultsOf (figuresOf s)
-      = rw (e, r) (take-sets (replicate mostEntries (pos 0)) (resultsOf (figuresOf s)) n (results-length (figuresOf s) ∙ sym f) l) in
+      let front : take n list ≡ resultsOf year (figuresOf s)
+      = rw (e, r) (take-sets (replicate mostEntries (pos 0)) (resultsOf year (figuresOf s)) n (results-length year (figuresOf s) ∙ sym f) l) in
       rw (front, r)
 
 -- an accepted reading

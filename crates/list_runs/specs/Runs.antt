@@ -1,4 +1,4 @@
--- What a run of the engine and of the reader on a record is as text. Assumes nothing.
+-- What a run of the engine, in a valuation year, and one of the reader on a record are as text. Assumes nothing.
 use Prim.Native.Nat.{ℕ}
 use mathlib.Core.Bool.{cond}
 use mathlib.Core.List.{List}
@@ -9,16 +9,16 @@ use Rattle.rules.specs.Results.{mostEntries, resultsOf}
 use Rattle.rules.specs.Engine.{runAnswer}
 use Rattle.list_text.specs.EntryLines.{entriesBy, entriesText, refusedText}
 
--- the result list of the record s with a byte between its entries, or the number of its refusal
-unfoldable pub runText : ℕ → List ℕ → List ℕ
-runText between s = cond (eqb (runAnswer s mostEntries) 0) (entriesBy between (resultsOf (figuresOf s))) (refusedText (runAnswer s mostEntries))
+-- the result list of the record s in a valuation year with a byte between its entries, or the number of its refusal
+unfoldable pub runText : ℕ → ℕ → List ℕ → List ℕ
+runText between year s = cond (eqb (runAnswer year s mostEntries) 0) (entriesBy between (resultsOf year (figuresOf s))) (refusedText (runAnswer year s mostEntries))
 
 -- one entry a line, and all on one line
-abbrev pub listText : List ℕ → List ℕ
-listText s = runText 10 s
+abbrev pub listText : ℕ → List ℕ → List ℕ
+listText year s = runText 10 year s
 
-abbrev pub listRow : List ℕ → List ℕ
-listRow s = runText 32 s
+abbrev pub listRow : ℕ → List ℕ → List ℕ
+listRow year s = runText 32 year s
 
 -- the fields of the record s one a line, or the number of its refusal
 unfoldable pub fieldsText : List ℕ → List ℕ

@@ -22,8 +22,9 @@ use Rattle.composing.specs.Text.{decimal, sign, integer, ascii}
 use Rattle.composing.proofs.Decimals.{length-most, length-sign}
 use Rattle.results.proofs.SectionPlaces.{results-length}
 use Rattle.list_text.specs.EntryLines.{after, entryText, entriesBy, refusedText}
+use Rattle.valuation.specs.Valuation.{pairAt}
 use Rattle.list_runs.specs.Runs.{runText}
-use Rattle.list_stream.specs.Stream.{lengthAt, wholeAt, mostRow}
+use Rattle.list_stream.specs.Stream.{wholeAt, mostRow}
 
 -- texts of at most b bytes, joined
 joined-most : (f : ℕ → List ℕ) (b : ℕ) → ((i : ℕ) → length (f i) ≤ b) → (n : ℕ) → length (joined (upTo f n)) ≤ n * b
@@ -49,36 +50,36 @@ refused-most n =
     omega (arith, length-append (ascii "refused ") (decimal n ++ ascii "\n"), length-append (decimal n) (ascii "\n"), length-most n)
 
 -- the list of an accepted run is not longer than the longest
-results-most : (s : List ℕ) → runAnswer s mostEntries ≡ 0 → length (resultsOf (figuresOf s)) ≤ mostEntries
+results-most : (year : ℕ) (s : List ℕ) → runAnswer year s mostEntries ≡ 0 → length (resultsOf year (figuresOf s)) ≤ mostEntries
 unfolding runAnswer questions openingQuestions holdsList figuresOf every
-results-most s r =
+results-most year s r =
     let later = both-zero (openingQuestions s) _ refl r .1 in
     let three = both-zero ((3, holdsList s mostEntries) ∷ []) _ refl later .0 in
-    omega (arith, results-length (figuresOf s), leb-true (resultCount (lastYearOf s)) mostEntries (yes-said 3 ((3, holdsList s mostEntries) ∷ []) refl three))
+    omega (arith, results-length year (figuresOf s), leb-true (resultCount (lastYearOf s)) mostEntries (yes-said 3 ((3, holdsList s mostEntries) ∷ []) refl three))
 
 -- the text of a run is not longer than the longest row
-pub text-most : (between : ℕ) (s : List ℕ) → length (runText between s) ≤ mostRow
+pub text-most : (between year : ℕ) (s : List ℕ) → length (runText between year s) ≤ mostRow
 unfolding runText
-text-most between s = go (ℕ-discrete (runAnswer s mostEntries) 0)
+text-most between year s = go (ℕ-discrete (runAnswer year s mostEntries) 0)
   where
-    go : Dec (runAnswer s mostEntries ≡ 0) → length (runText between s) ≤ mostRow
-    go (yes r) = rw r (omega (arith, separated-most between (resultsOf (figuresOf s)), results-most s r))
-    go (no r) = rw (ne-eqb (runAnswer s mostEntries) 0 r) (omega (arith, refused-most (runAnswer s mostEntries)))
+    go : Dec (runAnswer year s mostEntries ≡ 0) → length (runText between year s) ≤ mostRow
+    go (yes r) = rw r (omega (arith, separated-most between (resultsOf year (figuresOf s)), results-most year s r))
+    go (no r) = rw (ne-eqb (runAnswer year s mostEntries) 0 r) (omega (arith, refused-most (runAnswer year s mostEntries)))
 
 -- a whole record stands inside, and where the length or the record does not, it is none
 module _ (s : List ℕ) (p : ℕ) where
-  pub whole-inside : wholeAt s p ≡ true → p + 2 + lengthAt s p ≤ length s
+  pub whole-inside : wholeAt s p ≡ true → p + 2 + pairAt s p ≤ length s
   unfolding wholeAt
-  whole-inside h = leb-true (p + 2 + lengthAt s p) (length s) (both-right (leb (p + 2) (length s)) _ h)
+  whole-inside h = leb-true (p + 2 + pairAt s p) (length s) (both-right (leb (p + 2) (length s)) _ h)
 
   pub no-length : length s < p + 2 → false ≡ wholeAt s p
   unfolding wholeAt
   no-length h = rw (lt-leb (p + 2) (length s) h)
 
-  pub some-length : p + 2 ≤ length s → leb (lengthAt s p) (length s - p - 2) ≡ wholeAt s p
+  pub some-length : p + 2 ≤ length s → leb (pairAt s p) (length s - p - 2) ≡ wholeAt s p
   unfolding wholeAt
   some-length h =
       rw (le-leb (p + 2) (length s) h)
-      (same-answer (leb (lengthAt s p) (length s - p - 2)) (leb (p + 2 + lengthAt s p) (length s))
-      (λ q. le-leb (p + 2 + lengthAt s p) (length s) (omega (arith, leb-true (lengthAt s p) (length s - p - 2) q)))
-      (λ q. le-leb (lengthAt s p) (length s - p - 2) (omega (arith, leb-true (p + 2 + lengthAt s p) (length s) q))))
+      (same-answer (leb (pairAt s p) (length s - p - 2)) (leb (p + 2 + pairAt s p) (length s))
+      (λ q. le-leb (p + 2 + pairAt s p) (length s) (omega (arith, leb-true (pairAt s p) (length s - p - 2) q)))
+      (λ q. le-leb (pairAt s p) (length s - p - 2) (omega (arith, leb-true (p + 2 + pairAt s p) (length s) q))))

@@ -1,4 +1,4 @@
-// Taylor's motor account (document 004, example 1), whose record, in tenths, is read from standard input: whether the shares, the levels and the
+// Taylor's motor account (document 004, example 1), whose record, in tenths, is read from standard input behind a valuation year: whether the shares, the levels and the
 // fitted run-off triangle that come of it are those that he prints, to his digits. Writes a line for each figure, and then how many are as printed.
 // The account's cut to three years is not compared.
 use engine::doonamurk_run;
@@ -7,6 +7,8 @@ use printing::put_number;
 use printing::put_text;
 use rules::BILLION;
 use rules::MOST_ENTRIES;
+use valuation::record_start;
+use valuation::year_of;
 ghost use Prim.Native.Nat.{_+_, _≤_, _<_};
 ghost use Rattle.rules.specs.Separation.{billion};
 ghost use Rattle.rules.specs.Results.{mostEntries};
@@ -141,11 +143,17 @@ const SHARES: usize = 10;
 
 const LEVELS: usize = 14;
 
+// The engine's answer to an input, a valuation year and a record.
+fn run(input: &[u8], list: &mut [i64]) -> u64 {
+    let from = record_start(input);
+    doonamurk_run(year_of(input), &input[from..], list)
+}
+
 fn main() {
     let mut buffer = io::buffer();
     let n = io::read_full(0, &mut buffer);
     let mut list = [0i64; MOST_ENTRIES];
-    let answer = doonamurk_run(&buffer[..n], &mut list);
+    let answer = run(&buffer[..n], &mut list);
     if answer == 0 {
         compare_all(&list, SHARES, LEVELS);
     } else {

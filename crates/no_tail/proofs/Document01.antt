@@ -1,5 +1,5 @@
--- Document 01's rules without a tail, as they were before request 3 of document 02 (with request 4's halves): they stand here only to be held against. Where a rule of today does not
--- name the tail or e_{k+1}, it is the same rule. Assumes nothing.
+-- Document 01's rules without a tail, as they would be without request 3 of document 02 (with request 4's halves and, from valuation year 2027 on, request 1's ratio): they
+-- stand here only to be held against. Where a rule of today does not name the tail or e_{k+1}, it is the same rule. Assumes nothing.
 use Prim.Native.Nat.{ℕ, _+_, _-_, _*_, _/_, _%_, _^_, _≤_}
 use mathlib.Core.Path.{_≡_}
 use mathlib.Core.Bool.{Bool, _&&_}
@@ -17,8 +17,9 @@ use Rattle.rules.specs.Triangle.{cumulativesPass}
 use Rattle.rules.specs.Separation.{shareOf, levelOf, separationQuestions}
 use Rattle.rules.specs.Completion.{futureLevels, paymentRow, payments, ultimatesPass}
 use Rattle.rules.specs.Expense.{notReported, reserve}
+use Rattle.rules.specs.Growth.{latestReported, divisorOf, growthQuestions, usedRatio}
 use Rattle.rules.specs.Ladder.{developed, base, developmentFactors, completedAll}
-use Rattle.rules.specs.Results.{separationSections, completionSections, reserveSections, ladderSections, squareOf, latestOf, factorsIn, paidIn, levelsIn, developmentIn, ratioIn}
+use Rattle.rules.specs.Results.{separationSections, completionSections, reserveSections, ladderSections, squareOf, latestDiagonalOf, factorsIn, paidIn, levelsIn, developmentIn, plainRatioIn, latestPaidIn}
 use Rattle.rules.specs.Engine.{ratioQuestions, ladderQuestions, runAnswer, runInto}
 
 -- the record: k indices, and nothing after the ULAE totals
@@ -57,22 +58,29 @@ provisions01 f = upTo (λ i. total (paymentRow (f .k) (f .exposures) (factorsIn 
 abbrev pub provisionsIn01 : Figures → List ℕ
 provisionsIn01 f = padded 16 0 (provisions01 f)
 
+-- the ratio, its correction with ultimates without a tail
+unfoldable pub divisor01 : Figures → ℕ
+divisor01 f = divisorOf (f .weight) (latestReported (f .k) (f .reporting) (paidIn f) (provisionsIn01 f)) (latestPaidIn f)
+
+abbrev pub ratio01 : ℕ → Figures → ℕ
+ratio01 year f = usedRatio year (plainRatioIn f) (divisor01 f)
+
 -- the result list, 20 entries for k = 1 and 489 for k = 15
 unfoldable pub resultCount01 : ℕ → ℕ
 resultCount01 k = 3 * cells k + 5 * k + 6
 
-unfoldable pub resultsOf01 : Figures → List ℤ
-resultsOf01 f =
+unfoldable pub resultsOf01 : ℕ → Figures → List ℤ
+resultsOf01 year f =
     let k = f .k in
     let c = paidIn f in
     let q = provisionsIn01 f in
     joined
     (separationSections k (squareOf f) (upTo (shareOf (squareOf f) k) (k + 1)) (upTo (levelOf (squareOf f) k) (k + 1))
-    ++ (completionSections (futureLevels k (latestOf f) (f .indices)) (payments k (f .exposures) (factorsIn f .shares) (levelsIn f)) (provisions01 f)
-    ++ (reserveSections (upTo (notReported k (f .reporting) c q) (k + 1)) (upTo (reserve k (ratioIn f) (f .weight) (f .reporting) c q) (k + 1)) (ratioIn f)
+    ++ (completionSections (futureLevels k (latestDiagonalOf f) (f .indices)) (payments k (f .exposures) (factorsIn f .shares) (levelsIn f)) (provisions01 f)
+    ++ (reserveSections (upTo (notReported k (f .reporting) c q) (k + 1)) (upTo (reserve k (ratio01 year f) (f .weight) (f .reporting) c q) (k + 1)) (ratio01 year f)
     ++ ladderSections (developmentFactors k (developed k (f .increments)) (base k (f .increments))) (completedAll k c (developmentIn f)))))
 
--- questions 1 to 14 in their order
+-- questions 1 to 17 in their order
 unfoldable pub openingQuestions01 : List ℕ → List (ℕ × Bool)
 openingQuestions01 s =
     (1, hasLastYear s)
@@ -83,15 +91,16 @@ unfoldable pub fieldQuestions01 : List ℕ → List (ℕ × Bool)
 fieldQuestions01 s =
     (4, everyField bitsInRange (kindsOf (layout01 (lastYearOf s))) (codesOf01 s)) ∷ (5, eqb (total (row01 s 4)) million) ∷ []
 
-unfoldable pub figureQuestions01 : Figures → List (ℕ × Bool)
-figureQuestions01 f =
+unfoldable pub figureQuestions01 : ℕ → Figures → List (ℕ × Bool)
+figureQuestions01 year f =
     (6, cumulativesPass (f .k) (f .increments))
-    ∷ (separationQuestions (squareOf f) (f .k) ++ ((11, ultimatesPass (f .k) (paidIn f) (provisionsIn01 f)) ∷ (ratioQuestions f ++ ladderQuestions f)))
+    ∷ (separationQuestions (squareOf f) (f .k) ++ ((11, ultimatesPass (f .k) (paidIn f) (provisionsIn01 f))
+    ∷ (ratioQuestions f ++ (growthQuestions year (plainRatioIn f) (latestPaidIn f) (divisor01 f) ++ ladderQuestions f))))
 
-unfoldable pub runAnswer01 : List ℕ → ℕ → ℕ
-runAnswer01 s m =
+unfoldable pub runAnswer01 : ℕ → List ℕ → ℕ → ℕ
+runAnswer01 year s m =
     firstNo
-    (openingQuestions01 s ++ ((3, leb (resultCount01 (lastYearOf s)) m) ∷ (fieldQuestions01 s ++ figureQuestions01 (figuresOf01 s))))
+    (openingQuestions01 s ++ ((3, leb (resultCount01 (lastYearOf s)) m) ∷ (fieldQuestions01 s ++ figureQuestions01 year (figuresOf01 s))))
 
 -- the codes xs of a record of today and the codes ys of one of document 01, both of the years 0 to k, are the same row by row, but for the index e after e_k and the
 -- amount 0 at the end
@@ -115,10 +124,10 @@ pub record Without (e : ℕ) (t s : List ℕ) : Type 0 where
   pub years : lastYearOf s ≡ lastYearOf t
   pub codes : SameCodes (lastYearOf t) e (codesOf s) (codesOf01 t)
 
--- what is shown of the two, for every result buffer: the number is document 01's for a buffer of k + 1 entries fewer, those of the tail payments; and the list is
+-- what is shown of the two, for every valuation year and every result buffer: the number is document 01's for a buffer of k + 1 entries fewer, those of the tail payments; and the list is
 -- document 01's and then k + 1 zeros, or on a refusal what the buffer held
 pub record SameRun (t s : List ℕ) : Type 0 where
-  pub answer : (m : ℕ) → runAnswer s m ≡ runAnswer01 t (m - (lastYearOf t + 1))
-  pub results : (out : List ℤ)
-      → runInto s out
-      ≡ afterCall (runAnswer01 t (length out - (lastYearOf t + 1))) (sets out 0 (resultsOf01 (figuresOf01 t) ++ replicate (lastYearOf t + 1) (pos 0))) out
+  pub answer : (year m : ℕ) → runAnswer year s m ≡ runAnswer01 year t (m - (lastYearOf t + 1))
+  pub results : (year : ℕ) (out : List ℤ)
+      → runInto year s out
+      ≡ afterCall (runAnswer01 year t (length out - (lastYearOf t + 1))) (sets out 0 (resultsOf01 year (figuresOf01 t) ++ replicate (lastYearOf t + 1) (pos 0))) out

@@ -5,24 +5,24 @@ use mathlib.Core.List.{List}
 use lib.ListN.{getD}
 use Rattle.rules.specs.Record.{Figures, figures}
 use Rattle.rules.specs.Completion.{futureLevel, futureLevels}
-use Rattle.rules.specs.Results.{squareOf, latestOf, factorsIn, paidIn, levelsIn, developmentIn, ratioIn}
+use Rattle.rules.specs.Results.{squareOf, latestDiagonalOf, factorsIn, paidIn, levelsIn, developmentIn, plainRatioIn, latestPaidIn}
 use Rattle.rules.specs.Engine.{ratioQuestions, ladderQuestions}
 use Rattle.laws.proofs.Lists.{upTo-ext}
-use Rattle.no_tail.proofs.Document01.{provisions01, resultsOf01, figureQuestions01}
+use Rattle.no_tail.proofs.Document01.{provisions01, divisor01, resultsOf01, figureQuestions01}
 
 -- figures with other indices
 abbrev pub withIndices : List ℕ → Figures → Figures
 withIndices e f = figures (f .k) (f .exposures) (f .increments) e (f .reporting) (f .weight) (f .ulae) (f .tail)
 
-module _ (f : Figures) (e : List ℕ) (same : (t : ℕ) → t < f .k → getD e t 0 ≡ getD (f .indices) t 0) where
-  levels-same : futureLevels (f .k) (latestOf f) e ≡ futureLevels (f .k) (latestOf f) (f .indices)
+module _ (year : ℕ) (f : Figures) (e : List ℕ) (same : (t : ℕ) → t < f .k → getD e t 0 ≡ getD (f .indices) t 0) where
+  levels-same : futureLevels (f .k) (latestDiagonalOf f) e ≡ futureLevels (f .k) (latestDiagonalOf f) (f .indices)
   unfolding futureLevels
-  levels-same = upTo-ext _ _ (f .k) (λ t l. ap (futureLevel (latestOf f)) (same t l))
+  levels-same = upTo-ext _ _ (f .k) (λ t l. ap (futureLevel (latestDiagonalOf f)) (same t l))
 
-  pub questions-same : figureQuestions01 (withIndices e f) ≡ figureQuestions01 f
-  unfolding figureQuestions01 provisions01 ratioQuestions ladderQuestions squareOf latestOf factorsIn paidIn levelsIn developmentIn ratioIn
+  pub questions-same : figureQuestions01 year (withIndices e f) ≡ figureQuestions01 year f
+  unfolding figureQuestions01 provisions01 divisor01 ratioQuestions ladderQuestions squareOf latestDiagonalOf factorsIn paidIn levelsIn developmentIn plainRatioIn latestPaidIn
   questions-same = rw levels-same
 
-  pub results-same : resultsOf01 (withIndices e f) ≡ resultsOf01 f
-  unfolding resultsOf01 provisions01 squareOf latestOf factorsIn paidIn levelsIn developmentIn ratioIn
+  pub results-same : resultsOf01 year (withIndices e f) ≡ resultsOf01 year f
+  unfolding resultsOf01 provisions01 divisor01 squareOf latestDiagonalOf factorsIn paidIn levelsIn developmentIn plainRatioIn latestPaidIn
   results-same = rw levels-same

@@ -15,13 +15,13 @@ use Rattle.rules.specs.Triangle.{evenly, nearest, averageOf}
 use Rattle.rules.specs.Tail.{firstTailAverage, tailAverage, tailPayment, tailPayments, firstTailAveragePasses, tailAveragesPass, tailQuestions}
 use Rattle.rules.specs.Completion.{provision, provisions}
 use Rattle.rules.specs.Questions.{firstNo}
-use Rattle.rules.specs.Results.{factorsIn, levelsIn, firstTailAverageOf, tailsIn, provisionsIn, separationSections, completionSections, reserveSections, ladderSections, tailSections, sections, resultsOf}
+use Rattle.rules.specs.Results.{factorsIn, levelsIn, firstTailAverageOf, tailsIn, provisionsIn, separationSections, completionSections, reserveSections, ladderSections, tailSections, latestReportedIn, divisorIn, usedRatioIn, sections, resultsOf}
 use Rattle.rules.specs.Separation.{separationQuestions}
-use Rattle.rules.specs.Engine.{completionQuestions, lastQuestions, laterQuestions, figureQuestions}
+use Rattle.rules.specs.Engine.{completionQuestions, correctionQuestions, lastQuestions, laterQuestions, figureQuestions}
 use Rattle.rules.proofs.Nearest.{nearest-zero}
 use Rattle.laws.proofs.Lists.{upTo-ext, every-yes, map-upTo}
 use Rattle.laws.proofs.Joined.{joined-append, upTo-all, padded-all}
-use Rattle.no_tail.proofs.Document01.{provisions01, resultsOf01, figureQuestions01}
+use Rattle.no_tail.proofs.Document01.{provisions01, divisor01, resultsOf01, figureQuestions01}
 
 -- the average of nothing, over any number of claims
 nothing-average : (n : ℕ) → nearest 0 n ≡ 0
@@ -35,7 +35,7 @@ unfolding upTo
 upTo-same f z e zero = refl
 upTo-same f z e (suc n) = rw (upTo-same f z e n, e n, replicate-append-replicate n 1 z, add-one n)
 
-module _ (f : Figures) (none : f .tail ≡ 0) where
+module _ (year : ℕ) (f : Figures) (none : f .tail ≡ 0) where
   abbrev k : ℕ
   k = f .k
 
@@ -75,11 +75,11 @@ module _ (f : Figures) (none : f .tail ≡ 0) where
   unfolding tailAveragesPass
   averages-pass = every-yes _ (λ i. i) (k + 1) (λ i l. rw (average-none i) refl)
 
-  pub questions-none : firstNo (figureQuestions f) ≡ firstNo (figureQuestions01 f)
-  unfolding firstNo figureQuestions laterQuestions lastQuestions completionQuestions separationQuestions tailQuestions figureQuestions01 provisionsIn
+  pub questions-none : firstNo (figureQuestions year f) ≡ firstNo (figureQuestions01 year f)
+  unfolding firstNo figureQuestions laterQuestions lastQuestions completionQuestions correctionQuestions separationQuestions tailQuestions divisorIn latestReportedIn divisor01 figureQuestions01 provisionsIn
   questions-none = rw (first-passes, averages-pass, provisions-same)
 
   -- the list
-  pub results-none : resultsOf f ≡ resultsOf01 f ++ replicate (f .k + 1) (pos 0)
-  unfolding resultsOf sections separationSections completionSections reserveSections ladderSections tailSections resultsOf01 provisionsIn
+  pub results-none : resultsOf year f ≡ resultsOf01 year f ++ replicate (f .k + 1) (pos 0)
+  unfolding resultsOf sections separationSections completionSections reserveSections ladderSections tailSections usedRatioIn divisorIn latestReportedIn divisor01 resultsOf01 provisionsIn
   results-none = rw (provisions-same, ← payments-none) (joined-append _ _)

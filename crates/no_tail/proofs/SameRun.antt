@@ -34,15 +34,15 @@ module _ (e : ℕ) (t s : List ℕ) (w : Without e t s) where
   indices = padded 16 0 (row01 t 3 ++ (e ∷ []))
 
   -- the questions from 6 on
-  later-same : firstNo (figureQuestions (figuresOf s)) ≡ firstNo (figureQuestions01 (figuresOf01 t))
+  later-same : (year : ℕ) → firstNo (figureQuestions year (figuresOf s)) ≡ firstNo (figureQuestions01 year (figuresOf01 t))
   unfolding figuresOf01
-  later-same = rw (figures-same e t s w) (questions-none (withIndices indices old) refl ∙ ap firstNo (questions-same old indices (indices-same e t s w)))
+  later-same year = rw (figures-same e t s w) (questions-none year (withIndices indices old) refl ∙ ap firstNo (questions-same year old indices (indices-same e t s w)))
 
-  list-same : resultsOf (figuresOf s) ≡ resultsOf01 (figuresOf01 t) ++ replicate (lastYearOf t + 1) (pos 0)
+  list-same : (year : ℕ) → resultsOf year (figuresOf s) ≡ resultsOf01 year (figuresOf01 t) ++ replicate (lastYearOf t + 1) (pos 0)
   unfolding figuresOf01
-  list-same =
+  list-same year =
       rw (figures-same e t s w)
-      (results-none (withIndices indices old) refl ∙ ap (λ (l : List ℤ). l ++ replicate (k + 1) (pos 0)) (results-same old indices (indices-same e t s w)))
+      (results-none year (withIndices indices old) refl ∙ ap (λ (l : List ℤ). l ++ replicate (k + 1) (pos 0)) (results-same year old indices (indices-same e t s w)))
 
   -- question 3
   holds-same : (m : ℕ) → holdsList s m ≡ leb (resultCount01 (lastYearOf t)) (m - (lastYearOf t + 1))
@@ -56,14 +56,14 @@ module _ (e : ℕ) (t s : List ℕ) (w : Without e t s) where
       (λ h. le-leb (resultCount k) m (omega (arith, leb-true (resultCount01 k) (m - more) h))))
 
   -- all questions
-  answer-same : (m : ℕ) → runAnswer s m ≡ runAnswer01 t (m - (lastYearOf t + 1))
+  answer-same : (year m : ℕ) → runAnswer year s m ≡ runAnswer01 year t (m - (lastYearOf t + 1))
   unfolding runAnswer questions runAnswer01 openingQuestions openingQuestions01 fieldQuestions01 firstNo every
-  answer-same m =
-      let others : List (ℕ × Bool) = (3, holdsList s m) ∷ (fieldQuestions s ++ figureQuestions (figuresOf s)) in
-      let others01 : List (ℕ × Bool) = (3, leb (resultCount01 k) (m - (k + 1))) ∷ (fieldQuestions01 t ++ figureQuestions01 (figuresOf01 t)) in
+  answer-same year m =
+      let others : List (ℕ × Bool) = (3, holdsList s m) ∷ (fieldQuestions s ++ figureQuestions year (figuresOf s)) in
+      let others01 : List (ℕ × Bool) = (3, leb (resultCount01 k) (m - (k + 1))) ∷ (fieldQuestions01 t ++ figureQuestions01 year (figuresOf01 t)) in
       later-answer (openingQuestions s) others refl (w .opened)
-      ∙ rw (holds-same m, fields-same e t s w, later-same) (sym (later-answer (openingQuestions01 t) others01 refl (w .opened01)))
+      ∙ rw (holds-same m, fields-same e t s w, later-same year) (sym (later-answer (openingQuestions01 t) others01 refl (w .opened01)))
 
   pub same-run : SameRun t s
   unfolding runInto
-  same-run = record { answer = answer-same; results = λ out. rw (answer-same (length out), list-same) refl }
+  same-run = record { answer = answer-same; results = λ year out. rw (answer-same year (length out), list-same year) refl }

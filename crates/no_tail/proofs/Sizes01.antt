@@ -26,17 +26,17 @@ pub bits-more : (k : ℕ) → bitCount k ≡ total (widths01 k) + 57
 unfolding bitCount widths layout widths01 layout01 total
 bits-more k = omega (arith, bits-of-rows (layout k), bits-of-rows (layout01 k))
 
-pub list-length : (t : List ℕ) → length (resultsOf01 (figuresOf01 t)) ≡ resultCount01 (lastYearOf t)
+pub list-length : (year : ℕ) (t : List ℕ) → length (resultsOf01 year (figuresOf01 t)) ≡ resultCount01 (lastYearOf t)
 unfolding figuresOf01 resultCount01
-list-length t =
+list-length year t =
     let k = lastYearOf t in
     let f = figuresOf01 t in
     let zeros : List ℤ = replicate (k + 1) (pos 0) in
     omega (
       arith,
-      ap length (results-none f refl),
-      length-append (resultsOf01 f) zeros,
+      ap length (results-none year f refl),
+      length-append (resultsOf01 year f) zeros,
       length-replicate (k + 1) (pos 0),
-      results-length f,
+      results-length year f,
       results-count k,
     )

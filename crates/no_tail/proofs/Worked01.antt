@@ -13,9 +13,10 @@ use Rattle.rules.specs.Reading.{hasLastYear, hasLength, openingQuestions}
 use Rattle.rules.specs.Triangle.{rowStart, paidOf, sumTo, cumulativeOf, rowPasses, cumulativesPass, givenCumulative, paidTo, evenly, nearest, averageOf, averageRow, averagesOf, cellOf, cellsTotal, columnTotal, diagonalTotal, cornerTotal, allTotal}
 use Rattle.rules.specs.Separation.{columnOf, diagonalOf, cornerOf, runningDown, runningOf, shareOf, levelOf, totalsPass, restsPass, runningPass, levelsPass, factorsOf, separationQuestions}
 use Rattle.rules.specs.Completion.{futureLevel, futureLevels, paymentOf, payment, paymentRow, payments, ultimate, ultimatesPass}
-use Rattle.rules.specs.Expense.{paidTotal, ulaeTotal, ratioPass, ratioOf, reportedAfter, notReported, weighted, reserveOf, reserve}
+use Rattle.rules.specs.Expense.{paidTotal, ulaeTotal, ratioPass, plainRatio, reportedAfter, notReported, weighted, reserveOf, reserve}
+use Rattle.rules.specs.Growth.{corrects, growthQuestions, usedRatio}
 use Rattle.rules.specs.Ladder.{developed, base, developmentFactor, developmentFactors, factorPasses, factorsPass, completed, completedRow, completedAll, completedPass}
-use Rattle.rules.specs.Results.{separationSections, completionSections, reserveSections, ladderSections, squareOf, latestOf, factorsIn, paidIn, levelsIn, developmentIn, ratioIn}
+use Rattle.rules.specs.Results.{separationSections, completionSections, reserveSections, ladderSections, squareOf, latestDiagonalOf, factorsIn, paidIn, levelsIn, developmentIn, plainRatioIn}
 use Rattle.rules.specs.Engine.{ratioQuestions, ladderQuestions}
 use Rattle.rules.proofs.Worked.{bytes}
 use Rattle.no_tail.proofs.Document01.{layout01, widths01, byteCount01, fillingCount01, codesOf01, fieldsOf01, figuresOf01, provisions01, resultCount01, resultsOf01, openingQuestions01, fieldQuestions01, figureQuestions01, runAnswer01, Without}
@@ -29,9 +30,9 @@ abbrev printed : List ℤ
 printed =
     pos 6000 ∷ pos 4000 ∷ pos 6600 ∷ pos 622641509 ∷ pos 377358491 ∷ pos 9636 ∷ pos 10600 ∷ pos 11660 ∷ pos 44 ∷ pos 0 ∷ pos 44 ∷ pos 44 ∷ pos 0 ∷ pos 22 ∷ pos 0 ∷ pos 3 ∷ pos 3 ∷ pos 96385 ∷ pos 1666666 ∷ pos 109 ∷ []
 
--- accepted with room for 20 entries, refused 3 with room for 19, and the list
-pub worked-run : (runAnswer01 bytes01 20 ≡ 0) × ((runAnswer01 bytes01 19 ≡ 3) × (resultsOf01 (figuresOf01 bytes01) ≡ printed))
-unfolding total upTo padded every pack unpack numberOf firstNo cells kindsOf section valueOf inRange negativeZero bitsInRange everyField lastYearOf hasLastYear rowStart paidOf sumTo cumulativeOf cumulativesPass evenly nearest averageOf averageRow averagesOf cellOf cellsTotal columnTotal diagonalTotal cornerTotal allTotal columnOf diagonalOf cornerOf runningDown runningOf shareOf levelOf totalsPass restsPass runningPass levelsPass factorsOf futureLevel payment paymentRow paidTo ultimate ultimatesPass paidTotal ulaeTotal ratioPass ratioOf reportedAfter notReported weighted reserve givenCumulative developed base developmentFactor completed completedRow factorsPass completedPass squareOf latestOf factorsIn joined zipWith rowPasses futureLevels paymentOf payments reserveOf developmentFactors factorPasses completedAll paidIn levelsIn developmentIn ratioIn separationSections completionSections reserveSections ladderSections separationQuestions ratioQuestions ladderQuestions layout01 widths01 byteCount01 fillingCount01 codesOf01 fieldsOf01 figuresOf01 provisions01 resultCount01 resultsOf01 openingQuestions01 fieldQuestions01 figureQuestions01 runAnswer01
+-- accepted in 2026 with room for 20 entries, refused 3 with room for 19, and the list
+pub worked-run : (runAnswer01 2026 bytes01 20 ≡ 0) × ((runAnswer01 2026 bytes01 19 ≡ 3) × (resultsOf01 2026 (figuresOf01 bytes01) ≡ printed))
+unfolding total upTo padded every pack unpack numberOf firstNo cells kindsOf section valueOf inRange negativeZero bitsInRange everyField lastYearOf hasLastYear rowStart paidOf sumTo cumulativeOf cumulativesPass evenly nearest averageOf averageRow averagesOf cellOf cellsTotal columnTotal diagonalTotal cornerTotal allTotal columnOf diagonalOf cornerOf runningDown runningOf shareOf levelOf totalsPass restsPass runningPass levelsPass factorsOf futureLevel payment paymentRow paidTo ultimate ultimatesPass paidTotal ulaeTotal ratioPass plainRatio reportedAfter notReported weighted reserve givenCumulative developed base developmentFactor completed completedRow factorsPass completedPass squareOf latestDiagonalOf factorsIn joined zipWith rowPasses futureLevels paymentOf payments reserveOf developmentFactors factorPasses completedAll paidIn levelsIn developmentIn plainRatioIn corrects growthQuestions usedRatio separationSections completionSections reserveSections ladderSections separationQuestions ratioQuestions ladderQuestions layout01 widths01 byteCount01 fillingCount01 codesOf01 fieldsOf01 figuresOf01 provisions01 resultCount01 resultsOf01 openingQuestions01 fieldQuestions01 figureQuestions01 runAnswer01
 worked-run = (refl, (refl, refl))
 
 pub worked-without : Without million bytes01 bytes

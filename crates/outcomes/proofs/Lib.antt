@@ -1,3 +1,4 @@
 pub mod Passed
 pub mod Accepted
 pub mod Again
+pub mod Corrected

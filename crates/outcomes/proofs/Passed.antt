@@ -1,4 +1,4 @@
--- What a run has passed that no question before the seventh refuses: questions 1 to 6. Assumes nothing.
+-- What a run in a valuation year has passed that no question before the seventh refuses: questions 1 to 6. Assumes nothing.
 use Prim.Native.Nat.{ℕ, _≤_}
 use native.Mathlib.Omega.{arith}
 use borrow.Author.Tests.{leb-true}
@@ -23,16 +23,16 @@ use Rattle.reading.proofs.FiguresRead.{sound-figures}
 use Rattle.reading.proofs.RowsRead.{years-known, opening-yes}
 
 -- the answer is the number of none of the first six questions
-pub record Late (s : List ℕ) : Type 0 where
+pub record Late (year : ℕ) (s : List ℕ) : Type 0 where
   pub number : ℕ
   pub apart : (q : ℕ) → 1 ≤ q → q ≤ 6 → q ≡ number → ⊥
-  pub answer : runAnswer s mostEntries ≡ number
+  pub answer : runAnswer year s mostEntries ≡ number
 
-abbrev pub accepted : (s : List ℕ) → runAnswer s mostEntries ≡ 0 → Late s
-accepted s h = record { number = 0; apart = λ q l m e. omega arith; answer = h }
+abbrev pub accepted : (year : ℕ) (s : List ℕ) → runAnswer year s mostEntries ≡ 0 → Late year s
+accepted year s h = record { number = 0; apart = λ q l m e. omega arith; answer = h }
 
-abbrev pub seventh : (s : List ℕ) → runAnswer s mostEntries ≡ 7 → Late s
-seventh s h = record { number = 7; apart = λ q l m e. omega arith; answer = h }
+abbrev pub seventh : (year : ℕ) (s : List ℕ) → runAnswer year s mostEntries ≡ 7 → Late year s
+seventh year s h = record { number = 7; apart = λ q l m e. omega arith; answer = h }
 
 -- whether questions are among the first six
 abbrev early : List (ℕ × Bool) → Bool
@@ -54,16 +54,16 @@ others n apart (q ∷ qs) rs o h =
     go true other e after = after e
     go false other e after = absurd (other e)
 
-module _ (s : List ℕ) (run : Late s) where
-  first : (firstNo (openingQuestions s) ≡ 0) × (firstNo ((3, holdsList s mostEntries) ∷ (fieldQuestions s ++ figureQuestions (figuresOf s))) ≡ run .number)
+module _ (year : ℕ) (s : List ℕ) (run : Late year s) where
+  first : (firstNo (openingQuestions s) ≡ 0) × (firstNo ((3, holdsList s mostEntries) ∷ (fieldQuestions s ++ figureQuestions year (figuresOf s))) ≡ run .number)
   unfolding runAnswer questions openingQuestions every
   first = others (run .number) (run .apart) (openingQuestions s) _ refl (run .answer)
 
-  after-room : (firstNo ((3, holdsList s mostEntries) ∷ []) ≡ 0) × (firstNo (fieldQuestions s ++ figureQuestions (figuresOf s)) ≡ run .number)
+  after-room : (firstNo ((3, holdsList s mostEntries) ∷ []) ≡ 0) × (firstNo (fieldQuestions s ++ figureQuestions year (figuresOf s)) ≡ run .number)
   unfolding every
   after-room = others (run .number) (run .apart) ((3, holdsList s mostEntries) ∷ []) _ refl (first .1)
 
-  later : (firstNo (fieldQuestions s) ≡ 0) × (firstNo (figureQuestions (figuresOf s)) ≡ run .number)
+  later : (firstNo (fieldQuestions s) ≡ 0) × (firstNo (figureQuestions year (figuresOf s)) ≡ run .number)
   unfolding fieldQuestions every
   later = others (run .number) (run .apart) (fieldQuestions s) _ refl (after-room .1)
 
@@ -82,7 +82,7 @@ module _ (s : List ℕ) (run : Late s) where
   room = leb-true (resultCount (lastYearOf s)) mostEntries (yes-said 3 ((3, holdsList s mostEntries) ∷ []) refl (after-room .0))
 
   six : (firstNo ((6, cumulativesPass (figuresOf s .k) (figuresOf s .increments)) ∷ []) ≡ 0)
-      × (firstNo (separationQuestions (squareOf (figuresOf s)) (figuresOf s .k) ++ laterQuestions (figuresOf s)) ≡ run .number)
+      × (firstNo (separationQuestions (squareOf (figuresOf s)) (figuresOf s .k) ++ laterQuestions year (figuresOf s)) ≡ run .number)
   unfolding figureQuestions every
   six = others (run .number) (run .apart) ((6, cumulativesPass (figuresOf s .k) (figuresOf s .increments)) ∷ []) _ refl (later .1)
 
@@ -94,5 +94,5 @@ module _ (s : List ℕ) (run : Late s) where
   sound h = sound-figures s h opening fields
 
   -- the questions about the figures give the answer
-  pub figures-answer : firstNo (figureQuestions (figuresOf s)) ≡ run .number
+  pub figures-answer : firstNo (figureQuestions year (figuresOf s)) ≡ run .number
   figures-answer = later .1

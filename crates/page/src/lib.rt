@@ -1,10 +1,12 @@
 // The report of a run as a page of text in a lent buffer.
 use amounts_table::put_amounts;
 use composing::put_bytes;
-use composing::put_fixed;
+use composing::put_decimal;
 use factors_table::put_factors;
+use growth::Correction;
 use listing::Starts;
 use listing::starts_of;
+use ratio_table::put_ratio;
 use rows::falling_from;
 use rows::level_at;
 use rows::rising_from;
@@ -15,13 +17,21 @@ ghost use mathlib.Core.Path.{_≡_};
 ghost use mathlib.Core.List.{_++_};
 ghost use Prim.Native.Nat.{_+_, _≤_, _<_};
 ghost use Rattle.rules.specs.Results.{factorSection, sectionStart, mostEntries};
-ghost use Rattle.composing.specs.Text.{ascii, fixed, Put};
+ghost use Rattle.composing.specs.Text.{Put};
 ghost use Rattle.listing.specs.Starts.{startsOf, Addable};
-ghost use Rattle.rows.specs.Rows.{entry};
-ghost use Rattle.tables.specs.Tables.{lineEnd};
 ghost use Rattle.factors_table.specs.Factors.{factorsTable};
 ghost use Rattle.amounts_table.specs.Amounts.{TailsAddable};
-ghost use Rattle.page.specs.Page.{averagesTable, paymentsTable, completedTable, developmentTable, ratioLine, pageOf};
+ghost use Rattle.ratio_table.specs.Ratio.{InSignedRange};
+ghost use Rattle.page.specs.Page.{yearLine, averagesTable, paymentsTable, completedTable, developmentTable, ratioLines, pageOf};
+
+// The valuation year.
+fn put_year(out: &mut [u8], at: usize, year: u64) -> usize
+    ensures { λ r. ⌜ Put (now (out .entry)) (now (out .exit)) at r (yearLine year) ⌝ }
+{
+    let a = put_bytes(out, at, b"Valuation year ");
+    let b = put_decimal(out, a, year);
+    put_bytes(out, b, b"\n\n")
+}
 
 // The averages, the shares and levels, and the completed payments.
 fn put_separation(
@@ -60,16 +70,6 @@ fn put_separation(
     )
 }
 
-// The ULAE ratio, at place p of the list.
-fn put_ratio(out: &mut [u8], at: usize, list: &[i64; MOST_ENTRIES], p: usize) -> usize
-    requires { ⌜ p < mostEntries ⌝ }
-    ensures { λ r. ⌜ Put (now (out .entry)) (now (out .exit)) at r (ascii "\nULAE ratio " ++ (fixed 6 (entry (now (list .entry)) p) ++ lineEnd)) ⌝ }
-{
-    let a = put_bytes(out, at, b"\nULAE ratio ");
-    let b = put_fixed(out, a, 6, list[p]);
-    put_bytes(out, b, b"\n")
-}
-
 // The development factors, which start at place p.
 fn put_development(
     out: &mut [u8],
@@ -97,12 +97,15 @@ fn put_ladder(
     list: &[i64; MOST_ENTRIES],
     k: usize,
     places: Starts,
+    year: u64,
+    correction: Correction,
 ) -> usize
-    requires { ⌜ (k < 16) × (places ≡ startsOf k) ⌝ }
+    requires { ⌜ (k < 16) × ((places ≡ startsOf k) × InSignedRange correction) ⌝ }
     ensures { λ r. ⌜ Put (now (out .entry)) (now (out .exit)) at r
-        (ratioLine k (now (list .entry)) ++ (developmentTable k (now (list .entry)) ++ completedTable k (now (list .entry)))) ⌝ }
+        (ratioLines year k (now (list .entry)) correction ++ (developmentTable k (now (list .entry)) ++ completedTable k (now (list .entry)))) ⌝ }
 {
-    let a = put_ratio(out, at, list, places.ratio);
+    let p = places.ratio;
+    let a = put_ratio(out, at, year, list[p], correction);
     let b = put_development(out, a, list, k, places.factors);
     let future = rising_from(k + 1);
     put_triangle(
@@ -125,12 +128,15 @@ pub fn put_page(
     paid: &[u64; 16],
     ladder: &[u64; 16],
     k: usize,
+    year: u64,
+    correction: Correction,
 ) -> usize
-    requires { ⌜ (k < 16) × (TailsAddable k (now list) × (Addable (now paid) × Addable (now ladder))) ⌝ }
-    ensures { λ r. ⌜ Put (now (out .entry)) (now (out .exit)) at r (pageOf k (now (list .entry)) (now (paid .entry)) (now (ladder .entry))) ⌝ }
+    requires { ⌜ (k < 16) × (TailsAddable k (now list) × (Addable (now paid) × (Addable (now ladder) × InSignedRange correction))) ⌝ }
+    ensures { λ r. ⌜ Put (now (out .entry)) (now (out .exit)) at r (pageOf year k (now (list .entry)) (now (paid .entry)) (now (ladder .entry)) correction) ⌝ }
 {
     let places = starts_of(k);
-    let a = put_separation(out, at, list, k, places);
-    let b = put_amounts(out, a, list, paid, ladder, k, places);
-    put_ladder(out, b, list, k, places)
+    let a = put_year(out, at, year);
+    let b = put_separation(out, a, list, k, places);
+    let c = put_amounts(out, b, list, paid, ladder, k, places);
+    put_ladder(out, c, list, k, places, year, correction)
 }

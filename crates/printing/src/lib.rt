@@ -1,4 +1,4 @@
-// Numbers, lists and texts on standard output, what is wrong on standard error, and records from standard input. What arrives there is outside the
+// Numbers, lists and texts on standard output, what is wrong on standard error, and records, alone or behind a valuation year, from standard input. What arrives there is outside the
 // contracts: the kit says nothing of what a read or a write leaves behind, so the routines promise only that they are safe and end, and the gate
 // compares what each program writes with its stored output.
 use entries::size_of;
@@ -135,8 +135,8 @@ pub fn read_input(buf: &mut [u8]) -> Arrived
     }
 }
 
-// Reads the record on standard input and answers how many bytes it has; 0 where none arrived, after saying why.
-pub fn read_record(buf: &mut [u8]) -> usize
+// Reads standard input and answers how many bytes arrived; 0 where none did or a read failed, after saying so.
+fn read_some(buf: &mut [u8]) -> usize
     ensures { λ r. ⌜ Counts r (now (buf .exit)) ⌝ }
 {
     let arrived = read_input(buf);
@@ -147,10 +147,48 @@ pub fn read_record(buf: &mut [u8]) -> usize
     }
     if size == 0 {
         say(b"nothing arrived: no record on standard input\n");
+    }
+    size
+}
+
+// Says that a text arrived, and what to do first.
+fn say_text(first: &[u8]) {
+    say(b"this is a text, not a record: make a record of it with pack first");
+    say(first);
+}
+
+// Reads the record on standard input and answers how many bytes it has; 0 where none arrived, after saying why.
+pub fn read_record(buf: &mut [u8]) -> usize
+    ensures { λ r. ⌜ Counts r (now (buf .exit)) ⌝ }
+{
+    let size = read_some(buf);
+    if is_text(&buf[..size]) {
+        say_text(b"\n");
         return 0;
     }
-    if is_text(&buf[..size]) {
-        say(b"this is a text, not a record: make a record of it with pack first\n");
+    size
+}
+
+// Whether an input is a text where a valuation year and a record are due, behind the two bytes of a year or from the start. One or two bytes are a year's,
+// which may be printable, and no text.
+fn is_text_for_record(input: &[u8]) -> bool {
+    if input.len() <= 2 {
+        return false;
+    }
+    if is_text(input) {
+        return true;
+    }
+    is_text(&input[2..])
+}
+
+// Reads the valuation year and the record on standard input and answers how many bytes both have; 0 where none arrived, after saying why. An input that ends
+// before the record, or within the year, has no record: the engine refuses it.
+pub fn read_valuation(buf: &mut [u8]) -> usize
+    ensures { λ r. ⌜ Counts r (now (buf .exit)) ⌝ }
+{
+    let size = read_some(buf);
+    if is_text_for_record(&buf[..size]) {
+        say_text(b", and put the valuation year in two bytes before it\n");
         return 0;
     }
     size

@@ -125,18 +125,18 @@ unfolding writeInto recordOf
 written-bytes g buffer h =
     after-either (Fit 8) (writeAnswer g (length buffer)) (recordOf (g .k) (givenFields g)) buffer (bytes-small (byteCount (g .k)) _) h
 
--- what the engine accepts, a reader with room for the fields accepts
-pub run-read : (s : List ℕ) (m n : ℕ) → runAnswer s m ≡ 0 → fieldCount (lastYearOf s) ≤ n → readAnswer s n ≡ 0
+-- what the engine accepts in some valuation year, a reader with room for the fields accepts
+pub run-read : (year : ℕ) (s : List ℕ) (m n : ℕ) → runAnswer year s m ≡ 0 → fieldCount (lastYearOf s) ≤ n → readAnswer s n ≡ 0
 unfolding runAnswer questions readAnswer hasRoom openingQuestions fieldQuestions every firstNo
-run-read s m n ok room =
-    let first = both-zero (openingQuestions s) ((3, holdsList s m) ∷ (fieldQuestions s ++ figureQuestions (figuresOf s))) refl ok in
-    let rest = both-zero ((3, holdsList s m) ∷ []) (fieldQuestions s ++ figureQuestions (figuresOf s)) refl (first .1) in
-    let fields = both-zero (fieldQuestions s) (figureQuestions (figuresOf s)) refl (rest .1) in
+run-read year s m n ok room =
+    let first = both-zero (openingQuestions s) ((3, holdsList s m) ∷ (fieldQuestions s ++ figureQuestions year (figuresOf s))) refl ok in
+    let rest = both-zero ((3, holdsList s m) ∷ []) (fieldQuestions s ++ figureQuestions year (figuresOf s)) refl (first .1) in
+    let fields = both-zero (fieldQuestions s) (figureQuestions year (figuresOf s)) refl (rest .1) in
     later-answer (openingQuestions s) ((3, hasRoom s n) ∷ fieldQuestions s) refl (first .0) ∙ rw (le-leb (fieldCount (lastYearOf s)) n room) (fields .0)
 
--- so two records that the engine accepts with the same figures are the same record
-pub same-run : (s t : List ℕ) (m n : ℕ) → Fit 8 s → Fit 8 t → runAnswer s m ≡ 0 → runAnswer t n ≡ 0 → figuresOf s ≡ figuresOf t → s ≡ t
-same-run s t m n hs ht rs rt e =
+-- so two records that the engine accepts with the same figures, each in some year, are the same record
+pub same-run : (x y : ℕ) (s t : List ℕ) (m n : ℕ) → Fit 8 s → Fit 8 t → runAnswer x s m ≡ 0 → runAnswer y t n ≡ 0 → figuresOf s ≡ figuresOf t → s ≡ t
+same-run x y s t m n hs ht rs rt e =
     let a = fieldCount (lastYearOf s) in
     let b = fieldCount (lastYearOf t) in
-    same-figures s t a b hs ht (run-read s m a rs (le-refl a)) (run-read t n b rt (le-refl b)) e
+    same-figures s t a b hs ht (run-read x s m a rs (le-refl a)) (run-read y t n b rt (le-refl b)) e

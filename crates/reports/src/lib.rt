@@ -1,12 +1,15 @@
-// The report of any record, as text or as HTML: the page of an accepted run, or the question that said no in words.
+// The report of any valuation year and record, as text or as HTML: the page of an accepted run, or the question that said no in words.
 use engine::doonamurk_run;
 use entries::size_of;
+use growth::Correction;
 use listing::starts_of;
-use outcomes::read_again;
+use outcomes::read_accepted;
 use page::put_page;
 use reading::last_year_of;
 use refusals::put_refused;
 use rules::MOST_ENTRIES;
+use valuation::record_start;
+use valuation::year_of;
 use web_page::put_text_end;
 use web_page::put_text_start;
 use web_page::put_web_page;
@@ -14,28 +17,19 @@ use web_page::put_web_start;
 ghost use mathlib.Core.Path.{_≡_};
 ghost use mathlib.Core.Bool.{cond};
 ghost use Prim.Native.Nat.{_+_, _<_};
-ghost use lib.ListN.{replicate};
 ghost use Rattle.rules.specs.Lists.{upTo, padded};
 ghost use Rattle.rules.specs.Results.{completedSection, sectionStart, mostEntries};
 ghost use Rattle.rules.specs.Engine.{runAnswer};
 ghost use Rattle.composing.specs.Text.{Put};
-ghost use Rattle.refusals.specs.Refusal.{refusalOf};
+ghost use Rattle.refusals.specs.Refusal.{PassedToSix, refusalOf};
 ghost use Rattle.listing.specs.Starts.{Addable};
 ghost use Rattle.amounts_table.specs.Amounts.{TailsAddable};
+ghost use Rattle.ratio_table.specs.Ratio.{InSignedRange};
 ghost use Rattle.page.specs.Page.{ladderUltimate, pageOf};
 ghost use Rattle.web_page.specs.Web.{webPageOf};
 ghost use Rattle.outcomes.specs.Outcome.{filledBy};
-ghost use Rattle.reports.specs.Report.{paidBy, webRefusal, reportOf, htmlReportOf, reportIn};
-
-// What is paid by origin year goes into the list, from the record of an accepted run.
-fn fill_paid(packed: &[u8], paid: &mut [u64; 16])
-    requires { ⌜ (runAnswer (now packed) mostEntries ≡ 0) × (now paid ≡ replicate 16 0) ⌝ }
-    ensures { λ _. ⌜ (now (paid .exit) ≡ paidBy (now (packed .entry))) × Addable (now (paid .exit)) ⌝ }
-{
-    let mut columns = [0i64; 16];
-    let mut diagonals = [0i64; 16];
-    read_again(packed, paid, &mut columns, &mut diagonals);
-}
+ghost use Rattle.valuation.specs.Valuation.{yearIn, recordIn};
+ghost use Rattle.reports.specs.Report.{webRefusal, reportOf, htmlReportOf, reportIn};
 
 // The chain ladder's ultimates by origin year, the last completed cumulative of each; p is where those cumulatives start in the list.
 fn ladder_of(list: &[i64; MOST_ENTRIES], paid: &[u64; 16], k: usize, p: usize) -> [u64; 16]
@@ -59,34 +53,42 @@ fn put_form(
     paid: &[u64; 16],
     ladder: &[u64; 16],
     k: usize,
+    year: u64,
+    correction: Correction,
     html: bool,
 ) -> usize
-    requires { ⌜ (k < 16) × (TailsAddable k (now list) × (Addable (now paid) × Addable (now ladder))) ⌝ }
+    requires { ⌜ (k < 16) × (TailsAddable k (now list) × (Addable (now paid) × (Addable (now ladder) × InSignedRange correction))) ⌝ }
     ensures { λ r. ⌜ Put (now (out .entry)) (now (out .exit)) 0 r
-        (cond html (webPageOf k (now (list .entry)) (now (paid .entry)) (now (ladder .entry)))
-        (pageOf k (now (list .entry)) (now (paid .entry)) (now (ladder .entry)))) ⌝ }
+        (cond html (webPageOf year k (now (list .entry)) (now (paid .entry)) (now (ladder .entry)) correction)
+        (pageOf year k (now (list .entry)) (now (paid .entry)) (now (ladder .entry)) correction)) ⌝ }
 {
     if html {
-        return put_web_page(out, list, paid, ladder, k);
+        return put_web_page(out, list, paid, ladder, k, year, correction);
     }
-    put_page(out, 0, list, paid, ladder, k)
+    put_page(out, 0, list, paid, ladder, k, year, correction)
 }
 
 // The page of an accepted run, from the record and the list that the engine filled.
-fn put_accepted(out: &mut [u8], packed: &[u8], list: &[i64; MOST_ENTRIES], html: bool) -> usize
-    requires { ⌜ (runAnswer (now packed) mostEntries ≡ 0) × (now list ≡ filledBy (now packed)) ⌝ }
-    ensures { λ r. ⌜ Put (now (out .entry)) (now (out .exit)) 0 r (reportIn html (now (packed .entry))) ⌝ }
+fn put_accepted(
+    out: &mut [u8],
+    year: u64,
+    packed: &[u8],
+    list: &[i64; MOST_ENTRIES],
+    html: bool,
+) -> usize
+    requires { ⌜ (runAnswer year (now packed) mostEntries ≡ 0) × (now list ≡ filledBy year (now packed)) ⌝ }
+    ensures { λ r. ⌜ Put (now (out .entry)) (now (out .exit)) 0 r (reportIn html year (now (packed .entry))) ⌝ }
 {
     let k = last_year_of(packed);
     let mut paid = [0u64; 16];
-    fill_paid(packed, &mut paid);
+    let correction = read_accepted(year, packed, list, &mut paid);
     let ladder = ladder_of(list, &paid, k, starts_of(k).completed);
-    put_form(out, list, &paid, &ladder, k, html)
+    put_form(out, list, &paid, &ladder, k, year, correction, html)
 }
 
 // The words of a refusal on a page of HTML.
 fn put_web_refusal(out: &mut [u8], packed: &[u8], answer: u64) -> usize
-    requires { ⌜ answer ≡ runAnswer (now packed) mostEntries ⌝ }
+    requires { ⌜ (answer ≡ 7 → PassedToSix (now packed)) ⌝ }
     ensures { λ r. ⌜ Put (now (out .entry)) (now (out .exit)) 0 r (webRefusal (now (packed .entry)) answer) ⌝ }
 {
     let a = put_web_start(out, 0);
@@ -97,7 +99,7 @@ fn put_web_refusal(out: &mut [u8], packed: &[u8], answer: u64) -> usize
 
 // The words of a refusal, as HTML or as text.
 fn put_refusal_form(out: &mut [u8], packed: &[u8], answer: u64, html: bool) -> usize
-    requires { ⌜ answer ≡ runAnswer (now packed) mostEntries ⌝ }
+    requires { ⌜ (answer ≡ 7 → PassedToSix (now packed)) ⌝ }
     ensures { λ r. ⌜ Put (now (out .entry)) (now (out .exit)) 0 r (cond html (webRefusal (now (packed .entry)) answer) (refusalOf (now (packed .entry)) answer)) ⌝ }
 {
     if html {
@@ -106,28 +108,36 @@ fn put_refusal_form(out: &mut [u8], packed: &[u8], answer: u64, html: bool) -> u
     put_refused(out, 0, packed, answer)
 }
 
-// The report of a record, as HTML or as text.
-fn put_report(packed: &[u8], out: &mut [u8], html: bool) -> usize
-    ensures { λ r. ⌜ Put (now (out .entry)) (now (out .exit)) 0 r (reportIn html (now (packed .entry))) ⌝ }
+// The report of a record in a valuation year, as HTML or as text.
+fn put_run(year: u64, packed: &[u8], out: &mut [u8], html: bool) -> usize
+    ensures { λ r. ⌜ Put (now (out .entry)) (now (out .exit)) 0 r (reportIn html year (now (packed .entry))) ⌝ }
 {
     let mut list = [0i64; MOST_ENTRIES];
-    let answer = doonamurk_run(packed, &mut list);
+    let answer = doonamurk_run(year, packed, &mut list);
     if answer != 0 {
         return put_refusal_form(out, packed, answer, html);
     }
-    put_accepted(out, packed, &list, html)
+    put_accepted(out, year, packed, &list, html)
 }
 
-// Puts the report of a record into the buffer, as far as it goes, and answers where it ends.
-pub fn report(packed: &[u8], out: &mut [u8]) -> usize
-    ensures { λ r. ⌜ Put (now (out .entry)) (now (out .exit)) 0 r (reportOf (now (packed .entry))) ⌝ }
+// The same of a program's input, a valuation year and then a record.
+fn put_report(input: &[u8], out: &mut [u8], html: bool) -> usize
+    ensures { λ r. ⌜ Put (now (out .entry)) (now (out .exit)) 0 r (reportIn html (yearIn (now (input .entry))) (recordIn (now (input .entry)))) ⌝ }
 {
-    put_report(packed, out, false)
+    let start = record_start(input);
+    put_run(year_of(input), &input[start..], out, html)
+}
+
+// Puts the report of an input into the buffer, as far as it goes, and answers where it ends.
+pub fn report(input: &[u8], out: &mut [u8]) -> usize
+    ensures { λ r. ⌜ Put (now (out .entry)) (now (out .exit)) 0 r (reportOf (yearIn (now (input .entry))) (recordIn (now (input .entry)))) ⌝ }
+{
+    put_report(input, out, false)
 }
 
 // The same as a page of HTML.
-pub fn report_html(packed: &[u8], out: &mut [u8]) -> usize
-    ensures { λ r. ⌜ Put (now (out .entry)) (now (out .exit)) 0 r (htmlReportOf (now (packed .entry))) ⌝ }
+pub fn report_html(input: &[u8], out: &mut [u8]) -> usize
+    ensures { λ r. ⌜ Put (now (out .entry)) (now (out .exit)) 0 r (htmlReportOf (yearIn (now (input .entry))) (recordIn (now (input .entry)))) ⌝ }
 {
-    put_report(packed, out, true)
+    put_report(input, out, true)
 }

@@ -1,5 +1,6 @@
-// Runs the engine on each record of the stream on standard input, where a record stands behind its length in two bytes, the high one first. Prints a line
-// for each: the entries of its result list with blanks between them, or `refused` and the number.
+// Runs the engine on each record of the stream on standard input, where the valuation year of all of them stands first, in two bytes with the high one first,
+// and then each record behind its length, in two bytes too. Prints a line for each: the entries of its result list with blanks between them, or `refused` and
+// the number.
 use libc::STDERR_FILENO;
 use libc::STDIN_FILENO;
 use libc::STDOUT_FILENO;
@@ -7,6 +8,9 @@ use list_stream::Taken;
 use list_stream::move_down;
 use list_stream::put_rows;
 use printing::put_first;
+use printing::read_input;
+use printing::say;
+use valuation::year_of;
 ghost use Prim.Native.Nat.{_+_, _≤_};
 ghost use lib.ListN.{length};
 
@@ -26,19 +30,25 @@ struct Filled {
 }
 
 // Takes the whole records among the pending bytes, and puts their rows into the text.
-fn rows_of(input: &[u8], from: usize, have: usize, text: &mut [u8]) -> Taken
+fn rows_of(year: u64, input: &[u8], from: usize, have: usize, text: &mut [u8]) -> Taken
     requires { ⌜ (from ≤ have) × (have ≤ length (now input)) ⌝ }
     ensures { λ r. ⌜ from + r .from ≤ have ⌝ }
 {
-    put_rows(&input[from..have], text)
+    put_rows(year, &input[from..have], text)
 }
 
 // The same of the program's arrays.
-fn take_rows(input: &[u8; INPUT], from: usize, have: usize, text: &mut [u8; TEXT]) -> Taken
+fn take_rows(
+    year: u64,
+    input: &[u8; INPUT],
+    from: usize,
+    have: usize,
+    text: &mut [u8; TEXT],
+) -> Taken
     requires { ⌜ (from ≤ have) × (have ≤ 131072) ⌝ }
     ensures { λ r. ⌜ from + r .from ≤ have ⌝ }
 {
-    rows_of(input, from, have, text)
+    rows_of(year, input, from, have, text)
 }
 
 // Writes the first n bytes of the text.
@@ -78,21 +88,22 @@ fn refill(input: &mut [u8; INPUT], from: usize, have: usize) -> Filled
 
 // Says that the input ends within the record of this place, counted from 1.
 fn say_cut(place: u64) {
-    io::write_all(STDERR_FILENO, b"the input ends within record ");
+    say(b"the input ends within record ");
     io::print_decimal(STDERR_FILENO, place);
-    io::write_all(STDERR_FILENO, b"\n");
+    say(b"\n");
 }
 
-fn main() {
+// Reads the records behind the year, and writes the line of each.
+fn put_all(year: u64) {
     let mut input = [0u8; INPUT];
     let mut text = io::large_buffer();
     let mut from: usize = 0;
     let mut have: usize = 0;
     let mut place: u64 = 1;
     for turn in 0..TURNS {
-        let taken = take_rows(&input, from, have, &mut text);
+        let taken = take_rows(year, &input, from, have, &mut text);
         if !write_rows(&text, taken.end) {
-            io::write_all(STDERR_FILENO, b"the output could not be written\n");
+            say(b"the output could not be written\n");
             return;
         }
         from += taken.from;
@@ -101,7 +112,7 @@ fn main() {
             let rest = have - from;
             let filled = refill(&mut input, from, have);
             if filled.failed {
-                io::write_all(STDERR_FILENO, b"the input could not be read\n");
+                say(b"the input could not be read\n");
                 return;
             }
             from = 0;
@@ -114,4 +125,18 @@ fn main() {
             }
         }
     }
+}
+
+fn main() {
+    let mut head = [0u8; 2];
+    let arrived = read_input(&mut head);
+    if arrived.failed {
+        say(b"the input could not be read\n");
+        return;
+    }
+    if arrived.size < 2 {
+        say(b"the input ends within the valuation year\n");
+        return;
+    }
+    put_all(year_of(&head));
 }

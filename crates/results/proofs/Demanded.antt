@@ -2,7 +2,7 @@
 use Prim.Native.Nat.{ℕ, suc, _+_, _-_, _≤_, _<_}
 use native.Mathlib.Omega.{arith}
 use mathlib.Core.Path.{_≡_, _∙_}
-use mathlib.Core.Bool.{true}
+use mathlib.Core.Bool.{true, cond}
 use mathlib.Core.List.{List, _++_}
 use lib.IntN.{ℤ}
 use lib.ListN.{getD}
@@ -13,7 +13,8 @@ use Rattle.rules.specs.Exact.{Solves, NearExact, fromTo}
 use Rattle.rules.specs.Tail.{tailPayment, tailPayments}
 use Rattle.rules.specs.Completion.{futureLevel, futureLevels, provision, provisions}
 use Rattle.rules.specs.Expense.{paidTotal, ulaeTotal, ratioPass}
-use Rattle.rules.specs.Results.{shareSection, levelSection, squareOf, latestOf, factorsIn, firstTailAverageOf, paidIn, levelsIn, tailsIn, provisionsIn, ratioIn, resultsOf}
+use Rattle.rules.specs.Growth.{corrects, correctedRatio, correctedRatioPasses}
+use Rattle.rules.specs.Results.{shareSection, levelSection, squareOf, latestDiagonalOf, factorsIn, firstTailAverageOf, paidIn, levelsIn, tailsIn, provisionsIn, plainRatioIn, divisorIn, usedRatioIn, resultsOf}
 use Rattle.rules.specs.Demand.{printed, printedSquare, Carried, ThirdDemand}
 use Rattle.laws.proofs.Totals.{total-same}
 use Rattle.laws.proofs.Padded.{filled-at}
@@ -21,7 +22,7 @@ use Rattle.totals.proofs.TotalsMost.{diagonal-most}
 use Rattle.accuracy.proofs.Near.{near-exact, share-most}
 use Rattle.totals.proofs.Square.{zero-outside}
 use Rattle.allowance.proofs.Carried.{Basis, payment-near, tail-near, provision-near, provisions-near, reserve-near, reserves-near}
-use Rattle.allowance.proofs.Rates.{Rates, ratio-most, reported-most}
+use Rattle.allowance.proofs.Rates.{Rates, ratio-most, used-most, reported-most}
 use Rattle.reading.specs.Reading.{Sound}
 use Rattle.results.proofs.Printed.{share-entry, level-entry, tail-entry, provision-entry, provisions-entry, reserve-entry, reserves-entry, ratio-entry, payment-entry, square-entry, nonnegative-entry}
 
@@ -39,12 +40,13 @@ near-same k v d r l r′ l′ er el n = record {
     sums : (g g′ : ℕ → ℕ) → ((j : ℕ) → j ≤ k → g′ j ≡ g j) → (a b : ℕ) → b ≤ k → fromTo g′ a b ≡ fromTo g a b
     sums g g′ e a b le = total-same (λ i. g′ (a + i)) (λ i. g (a + i)) (suc b - a) (λ i h. e (a + i) (omega arith))
 
--- figures whose questions 7, 8, 9 and 12 say yes
-pub record Answered (f : Figures) : Type 0 where
+-- figures whose questions 7, 8, 9, 12 and 17 say yes
+pub record Answered (year : ℕ) (f : Figures) : Type 0 where
   pub totals : totalsPass (squareOf f) (f .k) ≡ true
   pub rests : restsPass (squareOf f) (f .k) ≡ true
   pub running : runningPass (squareOf f) (f .k) ≡ true
   pub ratio : ratioPass (paidTotal (f .k) (f .increments)) (ulaeTotal (f .k) (f .ulae)) ≡ true
+  pub corrected : cond (corrects year) (correctedRatioPasses (correctedRatio (plainRatioIn f) (divisorIn f))) true ≡ true
 
 -- the figures' arrays by place
 module _ (f : Figures) where
@@ -52,9 +54,9 @@ module _ (f : Figures) where
   unfolding factorsIn factorsOf
   share-at j h = filled-at 16 0 (shareOf (squareOf f) (f .k)) (f .k + 1) j 0 (omega arith)
 
-  level-at : (t : ℕ) → t < f .k → getD (levelsIn f) t 0 ≡ futureLevel (latestOf f) (getD (f .indices) t 0)
+  level-at : (t : ℕ) → t < f .k → getD (levelsIn f) t 0 ≡ futureLevel (latestDiagonalOf f) (getD (f .indices) t 0)
   unfolding levelsIn futureLevels
-  level-at t h = filled-at 16 0 (λ t. futureLevel (latestOf f) (getD (f .indices) t 0)) (f .k) t 0 h
+  level-at t h = filled-at 16 0 (λ t. futureLevel (latestDiagonalOf f) (getD (f .indices) t 0)) (f .k) t 0 h
 
   pub paid-at : (i : ℕ) → i ≤ f .k → getD (paidIn f) i 0 ≡ paidTo (f .k) (f .increments) i
   unfolding paidIn
@@ -68,7 +70,7 @@ module _ (f : Figures) where
   unfolding provisionsIn provisions
   provision-at i h = filled-at 16 0 (provision (f .k) (f .exposures) (factorsIn f .shares) (levelsIn f) (tailsIn f)) (f .k + 1) i 0 (omega arith)
 
-module _ (f : Figures) (sound : Sound f) (yes : Answered f) where
+module _ (year : ℕ) (f : Figures) (sound : Sound f) (yes : Answered year f) where
   outside : ZeroOutside (squareOf f) (f .k)
   unfolding squareOf
   outside = zero-outside (f .k) (f .exposures) (f .increments) (sound .few)
@@ -77,8 +79,8 @@ module _ (f : Figures) (sound : Sound f) (yes : Answered f) where
   exact = near-exact (squareOf f) (f .k) outside (yes .totals) (yes .rests) (yes .running)
 
   basis : (D E : ℕ) (x y : ℕ → ℤ) → Solves (f .k) D E (columnTotal (squareOf f)) (diagonalTotal (squareOf f)) x y
-      → Basis f (latestOf f) (factorsIn f .shares) (levelsIn f) (tailsIn f) D x
-  unfolding latestOf
+      → Basis f (latestDiagonalOf f) (factorsIn f .shares) (levelsIn f) (tailsIn f) D x
+  unfolding latestDiagonalOf
   basis D E x y s = record {
     latest = diagonal-most (squareOf f) (f .k) (sound .few) outside (yes .totals) (f .k) (omega arith);
     indices = λ t h. sound .indices t;
@@ -89,45 +91,45 @@ module _ (f : Figures) (sound : Sound f) (yes : Answered f) where
     share-near = λ j h. rw (share-at f j h) (exact .share-near D E x y s j h);
   }
 
-  rates : Rates f (ratioIn f)
-  unfolding ratioIn
+  rates : Rates f (usedRatioIn year f)
+  unfolding plainRatioIn usedRatioIn
   rates = record {
     reporting = reported-most (f .k) (f .reporting) (sound .reporting-sum);
     weight = sound .weight;
-    ratio = ratio-most (paidTotal (f .k) (f .increments)) (ulaeTotal (f .k) (f .ulae)) (yes .ratio);
+    ratio = used-most year (plainRatioIn f) (divisorIn f) (ratio-most (paidTotal (f .k) (f .increments)) (ulaeTotal (f .k) (f .ulae)) (yes .ratio)) (yes .corrected);
   }
 
   module _ (rest : List ℤ) where
-    square : printedSquare (f .k) (resultsOf f ++ rest) ≡ squareOf f
-    square = square-entry f rest (sound .few)
+    square : printedSquare (f .k) (resultsOf year f ++ rest) ≡ squareOf f
+    square = square-entry year f rest (sound .few)
 
-    carried : (D E : ℕ) (x y : ℕ → ℤ) → Solves (f .k) D E (columnTotal (squareOf f)) (diagonalTotal (squareOf f)) x y → Carried f (resultsOf f ++ rest) D x
-    unfolding latestOf
+    carried : (D E : ℕ) (x y : ℕ → ℤ) → Solves (f .k) D E (columnTotal (squareOf f)) (diagonalTotal (squareOf f)) x y → Carried f (resultsOf year f ++ rest) D x
+    unfolding latestDiagonalOf
     carried D E x y s =
         let b = basis D E x y s in
-        let d = latestOf f in
+        let d = latestDiagonalOf f in
         let r = factorsIn f .shares in
         let l = levelsIn f in
         let z = tailsIn f in
         let c = paidIn f in
         let q = provisionsIn f in
         record {
-          payments = λ i j hi hj h. rw (payment-entry f rest i j hi hj h, square) (payment-near f d r l z D x b i j hi hj h);
-          tails = λ i h. rw (tail-entry f rest i h) (tail-near f d r l z D x b i h);
-          provisions = λ i h. rw (provision-entry f rest i h, square) (provision-near f d r l z D x b i h);
-          provision-total = rw (provisions-entry f rest, square) (provisions-near f d r l z D x b);
-          reserves = λ i h. rw (reserve-entry f rest i h, square, ratio-entry f rest) (reserve-near f d r l z D x b c q (paid-at f) (provision-at f) (ratioIn f) rates i h);
-          reserve-total = rw (reserves-entry f rest, square, ratio-entry f rest) (reserves-near f d r l z D x b c q (paid-at f) (provision-at f) (ratioIn f) rates);
+          payments = λ i j hi hj h. rw (payment-entry year f rest i j hi hj h, square) (payment-near f d r l z D x b i j hi hj h);
+          tails = λ i h. rw (tail-entry year f rest i h) (tail-near f d r l z D x b i h);
+          provisions = λ i h. rw (provision-entry year f rest i h, square) (provision-near f d r l z D x b i h);
+          provision-total = rw (provisions-entry year f rest, square) (provisions-near f d r l z D x b);
+          reserves = λ i h. rw (reserve-entry year f rest i h, square, ratio-entry year f rest) (reserve-near f d r l z D x b c q (paid-at f) (provision-at f) (usedRatioIn year f) rates i h);
+          reserve-total = rw (reserves-entry year f rest, square, ratio-entry year f rest) (reserves-near f d r l z D x b c q (paid-at f) (provision-at f) (usedRatioIn year f) rates);
         }
 
     -- the whole third demand
-    pub third-demand : ThirdDemand f (resultsOf f ++ rest)
+    pub third-demand : ThirdDemand f (resultsOf year f ++ rest)
     third-demand = record {
-      nonnegative = λ i a b. nonnegative-entry f rest i a b;
+      nonnegative = λ i a b. nonnegative-entry year f rest i a b;
       first-index = sound .firstIndex;
       near =
           rw square
           (near-same (f .k) (columnTotal (squareOf f)) (diagonalTotal (squareOf f)) (shareOf (squareOf f) (f .k)) (levelOf (squareOf f) (f .k))
-          (printed (f .k) (resultsOf f ++ rest) shareSection) (printed (f .k) (resultsOf f ++ rest) levelSection) (share-entry f rest) (level-entry f rest) exact);
+          (printed (f .k) (resultsOf year f ++ rest) shareSection) (printed (f .k) (resultsOf year f ++ rest) levelSection) (share-entry year f rest) (level-entry year f rest) exact);
       carried = λ D E x y s. carried D E x y (rw square at s);
     }

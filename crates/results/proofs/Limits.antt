@@ -16,7 +16,7 @@ use Rattle.rules.specs.Separation.{billion, shareOf, levelOf, levelsPass, facto
 use Rattle.rules.specs.Tail.{tailPayment, tailPayments}
 use Rattle.rules.specs.Completion.{futureLevel, futureLevels, payment, paymentRow, payments, provision, provisions, ultimate, mostUltimate, ultimatesPass}
 use Rattle.rules.specs.Ladder.{developed, base, developmentFactor, developmentFactors, mostFactor, factorPasses, factorsPass, completedPass}
-use Rattle.rules.specs.Results.{squareOf, latestOf, factorsIn, paidIn, levelsIn, firstTailAverageOf, tailsIn, provisionsIn, developmentIn}
+use Rattle.rules.specs.Results.{squareOf, latestDiagonalOf, factorsIn, paidIn, levelsIn, firstTailAverageOf, tailsIn, provisionsIn, developmentIn}
 use Rattle.laws.proofs.Lists.{every-upTo, every-at, both-right}
 use Rattle.laws.proofs.Totals.{total-at}
 use Rattle.laws.proofs.Joined.{upTo-all, joined-all, padded-all}
@@ -59,10 +59,10 @@ module _ (f : Figures) where
       (λ i h. leb-true (levelOf (squareOf f) k i) billion (every-upTo (λ h. leb (levelOf (squareOf f) k h) billion) (λ h. h) (k + 1) i q h))
 
   -- future levels
-  pub ahead-most : latestOf f ≤ billion → ((t : ℕ) → getD (f .indices) t 0 ≤ mostIndex) → (t : ℕ) → getD (levelsIn f) t 0 ≤ 5 * billion
+  pub ahead-most : latestDiagonalOf f ≤ billion → ((t : ℕ) → getD (f .indices) t 0 ≤ mostIndex) → (t : ℕ) → getD (levelsIn f) t 0 ≤ 5 * billion
   unfolding levelsIn futureLevels futureLevel
   ahead-most d e =
-      most-list (5 * billion) 16 k (λ t. futureLevel (latestOf f) (getD (f .indices) t 0)) (λ t h. let p = mul-le-mul d (e t) in omega arith)
+      most-list (5 * billion) 16 k (λ t. futureLevel (latestDiagonalOf f) (getD (f .indices) t 0)) (λ t h. let p = mul-le-mul d (e t) in omega arith)
 
   -- ultimates, provisions and payments
   module _ (q11 : ultimatesPass (f .k) (paidIn f) (provisionsIn f) ≡ true) where

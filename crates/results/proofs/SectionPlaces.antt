@@ -15,7 +15,7 @@ use Rattle.rules.specs.Tail.{tailPayment, tailPayments}
 use Rattle.rules.specs.Completion.{futureLevel, futureLevels, paymentRow, payments, provision, provisions}
 use Rattle.rules.specs.Expense.{notReported, reserve}
 use Rattle.rules.specs.Ladder.{developed, base, developmentFactor, developmentFactors, completedRow, completedAll}
-use Rattle.rules.specs.Results.{sectionCounts, resultCount, sectionStart, separationSections, completionSections, reserveSections, ladderSections, tailSections, squareOf, latestOf, factorsIn, firstTailAverageOf, paidIn, levelsIn, tailsIn, provisionsIn, developmentIn, ratioIn, sections, resultsOf}
+use Rattle.rules.specs.Results.{sectionCounts, resultCount, sectionStart, separationSections, completionSections, reserveSections, ladderSections, tailSections, squareOf, latestDiagonalOf, factorsIn, firstTailAverageOf, paidIn, levelsIn, tailsIn, provisionsIn, developmentIn, usedRatioIn, sections, resultsOf}
 use Rattle.laws.proofs.Lists.{length-upTo}
 use Rattle.laws.proofs.TriangleRows.{rows-all}
 use Rattle.laws.proofs.Joined.{past-length, future-length, future-cells}
@@ -69,7 +69,7 @@ pub length-completed : (k : ℕ) (c m : List ℕ) (i : ℕ) → length (complete
 unfolding completedRow
 length-completed k c m i = length-upTo _ i
 
-module _ (f : Figures) where
+module _ (year : ℕ) (f : Figures) where
   abbrev k : ℕ
   k = f .k
 
@@ -80,7 +80,7 @@ module _ (f : Figures) where
   r = factorsIn f .shares
 
   -- the sections have the lengths that the list's table gives
-  section-lengths : lengthsOf (sections f) ≡ sectionCounts (f .k)
+  section-lengths : lengthsOf (sections year f) ≡ sectionCounts (f .k)
   unfolding lengthsOf sections separationSections completionSections reserveSections ladderSections tailSections tailPayments sectionCounts futureLevels payments provisions developmentFactors completedAll
   section-lengths =
       rw (
@@ -88,25 +88,25 @@ module _ (f : Figures) where
         rows-all k,
         numbers-size (shareOf s k) (k + 1),
         numbers-size (levelOf s k) (k + 1),
-        numbers-size (λ t. futureLevel (latestOf f) (getD (f .indices) t 0)) k,
+        numbers-size (λ t. futureLevel (latestDiagonalOf f) (getD (f .indices) t 0)) k,
         rows-size k (paymentRow k (f .exposures) r (levelsIn f)) (length-payments k (f .exposures) r (levelsIn f)),
         numbers-size (provision k (f .exposures) r (levelsIn f) (tailsIn f)) (k + 1),
         numbers-size (notReported k (f .reporting) (paidIn f) (provisionsIn f)) (k + 1),
-        numbers-size (reserve k (ratioIn f) (f .weight) (f .reporting) (paidIn f) (provisionsIn f)) (k + 1),
+        numbers-size (reserve k (usedRatioIn year f) (f .weight) (f .reporting) (paidIn f) (provisionsIn f)) (k + 1),
         numbers-size (λ h. developmentFactor (developed k (f .increments) h) (base k (f .increments) h)) k,
         rows-size k (completedRow k (paidIn f) (developmentIn f)) (length-completed k (paidIn f) (developmentIn f)),
         numbers-size (tailPayment (f .exposures) (firstTailAverageOf f) (f .indices)) (k + 1),
       )
 
-  pub results-length : length (resultsOf f) ≡ resultCount (f .k)
+  pub results-length : length (resultsOf year f) ≡ resultCount (f .k)
   unfolding resultsOf resultCount
-  results-length = joined-length (sections f) ∙ ap total section-lengths
+  results-length = joined-length (sections year f) ∙ ap total section-lengths
 
   -- entry j of section i
-  pub section-entry : (i j : ℕ) → j < length (getD (sections f) i []) → getD (resultsOf f) (sectionStart (f .k) i + j) (pos 0) ≡ getD (getD (sections f) i []) j (pos 0)
+  pub section-entry : (i j : ℕ) → j < length (getD (sections year f) i []) → getD (resultsOf year f) (sectionStart (f .k) i + j) (pos 0) ≡ getD (getD (sections year f) i []) j (pos 0)
   unfolding resultsOf sectionStart
-  section-entry i j h = rw (← section-lengths) (joined-entry (sections f) i j (pos 0) h)
+  section-entry i j h = rw (← section-lengths) (joined-entry (sections year f) i j (pos 0) h)
 
-  pub section-inside : (i j : ℕ) → j < length (getD (sections f) i []) → sectionStart (f .k) i + j < length (resultsOf f)
+  pub section-inside : (i j : ℕ) → j < length (getD (sections year f) i []) → sectionStart (f .k) i + j < length (resultsOf year f)
   unfolding resultsOf sectionStart
-  section-inside i j h = rw (← section-lengths) (joined-inside (sections f) i j h)
+  section-inside i j h = rw (← section-lengths) (joined-inside (sections year f) i j h)

@@ -1,11 +1,11 @@
--- The marked triangles and edges of document 01, with what requests 3 and 4 of document 02 mark: one or more rows for each starred item, what the rules give and what the
--- paper prints, and one theorem. A marked triangle has nothing still to be paid after year k, and e_{k+1} = M. The second row of averages, and the rows with an
--- amount still to be paid, are ours.
+-- The marked triangles and edges of document 01, with what requests 1, 3 and 4 of document 02 mark: one or more rows for each starred item, what the rules give and
+-- what the paper prints, and one theorem. A marked triangle is of valuation year 2026, has nothing still to be paid after year k, and e_{k+1} = M. The second row
+-- of averages, and the rows with an amount still to be paid or a later year, are ours.
 -- Assumes nothing.
 use Prim.Native.Nat.{ℕ}
 use mathlib.Core.Path.{_≡_, refl}
 use mathlib.Core.Bool.{true}
-use mathlib.Core.List.{List, [], _∷_, map, zipWith}
+use mathlib.Core.List.{List, [], _∷_, _++_, map, zipWith}
 use lib.Dec.{ltb}
 use lib.IntN.{ℤ, pos, negsuc}
 use lib.ListN.{getD, take, drop, replicate}
@@ -19,23 +19,31 @@ use Rattle.rules.specs.Triangle.{rowStart, paidOf, sumTo, cumulativeOf, 
 use Rattle.rules.specs.Separation.{billion, columnOf, diagonalOf, cornerOf, runningDown, runningOf, shareOf, levelOf, totalsPass, restsPass, runningPass, levelsPass, factorsOf, separationQuestions, separateAnswer, separated}
 use Rattle.rules.specs.Tail.{firstTailAverage, tailAverage, tailPayment, tailPayments, firstTailAveragePasses, tailAveragesPass, tailQuestions}
 use Rattle.rules.specs.Completion.{futureLevel, futureLevels, paymentOf, payment, paymentRow, payments, provision, provisions, ultimate, ultimatesPass}
-use Rattle.rules.specs.Expense.{paidTotal, ulaeTotal, ratioPass, ratioOf, reportedAfter, notReported, weighted, reserveOf, reserve}
+use Rattle.rules.specs.Expense.{paidTotal, ulaeTotal, ratioPass, plainRatio, reportedAfter, notReported, weighted, reserveOf, reserve}
+use Rattle.rules.specs.Growth.{corrects, latestReported, latestPaid, latestPaidPasses, divisorOf, divisorPasses, correctedRatio, correctedRatioPasses, growthQuestions, usedRatio}
 use Rattle.rules.specs.Ladder.{developed, base, developmentFactor, developmentFactors, factorPasses, factorsPass, completed, completedRow, completedAll, completedPass}
-use Rattle.rules.specs.Results.{ratioSection, mostEntries, sectionCounts, resultCount, sectionStart, separationSections, completionSections, reserveSections, ladderSections, tailSections, squareOf, latestOf, factorsIn, firstTailAverageOf, paidIn, levelsIn, tailsIn, provisionsIn, developmentIn, ratioIn, sections, resultsOf}
-use Rattle.rules.specs.Engine.{completionQuestions, ratioQuestions, ladderQuestions, lastQuestions, laterQuestions, figureQuestions, holdsList, questions, runAnswer, runInto}
+use Rattle.rules.specs.Results.{reserveSection, ratioSection, mostEntries, sectionCounts, resultCount, sectionStart, separationSections, completionSections, reserveSections, ladderSections, tailSections, squareOf, latestDiagonalOf, factorsIn, firstTailAverageOf, paidIn, levelsIn, tailsIn, provisionsIn, developmentIn, plainRatioIn, latestReportedIn, latestPaidIn, divisorIn, usedRatioIn, sections, resultsOf}
+use Rattle.rules.specs.Engine.{completionQuestions, ratioQuestions, correctionQuestions, ladderQuestions, lastQuestions, laterQuestions, figureQuestions, holdsList, questions, runAnswer, runInto}
 
 -- the record of two years with these exposures, cells, indices, ULAE totals and amount still to be paid; b 800,000, 200,000; w 500,000
 abbrev twoYears : List ℕ → List ℤ → List ℕ → List ℕ → ℕ → List ℕ
 twoYears n p e u a = recordOf 1 (givenFields (figures 1 n p e (800000 ∷ 200000 ∷ []) 500000 u a))
 
--- the answer to such a record with a buffer of 22 entries, and what the buffer, full of −7 before, holds then
+-- the answer to such a record in a valuation year, with a buffer of 22 entries, and what the buffer, full of −7 before, holds then
+abbrev answerIn : ℕ → List ℕ → ℤ
+answerIn year s = pos (runAnswer year s 22)
+
+abbrev listIn : ℕ → List ℕ → List ℤ
+listIn year s = runInto year s (replicate 22 (negsuc 6))
+
+-- in 2026
 abbrev answerTo : List ℕ → ℤ
-answerTo s = pos (runAnswer s 22)
+answerTo s = answerIn 2026 s
 
 abbrev listOf : List ℕ → List ℤ
-listOf s = runInto s (replicate 22 (negsuc 6))
+listOf s = listIn 2026 s
 
--- those of document 01's records: n 1, 1; e 1,100,000 and M; nothing still to be paid
+-- document 01's records of two years: n 1, 1; e 1,100,000 and M; nothing still to be paid
 abbrev marked : List ℤ → List ℕ → List ℕ
 marked p u = twoYears (1 ∷ 1 ∷ []) p (1100000 ∷ 1000000 ∷ []) u 0
 
@@ -56,6 +64,30 @@ steepTail n = twoYears (n ∷ 1000000 ∷ []) (pos 60000 ∷ pos 40000 ∷ pos 6
 -- t_0 = S and the index e_1 beside 5,000,000: t_1 = 5 × S for 1,000,000
 abbrev edgeTail : ℕ → List ℕ
 edgeTail e = twoYears (1000 ∷ 1 ∷ []) (pos 60000 ∷ pos 40000 ∷ pos 66 ∷ []) (e ∷ 5000000 ∷ []) (6 ∷ 10 ∷ []) 10000000000
+
+-- the reporting shares 0, M and the weight M, with these cells and ULAE totals
+abbrev reportedLate : List ℤ → List ℕ → List ℕ
+reportedLate p u = recordOf 1 (givenFields (figures 1 (1 ∷ 1 ∷ []) p (1100000 ∷ 1000000 ∷ []) (0 ∷ 1000000 ∷ []) 1000000 u 0))
+
+-- the record of three years with these exposures and cells
+abbrev threeYears : List ℕ → List ℤ → List ℕ
+threeYears n p = recordOf 2 (givenFields (figures 2 n p (1000000 ∷ 1000000 ∷ 1000000 ∷ []) (800000 ∷ 100000 ∷ 100000 ∷ []) 500000 (0 ∷ 0 ∷ 1 ∷ []) 0))
+
+-- n 1, 100, 1, cells 0, 1, 0 / 50, −40 / the last cell: 1 has Y = −39, 41 has 1
+abbrev fallingBack : ℕ → List ℕ
+fallingBack p = threeYears (1 ∷ 100 ∷ 1 ∷ []) (pos 0 ∷ pos 1 ∷ pos 0 ∷ pos 50 ∷ negsuc 39 ∷ pos p ∷ [])
+
+-- n 1000, 100, 1,000,000, cells 0, 1, −1 / 50, 1 / 0: Y = 0
+abbrev nothingPaid : List ℕ
+nothingPaid = threeYears (1000 ∷ 100 ∷ 1000000 ∷ []) (pos 0 ∷ pos 1 ∷ negsuc 0 ∷ pos 50 ∷ pos 1 ∷ pos 0 ∷ [])
+
+-- n 100, 1,000,000, 1, cells 0, 0, 0 / 50, −40 / 39: Y = −1, and nothing paid for year 0, so that the chain ladder's B of development year 1 is 0
+abbrev emptyFirstYear : List ℕ
+emptyFirstYear = threeYears (100 ∷ 1000000 ∷ 1 ∷ []) (pos 0 ∷ pos 0 ∷ pos 0 ∷ pos 50 ∷ negsuc 39 ∷ pos 39 ∷ [])
+
+-- the answers of 2026 and 2027
+abbrev bothYears : List ℕ → List ℤ
+bothYears s = map (λ year. pos (runAnswer year s mostEntries)) (2026 ∷ 2027 ∷ [])
 
 -- the averages of the motor account of document 004, in tenths, every exposure 1
 abbrev motor : List (List ℤ)
@@ -101,11 +133,44 @@ markedTable = (
       map pos (firstTailAverage 1 (8 ∷ []) ∷ firstTailAverage 3 (8 ∷ []) ∷ firstTailAverage 1 (200 ∷ []) ∷ upTo (tailAverage 10001 (3 ∷ 7 ∷ 5 ∷ [])) 3),
       pos 12 ∷ pos 38 ∷ pos 0 ∷ pos 10001 ∷ pos 23335 ∷ pos 16668 ∷ [],
     )
+    ∷ (
+      listIn 2027 (tailed 0 1000000),
+      pos 6000 ∷ pos 4000 ∷ pos 6600 ∷ pos 622641509 ∷ pos 377358491 ∷ pos 9636 ∷ pos 10600 ∷ pos 11660 ∷ pos 44 ∷ pos 0 ∷ pos 44 ∷ pos 44 ∷ pos 0 ∷ pos 22 ∷ pos 0 ∷ pos 3 ∷ pos 3 ∷ pos 95484 ∷ pos 1666666 ∷ pos 109 ∷ pos 0 ∷ pos 0 ∷ [],
+    )
+    ∷ (
+      pos (latestReportedIn (figuresOf (tailed 0 1000000))) ∷ latestPaidIn (figuresOf (tailed 0 1000000)) ∷ pos (divisorIn (figuresOf (tailed 0 1000000))) ∷ pos (plainRatioIn (figuresOf (tailed 0 1000000))) ∷ [],
+      pos 108 ∷ pos 106 ∷ pos 1009433 ∷ pos 96385 ∷ [],
+    )
+    ∷ (
+      take 4 (drop (sectionStart 1 reserveSection) (listIn 2027 (tailed 100 1210000))),
+      pos 3 ∷ pos 6 ∷ pos 9 ∷ pos 63458 ∷ [],
+    )
+    ∷ (map (λ year. getD (listIn year (tailed 0 1000000)) (sectionStart 1 ratioSection) (pos 0)) (0 ∷ 2026 ∷ 2027 ∷ 2028 ∷ 18446744073709551615 ∷ []), pos 96385 ∷ pos 96385 ∷ pos 95484 ∷ pos 95484 ∷ pos 95484 ∷ [])
+    ∷ (
+      pos (latestReportedIn (figuresOf (marked (pos 60 ∷ pos 41 ∷ pos 66 ∷ []) (6 ∷ 10 ∷ []))))
+          ∷ pos (divisorIn (figuresOf (marked (pos 60 ∷ pos 41 ∷ pos 66 ∷ []) (6 ∷ 10 ∷ []))))
+          ∷ pos (usedRatioIn 2027 (figuresOf (marked (pos 60 ∷ pos 41 ∷ pos 66 ∷ []) (6 ∷ 10 ∷ []))))
+          ∷ [],
+      pos 109 ∷ pos 1009345 ∷ pos 94920 ∷ [],
+    )
+    ∷ (bothYears (fallingBack 1) ++ (bothYears nothingPaid ++ bothYears (fallingBack 41)), pos 0 ∷ pos 15 ∷ pos 0 ∷ pos 15 ∷ pos 0 ∷ pos 0 ∷ [])
+    ∷ (bothYears (reportedLate (pos 1 ∷ pos 0 ∷ pos 2000000 ∷ []) (6 ∷ 10 ∷ [])), pos 0 ∷ pos 16 ∷ [])
+    ∷ (bothYears (reportedLate (pos 60 ∷ pos 40 ∷ pos 66 ∷ []) (66 ∷ 100 ∷ [])), pos 0 ∷ pos 17 ∷ [])
+    ∷ (
+      bothYears (reportedLate (pos 60 ∷ pos 40 ∷ pos 85 ∷ []) (48 ∷ 100 ∷ [])) ++ bothYears (reportedLate (pos 60 ∷ pos 40 ∷ pos 85 ∷ []) (48 ∷ 101 ∷ [])),
+      pos 0 ∷ pos 0 ∷ pos 0 ∷ pos 17 ∷ [],
+    )
+    ∷ (
+      bothYears emptyFirstYear
+          ++ (bothYears (reportedLate (pos 0 ∷ pos 0 ∷ pos 66 ∷ []) (6 ∷ 10 ∷ []))
+          ++ (bothYears (reportedLate (pos 0 ∷ pos 40 ∷ pos 66 ∷ []) (40 ∷ 60 ∷ [])) ++ bothYears (reportedLate (pos 0 ∷ pos 40 ∷ pos 66 ∷ []) (40 ∷ 67 ∷ [])))),
+      pos 13 ∷ pos 15 ∷ pos 13 ∷ pos 16 ∷ pos 13 ∷ pos 17 ∷ pos 12 ∷ pos 12 ∷ [],
+    )
     ∷ []
 
 -- the rules give what is printed, in every row
 pub marked-hold : map (λ row. row .0) markedTable ≡ map (λ row. row .1) markedTable
-unfolding total upTo padded every pack unpack numberOf bytesOf firstNo afterCall cells layout kindsOf section widths bitCount byteCount fillingCount valueOf codeOf inRange negativeZero bitsInRange everyField lastYearOf codesOf fillingOf fieldsOf recordOf exposuresIn incrementsIn indicesIn reportingIn weightIn ulaeIn tailIn figuresOf hasLastYear hasLength inRanges sharesSum givenFields rowStart paidOf sumTo cumulativeOf cumulativesPass evenly nearest averageOf averageRow averagesOf cellOf cellsTotal columnTotal diagonalTotal cornerTotal allTotal columnOf diagonalOf cornerOf runningDown runningOf shareOf levelOf totalsPass restsPass runningPass levelsPass factorsOf separateAnswer separated futureLevel payment paymentRow provision paidTo ultimate ultimatesPass paidTotal ulaeTotal ratioPass ratioOf reportedAfter notReported weighted reserve givenCumulative developed base developmentFactor completed completedRow factorsPass completedPass squareOf latestOf factorsIn joined sections resultsOf sectionCounts resultCount figureQuestions holdsList questions runAnswer runInto zipWith rowPasses futureLevels paymentOf payments provisions reserveOf developmentFactors factorPasses completedAll paidIn levelsIn provisionsIn developmentIn ratioIn separationSections completionSections reserveSections ladderSections openingQuestions fieldQuestions separationQuestions completionQuestions ratioQuestions ladderQuestions sectionStart laterQuestions lastQuestions firstTailAverage tailAverage tailPayment tailPayments firstTailAveragePasses tailAveragesPass tailSections firstTailAverageOf tailsIn tailQuestions
+unfolding corrects latestReported latestPaid latestPaidPasses divisorOf divisorPasses correctedRatio correctedRatioPasses growthQuestions usedRatio plainRatioIn latestReportedIn latestPaidIn divisorIn correctionQuestions total upTo padded every pack unpack numberOf bytesOf firstNo afterCall cells layout kindsOf section widths bitCount byteCount fillingCount valueOf codeOf inRange negativeZero bitsInRange everyField lastYearOf codesOf fillingOf fieldsOf recordOf exposuresIn incrementsIn indicesIn reportingIn weightIn ulaeIn tailIn figuresOf hasLastYear hasLength inRanges sharesSum givenFields rowStart paidOf sumTo cumulativeOf cumulativesPass evenly nearest averageOf averageRow averagesOf cellOf cellsTotal columnTotal diagonalTotal cornerTotal allTotal columnOf diagonalOf cornerOf runningDown runningOf shareOf levelOf totalsPass restsPass runningPass levelsPass factorsOf separateAnswer separated futureLevel payment paymentRow provision paidTo ultimate ultimatesPass paidTotal ulaeTotal ratioPass plainRatio reportedAfter notReported weighted reserve givenCumulative developed base developmentFactor completed completedRow factorsPass completedPass squareOf latestDiagonalOf factorsIn joined sections resultsOf sectionCounts resultCount figureQuestions holdsList questions runAnswer runInto zipWith rowPasses futureLevels paymentOf payments provisions reserveOf developmentFactors factorPasses completedAll paidIn levelsIn provisionsIn developmentIn usedRatioIn separationSections completionSections reserveSections ladderSections openingQuestions fieldQuestions separationQuestions completionQuestions ratioQuestions ladderQuestions sectionStart laterQuestions lastQuestions firstTailAverage tailAverage tailPayment tailPayments firstTailAveragePasses tailAveragesPass tailSections firstTailAverageOf tailsIn tailQuestions
 marked-hold = refl
 
 -- the square of document 01's case with k = 2: n 100 each, cells 0, 5000, 999999 / 0, 0 / 1

@@ -1,4 +1,4 @@
--- The third demand (document 01, with the tail payments of request 3 of document 02), of the one list that an accepted run fills, and of every exact solution
+-- The third demand (document 01, with the ratio of request 1 of document 02 and the tail payments of request 3), of the one list that an accepted run fills, and of every exact solution
 -- carried on unrounded. Entries are found by their places in the list. Assumes nothing.
 use Prim.Native.Nat.{ℕ, _+_, _-_, _*_, _≤_, _<_}
 use mathlib.Core.Path.{_≡_}
@@ -100,8 +100,8 @@ pub record Carried (f : Figures) (list : List ℤ) (D : ℕ) (x : ℕ → ℤ) :
       (sumTo (exactReserve f (diagonalOf (printedSquare (f .k) list) (f .k)) D x (printed (f .k) list ratioSection 0)) (f .k + 1)) (reserveOver f D)
       (total (upTo (reserveAllowance f) (f .k + 1)))
 
--- the whole third demand, of the figures f and the list that their run fills. That its averages and its ratio are those of the figures is what `runInto`
--- says of the same list; d_k is not below zero, by `diagonal-above`
+-- the whole third demand, of the figures f and the list that their run fills in any valuation year. That its averages and its ratio are those of the figures and
+-- the year is what `runInto` says of the same list; d_k is not below zero, by `diagonal-above`
 pub record ThirdDemand (f : Figures) (list : List ℤ) : Type 0 where
   -- no entry after the averages is below zero
   pub nonnegative : (i : ℕ) → sectionStart (f .k) shareSection ≤ i → i < sectionStart (f .k) sectionCount → getD list i (pos 0) ≡ pos (natAbs (getD list i (pos 0)))

@@ -22,9 +22,9 @@ ulaeTotal k u = total (take (k + 1) u)
 unfoldable pub ratioPass : ℤ → ℕ → Bool
 ratioPass paid spent = leZ (pos 1) paid && leZ (pos spent) paid
 
--- the ratio p = ⌊M × total of U / total of all P⌋, once question 12 says yes
-unfoldable pub ratioOf : ℤ → ℕ → ℕ
-ratioOf paid spent = million * spent / natAbs paid
+-- the plain ratio, ⌊M × total of U / total of all P⌋, once question 12 says yes
+unfoldable pub plainRatio : ℤ → ℕ → ℕ
+plainRatio paid spent = million * spent / natAbs paid
 
 -- B_i, the sum of b_l for l > k − i
 unfoldable pub reportedAfter : ℕ → List ℕ → ℕ → ℕ
@@ -34,7 +34,7 @@ reportedAfter k b i = total (upTo (λ m. getD b (k + 1 - i + m) 0) i)
 unfoldable pub notReported : ℕ → List ℕ → List ℕ → List ℕ → ℕ → ℕ
 notReported k b c q i = ultimate c q i * reportedAfter k b i / million
 
--- H_i = ⌊(w × N_i + (M − w) × R_i) / M⌋, and the reserve Q_i = ⌊p × H_i / M⌋, from the ratio p, the weight w, n = N_i and r = R_i
+-- H_i = ⌊(w × N_i + (M − w) × R_i) / M⌋, and the reserve Q_i = ⌊ratio × H_i / M⌋, from the ratio that is used, the weight w, n = N_i and r = R_i
 unfoldable pub weighted : ℕ → ℕ → ℕ → ℕ
 weighted w n r = (w * n + (million - w) * r) / million
 

@@ -10,6 +10,7 @@ pub mod Exact
 pub mod Tail
 pub mod Completion
 pub mod Expense
+pub mod Growth
 pub mod Ladder
 pub mod Results
 pub mod Engine

@@ -1,5 +1,5 @@
--- The result list (document 01, with the tail payments of request 3 of document 02 at its end): its sections in their order, over lists, and those of the
--- figures f. Assumes nothing.
+-- The result list (document 01, with the ratio of request 1 of document 02 and the tail payments of request 3 at its end): its sections in their order, over
+-- lists, and those of the figures f in a valuation year. Assumes nothing.
 use Prim.Native.Nat.{ℕ, _+_, _-_}
 use mathlib.Core.List.{List, [], _∷_, _++_, map}
 use lib.IntN.{ℤ, pos}
@@ -10,7 +10,8 @@ use Rattle.rules.specs.Triangle.{averagesOf, cellOf, paidTo}
 use Rattle.rules.specs.Separation.{diagonalOf, shareOf, levelOf, factorsOf}
 use Rattle.rules.specs.Tail.{firstTailAverage, tailPayments}
 use Rattle.rules.specs.Completion.{futureLevels, payments, provisions}
-use Rattle.rules.specs.Expense.{paidTotal, ulaeTotal, ratioOf, notReported, reserve}
+use Rattle.rules.specs.Expense.{paidTotal, ulaeTotal, plainRatio, notReported, reserve}
+use Rattle.rules.specs.Growth.{latestReported, latestPaid, divisorOf, usedRatio}
 use Rattle.rules.specs.Ladder.{developed, base, developmentFactors, completedAll}
 use Rattle.rules.specs.declared.Factors.{Factors}
 
@@ -102,8 +103,8 @@ tailSections z = map pos z ∷ []
 unfoldable pub squareOf : Figures → List (List ℤ)
 squareOf f = averagesOf (f .k) (f .exposures) (f .increments)
 
-unfoldable pub latestOf : Figures → ℕ
-latestOf f = diagonalOf (squareOf f) (f .k)
+unfoldable pub latestDiagonalOf : Figures → ℕ
+latestDiagonalOf f = diagonalOf (squareOf f) (f .k)
 
 unfoldable pub factorsIn : Figures → Factors
 factorsIn f = factorsOf (squareOf f) (f .k)
@@ -118,7 +119,7 @@ unfoldable pub paidIn : Figures → List ℕ
 paidIn f = padded 16 0 (upTo (paidTo (f .k) (f .increments)) (f .k + 1))
 
 unfoldable pub levelsIn : Figures → List ℕ
-levelsIn f = padded 16 0 (futureLevels (f .k) (latestOf f) (f .indices))
+levelsIn f = padded 16 0 (futureLevels (f .k) (latestDiagonalOf f) (f .indices))
 
 unfoldable pub tailsIn : Figures → List ℕ
 tailsIn f = padded 16 0 (tailPayments (f .k) (f .exposures) (firstTailAverageOf f) (f .indices))
@@ -129,23 +130,36 @@ provisionsIn f = padded 16 0 (provisions (f .k) (f .exposures) (factorsIn f .sha
 unfoldable pub developmentIn : Figures → List ℕ
 developmentIn f = padded 16 0 (developmentFactors (f .k) (developed (f .k) (f .increments)) (base (f .k) (f .increments)))
 
--- the ratio p of the figures
-unfoldable pub ratioIn : Figures → ℕ
-ratioIn f = ratioOf (paidTotal (f .k) (f .increments)) (ulaeTotal (f .k) (f .ulae))
+-- of the figures, the plain ratio; B, Y and the divisor that correct it; and the ratio that a valuation year uses and the list has as p. They are what their comments in
+-- Expense and Growth say once questions 12, 15 and 16 have said yes
+unfoldable pub plainRatioIn : Figures → ℕ
+plainRatioIn f = plainRatio (paidTotal (f .k) (f .increments)) (ulaeTotal (f .k) (f .ulae))
 
--- the sections of the figures
-unfoldable pub sections : Figures → List (List ℤ)
-sections f =
+unfoldable pub latestReportedIn : Figures → ℕ
+latestReportedIn f = latestReported (f .k) (f .reporting) (paidIn f) (provisionsIn f)
+
+unfoldable pub latestPaidIn : Figures → ℤ
+latestPaidIn f = latestPaid (f .k) (f .increments)
+
+unfoldable pub divisorIn : Figures → ℕ
+divisorIn f = divisorOf (f .weight) (latestReportedIn f) (latestPaidIn f)
+
+unfoldable pub usedRatioIn : ℕ → Figures → ℕ
+usedRatioIn year f = usedRatio year (plainRatioIn f) (divisorIn f)
+
+-- the sections of the figures in a valuation year
+unfoldable pub sections : ℕ → Figures → List (List ℤ)
+sections year f =
     let k = f .k in
     let r = factorsIn f .shares in
     let c = paidIn f in
     let q = provisionsIn f in
     separationSections k (squareOf f) (upTo (shareOf (squareOf f) k) (k + 1)) (upTo (levelOf (squareOf f) k) (k + 1))
-    ++ (completionSections (futureLevels k (latestOf f) (f .indices)) (payments k (f .exposures) r (levelsIn f)) (provisions k (f .exposures) r (levelsIn f) (tailsIn f))
-    ++ (reserveSections (upTo (notReported k (f .reporting) c q) (k + 1)) (upTo (reserve k (ratioIn f) (f .weight) (f .reporting) c q) (k + 1)) (ratioIn f)
+    ++ (completionSections (futureLevels k (latestDiagonalOf f) (f .indices)) (payments k (f .exposures) r (levelsIn f)) (provisions k (f .exposures) r (levelsIn f) (tailsIn f))
+    ++ (reserveSections (upTo (notReported k (f .reporting) c q) (k + 1)) (upTo (reserve k (usedRatioIn year f) (f .weight) (f .reporting) c q) (k + 1)) (usedRatioIn year f)
     ++ (ladderSections (developmentFactors k (developed k (f .increments)) (base k (f .increments))) (completedAll k c (developmentIn f))
     ++ tailSections (tailPayments k (f .exposures) (firstTailAverageOf f) (f .indices)))))
 
 -- the result list
-unfoldable pub resultsOf : Figures → List ℤ
-resultsOf f = joined (sections f)
+unfoldable pub resultsOf : ℕ → Figures → List ℤ
+resultsOf year f = joined (sections year f)

@@ -2,7 +2,7 @@
 
 // What a call answers where every question says yes.
 pub const ACCEPTED: u64 = 0;
-// M of document 01: the most of an exposure, a reporting share and the weight, and the sum of the reporting shares.
+// M of document 01: the most of an exposure, a reporting share, the weight and a ULAE ratio, and the sum of the reporting shares.
 pub const MILLION: u64 = 1_000_000;
 // S of document 01, one whole in billionths: the most of a level, of the total of averages and of the average still to be paid for year 0.
 pub const BILLION: u64 = 1_000_000_000;
@@ -20,6 +20,8 @@ pub const MOST_CUMULATIVE: u64 = 100_000_000_000;
 pub const MOST_ULTIMATE: u64 = 1_000_000_000_000;
 // The most of a development factor.
 pub const MOST_FACTOR: u64 = 50_000_000;
+// The first valuation year whose ULAE ratio is corrected.
+pub const FIRST_CORRECTED_YEAR: u64 = 2027;
 // The most of a record's bytes and fields and of a result list's entries: those of k = 15.
 pub const MOST_BYTES: usize = 797;
 

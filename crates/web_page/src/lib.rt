@@ -1,5 +1,7 @@
 // The report of a run as a page of HTML in a lent buffer.
 use composing::put_bytes;
+use composing::put_decimal;
+use growth::Correction;
 use page::put_page;
 use plots::put_plots;
 use rules::MOST_ENTRIES;
@@ -9,9 +11,10 @@ ghost use Prim.Native.Nat.{_<_};
 ghost use Rattle.composing.specs.Text.{ascii, Put};
 ghost use Rattle.listing.specs.Starts.{Addable};
 ghost use Rattle.amounts_table.specs.Amounts.{TailsAddable};
+ghost use Rattle.ratio_table.specs.Ratio.{InSignedRange};
 ghost use Rattle.shaded_table.specs.Shaded.{shadedTable};
 ghost use Rattle.plots.specs.Plots.{levelsPlot, sharesPlot};
-ghost use Rattle.web_page.specs.Web.{styleText, webStart, webPageOf};
+ghost use Rattle.web_page.specs.Web.{styleText, webStart, webYear, webPageOf};
 
 // The style of the page.
 fn put_style(out: &mut [u8], at: usize) -> usize
@@ -35,6 +38,15 @@ pub fn put_web_start(out: &mut [u8], at: usize) -> usize
     );
     let b = put_style(out, a);
     put_bytes(out, b, b"</head>\n<body>\n<h1>Reserving report</h1>\n")
+}
+
+// The valuation year.
+fn put_year(out: &mut [u8], at: usize, year: u64) -> usize
+    ensures { λ r. ⌜ Put (now (out .entry)) (now (out .exit)) at r (webYear year) ⌝ }
+{
+    let a = put_bytes(out, at, b"<p>Valuation year ");
+    let b = put_decimal(out, a, year);
+    put_bytes(out, b, b"</p>\n")
 }
 
 // What stands before a text as it is, and after it.
@@ -67,13 +79,16 @@ pub fn put_web_page(
     paid: &[u64; 16],
     ladder: &[u64; 16],
     k: usize,
+    year: u64,
+    correction: Correction,
 ) -> usize
-    requires { ⌜ (k < 16) × (TailsAddable k (now list) × (Addable (now paid) × Addable (now ladder))) ⌝ }
-    ensures { λ r. ⌜ Put (now (out .entry)) (now (out .exit)) 0 r (webPageOf k (now (list .entry)) (now (paid .entry)) (now (ladder .entry))) ⌝ }
+    requires { ⌜ (k < 16) × (TailsAddable k (now list) × (Addable (now paid) × (Addable (now ladder) × InSignedRange correction))) ⌝ }
+    ensures { λ r. ⌜ Put (now (out .entry)) (now (out .exit)) 0 r (webPageOf year k (now (list .entry)) (now (paid .entry)) (now (ladder .entry)) correction) ⌝ }
 {
     let a = put_web_start(out, 0);
-    let b = put_figures(out, a, list, k);
-    let c = put_text_start(out, b);
-    let d = put_page(out, c, list, paid, ladder, k);
-    put_text_end(out, d)
+    let b = put_year(out, a, year);
+    let c = put_figures(out, b, list, k);
+    let d = put_text_start(out, c);
+    let e = put_page(out, d, list, paid, ladder, k, year, correction);
+    put_text_end(out, e)
 }

@@ -1,4 +1,4 @@
--- Refusals in words: what is not so where a question's answer is no (document 01, "Questions in their order"; request 3 of document 02). Assumes nothing.
+-- Refusals in words: what is not so where a question's answer is no (document 01, "Questions in their order"; requests 1 and 3 of document 02). Assumes nothing.
 use Prim.Native.Nat.{ℕ}
 use mathlib.Core.List.{List, [], _∷_, _++_}
 use lib.ListN.{getD}
@@ -8,8 +8,7 @@ use Rattle.composing.specs.Text.{ascii, decimal}
 abbrev pub otherText : List ℕ
 otherText = ascii "no question has this number"
 
--- the words of the questions by their numbers; there is no 15, 16 or 17. Those of 1 to 5 are true of the reader, the writer and the engine, whichever of them
--- asks
+-- the words of the questions by their numbers. Those of 1 to 5 are true of the reader, the writer and the engine, whichever of them asks
 unfoldable pub questionTexts : List (List ℕ)
 questionTexts =
     otherText
@@ -27,9 +26,9 @@ questionTexts =
     ∷ ascii "the payments add up to less than 1, or the ULAE totals to more than the payments"
     ∷ ascii "the chain ladder has nothing to develop from in some year, or a development factor above 50"
     ∷ ascii "a cumulative that the chain ladder completes is above 10^11"
-    ∷ otherText
-    ∷ otherText
-    ∷ otherText
+    ∷ ascii "what is paid in the latest payment year, Y, is below 1, and from valuation year 2027 on the ULAE ratio is corrected by it"
+    ∷ ascii "the divisor of the ULAE ratio under growth, M - w + w * B / Y, from valuation year 2027 on, is 0"
+    ∷ ascii "the ULAE ratio corrected for growth, from valuation year 2027 on, is above 1"
     ∷ ascii "the average of what is still to be paid for year 0 after the last year is above 1,000,000,000 hundredths a claim"
     ∷ ascii "an average of what is still to be paid after the last year, carried to some year by the indices, is above 5,000,000,000 hundredths a claim"
     ∷ []

@@ -70,9 +70,9 @@ the ultimate X_i of an origin year is above 10^12
 the payments add up to less than 1, or the ULAE totals to more than the payments
 the chain ladder has nothing to develop from in some year, or a development factor above 50
 a cumulative that the chain ladder completes is above 10^11
-no question has this number
-no question has this number
-no question has this number
+what is paid in the latest payment year, Y, is below 1, and from valuation year 2027 on the ULAE ratio is corrected by it
+the divisor of the ULAE ratio under growth, M - w + w * B / Y, from valuation year 2027 on, is 0
+the ULAE ratio corrected for growth, from valuation year 2027 on, is above 1
 the average of what is still to be paid for year 0 after the last year is above 1,000,000,000 hundredths a claim
 an average of what is still to be paid after the last year, carried to some year by the indices, is above 5,000,000,000 hundredths a claim
 ",

@@ -1,4 +1,5 @@
-//! Cases by chance: accounts of several characters, records at the edge of each question, damaged records, and fields that a writer must refuse.
+//! Cases by chance: accounts of several characters, records at the edge of each question, damaged records, fields that a writer must refuse, and valuation
+//! years.
 
 use crate::paper::{self, Given};
 use crate::random::Random;
@@ -11,6 +12,27 @@ const M: i64 = 1_000_000;
 const S: i64 = 1_000_000_000;
 const CUMULATIVE_MAX: i64 = 100_000_000_000;
 const ULTIMATE_MAX: i64 = 1_000_000_000_000;
+
+/// The last valuation year with the plain ULAE ratio, and the first with the corrected one.
+pub const LAST_PLAIN: u64 = 2026;
+pub const FIRST_CORRECTED: u64 = 2027;
+
+/// Another valuation year; some would be plain ones if they were cut to fewer bits.
+pub fn other_year(r: &mut Random) -> u64 {
+    let any = r.number();
+    r.pick(&[
+        0,
+        2025,
+        2028,
+        65_535,
+        (1 << 16) + 2026,
+        (1 << 32) + 2026,
+        1 << 63,
+        u64::MAX,
+        any,
+        any % 2027,
+    ])
+}
 
 /// What the account looks like.
 #[derive(Clone, Copy)]
@@ -152,10 +174,22 @@ pub fn fields(r: &mut Random, k: usize) -> Given {
     }
 }
 
-fn answer(given: &Given) -> u64 {
-    paper::run(&pack(given), &mut [0; paper::LONGEST])
+fn answer(valuation_year: u64, given: &Given) -> u64 {
+    paper::run(valuation_year, &pack(given), &mut [0; paper::LONGEST])
         .err()
         .unwrap_or(0)
+}
+
+/// The result list of fields that are accepted with the plain ratio.
+fn plain_list(given: &Given) -> Option<[i64; paper::LONGEST]> {
+    let mut list = [0; paper::LONGEST];
+    let outcome = paper::run(LAST_PLAIN, &pack(given), &mut list);
+    outcome.is_ok().then_some(list)
+}
+
+/// Where the provisions stand in a result list.
+fn provisions(k: usize) -> usize {
+    2 * paper::cells(k) + 2 * k + 1
 }
 
 /// Fields on the way from one set to another; the reporting shares stay, for they must sum to a million.
@@ -182,12 +216,12 @@ fn between(from: &Given, to: &Given, part: u32) -> Given {
 }
 
 /// Two sets of fields next to each other on the way between two with different answers: one of them on each side of an edge.
-fn edge_between(from: &Given, to: &Given) -> [Given; 2] {
+fn edge_between(valuation_year: u64, from: &Given, to: &Given) -> [Given; 2] {
     let (mut low, mut high) = (0u32, 1 << 31);
-    let first = answer(from);
+    let first = answer(valuation_year, from);
     while high - low > 1 {
         let middle = low + (high - low) / 2;
-        if answer(&between(from, to, middle)) == first {
+        if answer(valuation_year, &between(from, to, middle)) == first {
             low = middle;
         } else {
             high = middle;
@@ -361,16 +395,14 @@ fn tail_ultimate_edge(r: &mut Random, k: usize, past: i64) -> Given {
     low.tail = 0;
     let mut high = a;
     high.tail = AMOUNT_MAX as u64;
-    let [mut within, outside] = edge_between(&low, &high);
-    if answer(&within) != 0 || answer(&outside) != 11 {
+    let [mut within, outside] = edge_between(LAST_PLAIN, &low, &high);
+    if answer(LAST_PLAIN, &within) != 0 || answer(LAST_PLAIN, &outside) != 11 {
         return outside;
     }
     let row = &mut within.increments[cell(k, i, 0)..][..k + 1 - i];
     let paid: i64 = row.iter().sum();
-    let mut list = [0; paper::LONGEST];
-    if paper::run(&pack(&within), &mut list).is_ok() {
-        let provisions = 2 * paper::cells(k) + 2 * k + 1;
-        let gap = ULTIMATE_MAX - paid - list[provisions + i];
+    if let Some(list) = plain_list(&within) {
+        let gap = ULTIMATE_MAX - paid - list[provisions(k) + i];
         if gap < 5_000 {
             within.increments[cell(k, i, k - i)] += gap + past;
             return within;
@@ -383,7 +415,160 @@ fn tail_ultimate_edge(r: &mut Random, k: usize, past: i64) -> Given {
     }
 }
 
-/// An account set to a limit of this question, 6 to 14, 18 or 19, or one past it.
+/// What is paid in the latest year.
+fn latest_paid(a: &Given, k: usize) -> i64 {
+    (0..=k).map(|i| a.increments[cell(k, i, k - i)]).sum()
+}
+
+/// The divisor of the ratio under growth, of fields that are accepted with the plain one.
+fn divisor(a: &Given, k: usize) -> Option<i64> {
+    let list = plain_list(a)?;
+    let paid = i128::from(latest_paid(a, k));
+    if paid < 1 {
+        return None;
+    }
+    let mut reported = 0;
+    for i in 0..=k {
+        let row = &a.increments[cell(k, i, 0)..][..k + 1 - i];
+        let ultimate = row.iter().sum::<i64>() + list[provisions(k) + i];
+        reported += i128::from(ultimate) * i128::from(a.reporting[k - i]);
+    }
+    let weight = a.weight as i64;
+    let part = i128::from(weight) * (reported / i128::from(M)) / paid;
+    Some(M - weight + i64::try_from(part).ok()?)
+}
+
+/// All is reported in the last development year, so that what is reported in the latest year is the ultimate of year 0.
+fn report_late(a: &mut Given, k: usize) {
+    a.reporting.fill(0);
+    a.reporting[k] = M as u64;
+}
+
+/// ULAE totals that make the plain ratio this one, or near it where little is paid.
+fn set_ratio(r: &mut Random, a: &mut Given, ratio: i64) {
+    let paid = i128::from(a.increments.iter().sum::<i64>());
+    let total = (i128::from(ratio) * paid + i128::from(M - 1)) / i128::from(M);
+    let year = r.below(a.ulae.len());
+    a.ulae.fill(0);
+    a.ulae[year] = total.clamp(0, i128::from(AMOUNT_MAX)) as u64;
+}
+
+/// What is paid in the latest year set to 1, to 0 or far below: one year takes it back, which has so many claims that its average is small.
+fn latest_paid_edge(r: &mut Random, a: &mut Given, k: usize, past: i64) {
+    let far = -(r.spread(1_000_000) as i64);
+    let target = r.pick(&[1 - past, 1 - past, 1 - past, far]);
+    // Of two years only year 0 has a payment before the latest; what the other one pays is then below half a hundredth of it a claim.
+    let i = if k == 1 { 0 } else { 1 + r.below(k - 1) };
+    if k == 1 {
+        a.increments[cell(k, 1, 0)] = r.between(1, 400);
+    }
+    a.exposures[i] = 100_000;
+    for paid in &mut a.increments[cell(k, i, 0)..=cell(k, i, k - i)] {
+        *paid *= 1_000;
+    }
+    if k > 1 && r.one_in(8) {
+        // Nothing is reported in the latest year either: the divisor would be 0.
+        report_late(a, k);
+        a.weight = M as u64;
+        a.tail = 0;
+        a.increments[..=k].fill(0);
+    }
+    a.increments[cell(k, i, k - i)] += target - latest_paid(a, k);
+    let ratio = r.pick(&[0, M / 10, M]);
+    set_ratio(r, a, ratio);
+}
+
+/// The divisor set to a millionth or to 0: the weight is 1, and a million times what is reported in the latest year is paid in it, or a little more.
+fn divisor_edge(r: &mut Random, a: &mut Given, k: usize, past: i64) {
+    report_late(a, k);
+    a.weight = r.pick(&[M, M, M, M, M - 1]) as u64;
+    a.tail = 0;
+    a.increments[..=k].fill(0);
+    a.exposures[k] = EXPOSURE_MAX as u64;
+    if !r.one_in(8) {
+        let last = cell(k, k, 0);
+        let others = latest_paid(a, k) - a.increments[last];
+        let reported = others / M + r.pick(&[1, 1, 2, 3_000, 9_000]);
+        a.increments[0] = reported;
+        a.increments[last] = reported * M + past - others;
+    }
+    // A plain ratio of a millionth becomes 1, and one of two millionths becomes 2.
+    let ratio = r.pick(&[0, 0, 1, 2, M]);
+    set_ratio(r, a, ratio);
+}
+
+/// The plain ratio set to the divisor, so that the corrected one is 1, or one more or less.
+fn corrected_edge(r: &mut Random, a: &mut Given, k: usize, past: i64) {
+    a.weight = r.pick(&[M, M, M / 2, 1, M - 1]) as u64;
+    if !r.one_in(4) {
+        report_late(a, k);
+    }
+    if let Some(divisor) = divisor(a, k) {
+        set_ratio(r, a, divisor.saturating_add(past).clamp(0, M));
+    }
+}
+
+/// Ultimates near 10^12 in all years but the first, by what is paid after the last year, and next to nothing paid in the latest year.
+fn deep(r: &mut Random, k: usize) -> Given {
+    let k = k.max(2);
+    let mut a = account(k);
+    a.exposures.fill(20_000);
+    a.exposures[0] = 1;
+    a.indices.fill(INDEX_MAX as u64);
+    a.indices[0] = M as u64;
+    a.tail = 10_000_000 - r.pick(&[0, 1, 1, 1, 2, 1_000]);
+    a.increments.fill(0);
+    a.increments[1] = 1;
+    for i in 1..k {
+        a.increments[cell(k, i, 0)] = 100_000 + r.pick(&[-1, 0, 0, 0, 1]);
+    }
+    a.increments[cell(k, 1, 0)] += 100;
+    a.increments[cell(k, 1, k - 1)] = -100;
+    a.increments[cell(k, k, 0)] = 101 + r.pick(&[-1, 0, 0, 0, 1, 7]);
+    a.reporting = reporting(r, k);
+    a.weight = at_limit(r, 0, M) as u64;
+    let ratio = at_limit(r, 0, M);
+    set_ratio(r, &mut a, ratio);
+    a
+}
+
+/// An account at an edge of 15, 16 or 17, changed so that another question may say no too: 12, one about payments after the last year, or one about the
+/// chain ladder.
+fn crossed(r: &mut Random, k: usize) -> Given {
+    let question = r.pick(&[15, 16, 17]);
+    let mut a = set_to_edge(r, k, question);
+    match r.below(7) {
+        0 => a.ulae.fill(AMOUNT_MAX as u64),
+        1 => a.tail = AMOUNT_MAX as u64,
+        2 => {
+            a.indices.fill(1_000);
+            a.indices[1 + r.below(k)] = INDEX_MAX as u64;
+            a.tail = S as u64 * a.exposures[0] / 100;
+        }
+        // A million claims at 10^8 hundredths.
+        3 => a.tail = S as u64 * a.exposures[0] / 1_000,
+        4 => (0..k).for_each(|i| a.increments[cell(k, i, 0)] = 0),
+        5 => {
+            let before: i64 = a.increments[..k].iter().sum();
+            let (late, i) = (50 * before, r.below(k + 1));
+            a.increments[k] += late;
+            // What is paid in the latest year stays, where another year takes it back.
+            a.increments[cell(k, i, k - i)] -= late;
+        }
+        _ => {
+            (0..k).for_each(|i| a.increments[cell(k, i, 1)] += 20 * a.increments[cell(k, i, 0)]);
+            a.exposures[k] = EXPOSURE_MAX as u64;
+            a.increments[cell(k, k, 0)] = AMOUNT_MAX;
+        }
+    }
+    a.tail = a.tail.min(AMOUNT_MAX as u64);
+    for paid in &mut a.increments {
+        *paid = (*paid).clamp(-AMOUNT_MAX, AMOUNT_MAX);
+    }
+    a
+}
+
+/// An account set to a limit of this question, from 6 on, or one past it.
 fn set_to_edge(r: &mut Random, k: usize, question: u64) -> Given {
     let mut a = plain(r, k);
     // 0 is at the limit, 1 is past it; -1 is well within.
@@ -416,12 +601,14 @@ fn set_to_edge(r: &mut Random, k: usize, question: u64) -> Given {
         }
         10 => {
             // A level is above S just where its diagonal is above its running share; cell 0, 0 is diagonal 0 and no part of A_0.
-            let mut list = [0; paper::LONGEST];
-            if paper::run(&pack(&a), &mut list).is_ok() {
+            if let Some(list) = plain_list(&a) {
                 let first_share = list[paper::cells(k)];
                 a.increments[0] = first_share + past;
             }
         }
+        15 => latest_paid_edge(r, &mut a, k, past),
+        16 => divisor_edge(r, &mut a, k, past),
+        17 => corrected_edge(r, &mut a, k, past),
         18 => first_tail_edge(r, &mut a, past),
         19 => carried_tail_edge(r, &mut a, k, past),
         11 if r.one_in(2) => return tail_ultimate_edge(r, k, past),
@@ -465,14 +652,12 @@ fn ultimate_edge(r: &mut Random, k: usize, past: i64) -> Given {
     low.indices.fill(1);
     let mut high = a;
     high.indices.fill(INDEX_MAX as u64);
-    let [mut within, outside] = edge_between(&low, &high);
-    if answer(&within) != 0 || answer(&outside) != 11 {
+    let [mut within, outside] = edge_between(LAST_PLAIN, &low, &high);
+    if answer(LAST_PLAIN, &within) != 0 || answer(LAST_PLAIN, &outside) != 11 {
         return outside;
     }
-    let mut list = [0; paper::LONGEST];
-    if paper::run(&pack(&within), &mut list).is_ok() {
-        let provisions = 2 * paper::cells(k) + 2 * k + 1;
-        let gap = ULTIMATE_MAX - within.increments[last] - list[provisions + k];
+    if let Some(list) = plain_list(&within) {
+        let gap = ULTIMATE_MAX - within.increments[last] - list[provisions(k) + k];
         if gap < 5_000 {
             within.increments[last] += gap + past;
             return within;
@@ -485,7 +670,7 @@ fn ultimate_edge(r: &mut Random, k: usize, past: i64) -> Given {
     }
 }
 
-/// A record at an edge of this question, 4 to 14, 18 or 19.
+/// A record at an edge of this question, from 4 on.
 fn edge(r: &mut Random, k: usize, question: u64) -> Vec<u8> {
     match question {
         4 => {
@@ -575,10 +760,13 @@ pub fn record(r: &mut Random) -> Vec<u8> {
                 plain(r, k)
             };
             let side = r.below(2);
-            pack(&edge_between(&from, &to)[side])
+            let year = r.pick(&[LAST_PLAIN, FIRST_CORRECTED]);
+            pack(&edge_between(year, &from, &to)[side])
         }
+        11 if r.one_in(4) => pack(&deep(r, k)),
+        11 => pack(&crossed(r, k)),
         _ => {
-            let question = r.pick(&[4, 5, 6, 7, 8, 9, 10, 18, 19, 11, 12, 13, 14]);
+            let question = r.pick(&[4, 5, 6, 7, 8, 9, 10, 18, 19, 11, 12, 15, 16, 17, 13, 14]);
             edge(r, k, question)
         }
     }

@@ -1,12 +1,12 @@
 //! Holds the proved reader, writer and engine against document 01 in plain Rust (`paper.rs`), on records made by chance from a seed.
 //!
 //!     differential [--seconds N] [--seed S] [--cases N]
-//!     differential --records N FOLDER     writes N accepted records into the folder, one a file
-//!     differential --stream N FOLDER      writes N records of all kinds, damaged ones too, into the folder as one stream, `records`, each behind its
-//!                                         length, and the line of each by plain Rust, `rows`
+//!     differential --records YEAR N FOLDER    writes N records that are accepted in this valuation year into the folder, one a file
+//!     differential --stream YEAR N FOLDER     writes N records of all kinds, damaged ones too, into the folder as one stream, `records`, the year in two
+//!                                             bytes and each record behind its length, and the line of each by plain Rust, `rows`
 //!
-//! Each case compares the answer and every entry of the lent buffer, those past the list too. What is lent is the middle of a larger array, and what
-//! stands on both sides of it must stay. A difference is printed and ends with status 1.
+//! Each case compares the answer and every entry of the lent buffer, those past the list too; a record is run in 2026, in 2027 and in one other valuation
+//! year. What is lent is the middle of a larger array, and what stands on both sides of it must stay. A difference is printed and ends with status 1.
 
 use differential::paper::{self, Given};
 use differential::random::Random;
@@ -24,13 +24,14 @@ const FAIR: u64 = 20_000;
 /// The entries on each side of what is lent.
 const GUARD: usize = 16;
 
-/// The answers of a run: no question has a number from 15 to 17.
-const ANSWERS: [usize; 17] = [0, 1, 2, 3, 4, 5, 6, 7, 8, 9, 10, 11, 12, 13, 14, 18, 19];
+/// The questions that are asked only from 2027 on.
+const GROWTH: std::ops::RangeInclusive<usize> = 15..=17;
 
-/// How often each question said no (at 0: how often all said yes), by call.
+/// How often each question said no (at 0: how often all said yes), by call; runs in valuation years before 2027 and from 2027 on apart.
 #[derive(Default)]
 struct Tally {
-    run: [u64; 20],
+    plain: [u64; 20],
+    corrected: [u64; 20],
     read: [u64; 20],
     write: [u64; 20],
     back: u64,
@@ -38,20 +39,22 @@ struct Tally {
 
 impl Tally {
     fn print(&self) {
-        println!("answer {:>12} {:>12} {:>12}", "run", "read", "write");
-        for number in ANSWERS {
-            let [run, read, write] = [self.run, self.read, self.write].map(|t| t[number]);
-            println!("{number:6} {run:12} {read:12} {write:12}");
+        println!("answer  run to 2026  run from 2027         read        write");
+        for number in 0..20 {
+            let tallies = [self.plain, self.corrected, self.read, self.write];
+            let [plain, corrected, read, write] = tallies.map(|tally| tally[number]);
+            println!("{number:6} {plain:12} {corrected:14} {read:12} {write:12}");
         }
         println!("read, and written back to the same record: {}", self.back);
     }
 
-    /// Every number that a call can answer has been answered.
+    /// Every number that a call can answer has been answered, and no other.
     fn complete(&self) -> bool {
-        let run = ANSWERS.iter().all(|&n| self.run[n] > 0);
+        let plain = (0..20).all(|n| (self.plain[n] > 0) != GROWTH.contains(&n));
+        let corrected = self.corrected.iter().all(|&n| n > 0);
         let read = self.read[..6].iter().all(|&n| n > 0);
         let write = [0, 1, 2, 4, 5].iter().all(|&n| self.write[n] > 0);
-        run && read && write && self.back > 0
+        plain && corrected && read && write && self.back > 0
     }
 }
 
@@ -141,16 +144,11 @@ impl<T: Copy + PartialEq> Lent<T> {
     }
 }
 
-/// A call that reads bytes into a list, in the engine and in the paper.
-type Calls = (
-    fn(&[u8], &mut [i64]) -> Result<(), doonamurk::Refused>,
-    fn(&[u8], &mut [i64]) -> Result<(), u64>,
-);
-
-/// Calls both with buffers of the same pattern; the answer and the buffer, or what is different.
+/// Calls both the engine and the paper, which read bytes into a list, with buffers of the same pattern; the answer and the buffer, or what is different.
 fn both(
     name: &str,
-    (engine, paper): Calls,
+    engine: impl Fn(&[u8], &mut [i64]) -> Result<(), doonamurk::Refused>,
+    paper: impl Fn(&[u8], &mut [i64]) -> Result<(), u64>,
     record: &[u8],
     length: usize,
     pattern: i64,
@@ -208,19 +206,30 @@ fn case(r: &mut Random, tally: &mut Tally) -> Result<(), String> {
     let pattern = r.number() as i64;
 
     let length = generate::buffer_length(r, paper::entries(k));
-    let (answer, _) = both(
-        "run",
-        (doonamurk::run, paper::run),
-        &record,
-        length,
-        pattern,
-    )?;
-    tally.run[answer as usize] += 1;
+    let other = generate::other_year(r);
+    for year in [generate::LAST_PLAIN, generate::FIRST_CORRECTED, other] {
+        let (answer, _) = both(
+            &format!("run of valuation year {year}"),
+            |record, list| doonamurk::run(year, record, list),
+            |record, list| paper::run(year, record, list),
+            &record,
+            length,
+            pattern,
+        )?;
+        let plain = year <= generate::LAST_PLAIN;
+        let runs = if plain {
+            &mut tally.plain
+        } else {
+            &mut tally.corrected
+        };
+        runs[answer as usize] += 1;
+    }
 
     let length = generate::buffer_length(r, paper::fields(k));
     let (answer, list) = both(
         "read",
-        (doonamurk::read, paper::read),
+        doonamurk::read,
+        paper::read,
         &record,
         length,
         pattern,
@@ -245,7 +254,7 @@ fn case(r: &mut Random, tally: &mut Tally) -> Result<(), String> {
     Ok(())
 }
 
-fn write_records(count: u64, folder: &Path) -> std::io::Result<()> {
+fn write_records(valuation_year: u16, count: u64, folder: &Path) -> std::io::Result<()> {
     let mut results = [0; paper::LONGEST];
     let mut case = 0;
     for n in 0..count {
@@ -254,7 +263,7 @@ fn write_records(count: u64, folder: &Path) -> std::io::Result<()> {
             case += 1;
             let k = 1 + r.below(15);
             let record = records::pack(&generate::fields(&mut r, k));
-            if paper::run(&record, &mut results).is_ok() {
+            if paper::run(valuation_year.into(), &record, &mut results).is_ok() {
                 break record;
             }
         };
@@ -262,6 +271,9 @@ fn write_records(count: u64, folder: &Path) -> std::io::Result<()> {
     }
     Ok(())
 }
+
+/// Writes so many records of a valuation year into a folder.
+type Writer = fn(u16, u64, &Path) -> std::io::Result<()>;
 
 struct Options {
     seed: u64,
@@ -295,9 +307,9 @@ fn options(arguments: &[String]) -> Option<Options> {
 }
 
 /// The line of a record among many.
-fn row(record: &[u8]) -> String {
+fn row(valuation_year: u16, record: &[u8]) -> String {
     let mut results = [0; paper::LONGEST];
-    match paper::run(record, &mut results) {
+    match paper::run(valuation_year.into(), record, &mut results) {
         Ok(()) => {
             let list = &results[..paper::entries(usize::from(record[0] >> 4))];
             list.iter()
@@ -309,15 +321,15 @@ fn row(record: &[u8]) -> String {
     }
 }
 
-fn write_stream(count: u64, folder: &Path) -> std::io::Result<()> {
-    let mut stream = Vec::new();
+fn write_stream(valuation_year: u16, count: u64, folder: &Path) -> std::io::Result<()> {
+    let mut stream = valuation_year.to_be_bytes().to_vec();
     let mut rows = String::new();
     for case in 0..count {
         let record = generate::record(&mut Random::new(SEED, case));
         let length = u16::try_from(record.len()).map_err(std::io::Error::other)?;
         stream.extend_from_slice(&length.to_be_bytes());
         stream.extend_from_slice(&record);
-        rows.push_str(&row(&record));
+        rows.push_str(&row(valuation_year, &record));
         rows.push('\n');
     }
     std::fs::write(folder.join("records"), stream)?;
@@ -326,14 +338,14 @@ fn write_stream(count: u64, folder: &Path) -> std::io::Result<()> {
 
 fn main() -> ExitCode {
     let arguments: Vec<String> = std::env::args().skip(1).collect();
-    if let [mode, count, folder] = &arguments[..] {
-        let write: Option<fn(u64, &Path) -> std::io::Result<()>> = match mode.as_str() {
+    if let [mode, year, count, folder] = &arguments[..] {
+        let write: Option<Writer> = match mode.as_str() {
             "--records" => Some(write_records),
             "--stream" => Some(write_stream),
             _ => None,
         };
-        if let (Some(write), Ok(count)) = (write, count.parse()) {
-            return match write(count, Path::new(folder)) {
+        if let (Some(write), Ok(year), Ok(count)) = (write, year.parse(), count.parse()) {
+            return match write(year, count, Path::new(folder)) {
                 Ok(()) => ExitCode::SUCCESS,
                 Err(error) => {
                     eprintln!("{folder}: {error}");
@@ -348,7 +360,7 @@ fn main() -> ExitCode {
         seconds,
     }) = options(&arguments)
     else {
-        eprintln!("usage: differential [--seconds N] [--seed S] [--cases N] | --records N FOLDER | --stream N FOLDER");
+        eprintln!("usage: differential [--seconds N] [--seed S] [--cases N] | --records YEAR N FOLDER | --stream YEAR N FOLDER");
         return ExitCode::from(2);
     };
 

@@ -1,4 +1,5 @@
-//! Document 01, with requests 3 and 4 of document 02, in plain Rust, written from the paper alone: the reader, the writer and the run from a record to its result list.
+//! Document 01, with requests 1, 3 and 4 of document 02, in plain Rust, written from the paper alone: the reader, the writer and the run from a record to its
+//! result list.
 //!
 //! The differential test holds the proved engine against it, and the benchmark measures the engine beside it.
 //! Each answer is `Ok`, or `Err` with the number of the first question that says no; an `Err` leaves the lent buffer as it was.
@@ -19,6 +20,8 @@ const CUMULATIVE_MAX: i64 = 100_000_000_000;
 const ULTIMATE_MAX: u64 = 1_000_000_000_000;
 const TAIL_MAX: u64 = 5 * S;
 const FACTOR_MAX: u64 = 50 * M;
+/// The first valuation year whose ULAE ratio is corrected for growth.
+const FIRST_CORRECTED: u64 = 2027;
 
 const K_BITS: usize = 4;
 const EXPOSURE_BITS: usize = 20;
@@ -338,6 +341,35 @@ fn tail_payments(figures: &Record) -> Result<[u64; YEARS], u64> {
     Ok(tails)
 }
 
+/// The ULAE ratio under growth, of the plain one: questions 15 to 17.
+fn corrected(figures: &Record, ultimates: &[u64; YEARS], ratio: u64) -> Result<u64, u64> {
+    let k = figures.k;
+    // The last increment of each row is paid in the latest year.
+    let mut end = 0;
+    let mut paid = 0;
+    for i in 0..=k {
+        end += k + 1 - i;
+        paid += figures.increments[end - 1];
+    }
+    if paid < 1 {
+        return Err(15);
+    }
+    // What development year j reports in the latest year is of origin year k − j.
+    let pairs = figures.reporting[..=k]
+        .iter()
+        .zip(ultimates[..=k].iter().rev());
+    let reported = pairs.map(|(share, ultimate)| share * ultimate).sum::<u64>() / M;
+    let divisor = M - figures.weight + figures.weight * reported / paid as u64;
+    if divisor == 0 {
+        return Err(16);
+    }
+    let corrected = ratio * M / divisor;
+    if corrected > M {
+        return Err(17);
+    }
+    Ok(corrected)
+}
+
 /// The result list as it grows; it is worked out in the order in which it is listed, but for the tail payments, which end it.
 struct List<'a, const ROOM: usize> {
     entries: &'a mut [i64; ROOM],
@@ -359,8 +391,8 @@ impl<const ROOM: usize> List<'_, ROOM> {
     }
 }
 
-/// Runs from a record to its result list: questions 1 to 14, and 18 and 19 before 11.
-pub fn run(record: &[u8], results: &mut [i64]) -> Result<(), u64> {
+/// Runs from a record to its result list for a valuation year: questions 1 to 14, with 18 and 19 before 11 and, from 2027 on, 15 to 17 after 12.
+pub fn run(valuation_year: u64, record: &[u8], results: &mut [i64]) -> Result<(), u64> {
     let k = last_year(record)?;
     if results.len() < entries(k) {
         return Err(3);
@@ -369,23 +401,31 @@ pub fn run(record: &[u8], results: &mut [i64]) -> Result<(), u64> {
     let results = &mut results[..entries(k)];
     // Four lengths of room, so that a short list need not clear the longest.
     match k {
-        1..=2 => fill::<{ entries(2) }>(&figures, results),
-        3..=5 => fill::<{ entries(5) }>(&figures, results),
-        6..=9 => fill::<{ entries(9) }>(&figures, results),
-        _ => fill::<LONGEST>(&figures, results),
+        1..=2 => fill::<{ entries(2) }>(valuation_year, &figures, results),
+        3..=5 => fill::<{ entries(5) }>(valuation_year, &figures, results),
+        6..=9 => fill::<{ entries(9) }>(valuation_year, &figures, results),
+        _ => fill::<LONGEST>(valuation_year, &figures, results),
     }
 }
 
 /// The results are lent, and a later question may still say no: the list grows in a room of its own first.
-fn fill<const ROOM: usize>(figures: &Record, results: &mut [i64]) -> Result<(), u64> {
+fn fill<const ROOM: usize>(
+    valuation_year: u64,
+    figures: &Record,
+    results: &mut [i64],
+) -> Result<(), u64> {
     let mut list = [0; ROOM];
-    work_out(figures, &mut list)?;
+    work_out(valuation_year, figures, &mut list)?;
     results.copy_from_slice(&list[..results.len()]);
     Ok(())
 }
 
 /// The questions from 6 on, and the list where all say yes.
-fn work_out<const ROOM: usize>(figures: &Record, entries: &mut [i64; ROOM]) -> Result<(), u64> {
+fn work_out<const ROOM: usize>(
+    valuation_year: u64,
+    figures: &Record,
+    entries: &mut [i64; ROOM],
+) -> Result<(), u64> {
     let k = figures.k;
     let mut list = List { entries, len: 0 };
 
@@ -482,7 +522,10 @@ fn work_out<const ROOM: usize>(figures: &Record, entries: &mut [i64; ROOM]) -> R
     if paid < 1 || expense > paid {
         return Err(12);
     }
-    let ratio = M * expense / paid;
+    let mut ratio = M * expense / paid;
+    if valuation_year >= FIRST_CORRECTED {
+        ratio = corrected(figures, &ultimates, ratio)?;
+    }
     let mut unreported = [0; YEARS];
     let mut reserves = [0; YEARS];
     let mut still_to_report = 0;

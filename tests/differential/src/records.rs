@@ -68,11 +68,14 @@ pub fn account(k: usize) -> Given {
     }
 }
 
+/// A valuation year in which every question is asked.
+pub const ALL_ASKED: u64 = 2027;
+
 /// The account of k + 1 years, changed so that this question is the first that says no, and says it late: the work of all questions before it is done.
 /// `None` where the change does not bring that answer about: 3 never, for it is asked of the buffer, and others for some k.
 pub fn refused(k: usize, question: u64) -> Option<Vec<u8>> {
     let record = changed(k, question)?;
-    let answer = paper::run(&record, &mut [0; paper::LONGEST]);
+    let answer = paper::run(ALL_ASKED, &record, &mut [0; paper::LONGEST]);
     (answer == Err(question)).then_some(record)
 }
 
@@ -145,6 +148,32 @@ fn changed(k: usize, question: u64) -> Option<Vec<u8>> {
             a.indices.fill(5_000_000);
         }
         12 => a.ulae[k] = 10_000_000_000,
+        // A year in the middle has many claims, at its averages, and in the latest year takes back what all others pay.
+        15 => {
+            let i = k / 2 + 1;
+            let row = cell(k, i, 0)..=cell(k, i, k - i);
+            a.exposures[i] *= 40;
+            a.increments[row].iter_mut().for_each(|paid| *paid *= 40);
+            let all: i64 = (0..=k).map(|i| a.increments[cell(k, i, k - i)]).sum();
+            a.increments[cell(k, i, k - i)] -= all;
+        }
+        // All is reported in the last development year, and of year 0, the only one that is in it, next to nothing is paid.
+        16 => {
+            a.reporting.fill(0);
+            a.reporting[k] = 1_000_000;
+            a.weight = 1_000_000;
+            a.increments[..=k].fill(0);
+            a.increments[0] = 1;
+            a.tail = 0;
+        }
+        // The plain ratio is 1, and less is reported in the latest year than is paid.
+        17 => {
+            a.reporting.fill(0);
+            a.reporting[k] = 1_000_000;
+            a.weight = 1_000_000;
+            a.ulae.fill(0);
+            a.ulae[0] = a.increments.iter().sum::<i64>() as u64;
+        }
         13 => a.increments[k] = 50 * a.increments[..k].iter().sum::<i64>(),
         14 => {
             (0..k).for_each(|i| a.increments[cell(k, i, 0)] /= 20);

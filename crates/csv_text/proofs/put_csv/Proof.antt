@@ -1,5 +1,5 @@
--- The heading and the groups of sections follow one another (put-append, put-five). Assumes nothing.
-use Rattle.composing.proofs.Puts.{put-append, put-five}
+-- The list and the valuation follow one another (put-append). Assumes nothing.
+use Rattle.composing.proofs.Puts.{put-append}
 use Rattle.csv_text.specs.Csv.{csvOf}
 use borrow.Author.Needs.{needs}
 use Rattle.csv_text.proofs.put_csv.Statement.{statement}
@@ -7,26 +7,12 @@ use Rattle.csv_text.proofs.put_csv.Tie as tie
 
 returns : tie.Need-returns
 unfolding csvOf
-returns c =
-    put-append
-    (c .before .before .before .before .before .before .before .before .before .before .before .before .before .before .before .before .before .before .before .before .before .before .put-bytes .ensures)
-    (put-five
-    (c .before .before .before .before .before .before .before .before .before .before .before .before .before .before .before .before .before .before .put-separation .ensures)
-    (c .before .before .before .before .before .before .before .before .before .before .before .before .before .before .put-completion .ensures)
-    (c .before .before .before .before .before .before .before .before .before .before .put-expense .ensures)
-    (c .before .before .before .before .before .before .put-ladder .ensures)
-    (c .before .before .put-tails .ensures))
+returns c = put-append (c .before .before .before .before .before .before .put-list .ensures) (c .before .before .put-valuation .ensures)
 
 pub put-csv-spec : {M : Type 1} → statement M
 put-csv-spec =
     tie.close
     (tie.spec
-    (λ c κs. search needs)
-    (λ c. search needs)
-    (λ c κs. search needs)
-    (λ c κs. search needs)
-    (λ c κs. search needs)
-    (λ c κs. search needs)
     (λ c κs. search needs)
     (λ c κs. search needs)
     (λ c. search needs)

@@ -35,7 +35,7 @@ returns c =
     let s = start at in
     let packed = s .args .packed .now in
     let out = s .args .results .now in
-    ran packed out (bytes at) (at .opens .result) _ (first-refused (figuresOf packed) out (openingQuestions packed) _ (at .opens .result) (sym (at .opens .ensures)) (c .if1 .taken))
+    ran (s .args .valuation-year) packed out (bytes at) (at .opens .result) _ (first-refused (s .args .valuation-year) (figuresOf packed) out (openingQuestions packed) _ (at .opens .result) (sym (at .opens .ensures)) (c .if1 .taken))
 
 yes-opening : (c : tie.Else1) → firstNo (openingQuestions (start (c .before) .args .packed .now)) ≡ 0
 yes-opening c = sym (c .before .opens .ensures) ∙ c .if1 .left
@@ -53,9 +53,9 @@ returns-2 c =
     let packed = s .args .packed .now in
     let out = s .args .results .now in
     let no = sym (c .before .holds-list .ensures) ∙ not-true (c .before .holds-list .result) (c .if2 .taken) in
-    ran packed out (bytes (one .before)) 3 out
-    (later (figuresOf packed) out (openingQuestions packed) _ out 3 refl (yes-opening one)
-    (first-refused (figuresOf packed) out ((3, _) ∷ []) _ 3 (one-no 3 _ no) (λ z. omega arith)))
+    ran (s .args .valuation-year) packed out (bytes (one .before)) 3 out
+    (later (s .args .valuation-year) (figuresOf packed) out (openingQuestions packed) _ out 3 refl (yes-opening one)
+    (first-refused (s .args .valuation-year) (figuresOf packed) out ((3, _) ∷ []) _ 3 (one-no 3 _ no) (λ z. omega arith)))
 
 yes-room : (c : tie.Else2) →
     let s = start (c .before .before .before) in
@@ -84,9 +84,9 @@ returns-3 c =
     let packed = s .args .packed .now in
     let out = s .args .results .now in
     let f = figuresOf packed in
-    ran packed out (bytes (one .before)) (run .run-record .result) _
-    (later f out (openingQuestions packed) _ _ _ refl (yes-opening one)
-    (later f out ((3, _) ∷ []) _ _ _ refl (one-yes 3 _ (yes-room two)) (run .run-record .ensures)))
+    ran (s .args .valuation-year) packed out (bytes (one .before)) (run .run-record .result) _
+    (later (s .args .valuation-year) f out (openingQuestions packed) _ _ _ refl (yes-opening one)
+    (later (s .args .valuation-year) f out ((3, _) ∷ []) _ _ _ refl (one-yes 3 _ (yes-room two)) (run .run-record .ensures)))
 
 pub doonamurk-run-spec : {M : Type 1} → statement M
 doonamurk-run-spec =

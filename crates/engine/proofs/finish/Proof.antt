@@ -4,16 +4,20 @@ use borrow.Author.Tests.{not-true, not-false}
 use native.Mathlib.Omega.{arith}
 use mathlib.Core.Path.{_≡_, refl, sym, ap, _∙_}
 use mathlib.Core.Bool.{true}
-use mathlib.Core.List.{[], _∷_}
+use mathlib.Core.List.{List, [], _∷_}
+use Prim.Native.Nat.{ℕ}
+use lib.IntN.{ℤ}
 use lib.Seq.{sets}
 use Rattle.rules.specs.Lists.{every}
+use Rattle.rules.specs.Questions.{firstNo}
 use Rattle.rules.specs.Record.{figures, Figures}
 use Rattle.rules.specs.Completion.{ultimatesPass}
 use Rattle.rules.specs.Expense.{paidTotal, ulaeTotal, ratioPass}
+use Rattle.rules.specs.Growth.{growthQuestions}
 use Rattle.rules.specs.Ladder.{developed, base, factorsPass, completedAll, completedPass}
-use Rattle.rules.specs.Results.{paidIn, provisionsIn, developmentIn}
-use Rattle.rules.specs.Engine.{completionQuestions, ratioQuestions, ladderQuestions, lastQuestions}
-use Rattle.engine.specs.Stages.{Separated, Tailed}
+use Rattle.rules.specs.Results.{paidIn, provisionsIn, developmentIn, plainRatioIn, usedRatioIn}
+use Rattle.rules.specs.Engine.{completionQuestions, ratioQuestions, correctionQuestions, ladderQuestions, lastQuestions}
+use Rattle.engine.specs.Stages.{Separated, Tailed, Answers}
 use Rattle.engine.proofs.RunQuestions.{one-no, one-yes, refused, accepted, first-refused, later}
 use Rattle.engine.proofs.Later as stage
 use Rattle.engine.proofs.Later.{Worked}
@@ -71,7 +75,7 @@ unfolding lastQuestions completionQuestions
 returns c =
     let s = start1 (c .before) in
     let no = sym (eleven (c .before)) ∙ not-true (c .before .complete .result) (c .if1 .taken) in
-    first-refused (F s) (s .args .out .now) (completionQuestions (F s)) _ 11 (one-no 11 _ no) (λ z. omega arith)
+    first-refused (s .args .year) (F s) (s .args .out .now) (completionQuestions (F s)) _ 11 (one-no 11 _ no) (λ z. omega arith)
 
 sum-of-requires : tie.Need-sum-of-requires
 sum-of-requires c κs =
@@ -113,151 +117,217 @@ returns-2 c =
     let f = F s in
     let out = s .args .out .now in
     let no = sym (twelve (c .before)) ∙ not-true (c .before .ratio-passes .result) (c .if2 .taken) in
-    later f out (completionQuestions f) _ out 12 refl (one-yes 11 _ (yes-eleven (else1 (c .before))))
-    (first-refused f out (ratioQuestions f) _ 12 (one-no 12 _ no) (λ z. omega arith))
+    later (s .args .year) f out (completionQuestions f) _ out 12 refl (one-yes 11 _ (yes-eleven (else1 (c .before))))
+    (first-refused (s .args .year) f out (ratioQuestions f) _ 12 (one-no 12 _ no) (λ z. omega arith))
 
-development-factors-requires : tie.Need-development-factors-requires
-development-factors-requires c κs = let s = start2 (c .before .before) in stage.ladderable (F s) _ _ _ _ _ (separated s)
-
--- question 13
-abbrev else2 : tie.After-development-factors → tie.Else2
-else2 c = c .before .before
-
-abbrev start3 : tie.After-development-factors → tie.Start
-start3 c = start2 (else2 c .before)
-
-thirteen : (c : tie.After-development-factors) →
-    let f = F (start3 c) in
-    c .development-factors .result ≡ factorsPass (f .k) (developed (f .k) (f .increments)) (base (f .k) (f .increments))
-thirteen c = let s = start3 c in c .development-factors .ensures .0 ∙ stage.thirteen-is (F s) _ _ _ _ _ (separated s)
-
-yes-thirteen : (c : tie.Else3) →
-    let f = F (start3 (c .before)) in
-    factorsPass (f .k) (developed (f .k) (f .increments)) (base (f .k) (f .increments)) ≡ true
-yes-thirteen c = sym (thirteen (c .before)) ∙ not-false (c .before .development-factors .result) (c .if3 .left)
-
-returns-3 : tie.Need-returns-3
-unfolding lastQuestions completionQuestions ratioQuestions ladderQuestions every
-returns-3 c =
-    let at = c .before in
-    let s = start3 at in
-    let f = F s in
-    let out = s .args .out .now in
-    let no = sym (thirteen at) ∙ not-true (at .development-factors .result) (c .if3 .taken) in
-    later f out (completionQuestions f) _ out 13 refl (one-yes 11 _ (yes-eleven (else1 (else2 at .before))))
-    (later f out (ratioQuestions f) _ out 13 refl (one-yes 12 _ (yes-twelve (else2 at)))
-    (first-refused f out ((13, _) ∷ []) _ 13 (one-no 13 _ no) (λ z. omega arith)))
-
-complete-requires-2 : tie.Need-complete-requires-2
-complete-requires-2 c κs =
-    let else3 = c .before .before in
-    let at = else3 .before in
-    let s = start3 at in
-    let h = separated s in
-    let found = stage.factors-are (F s) _ _ _ _ _ h (yes-thirteen else3) _ (at .development-factors .ensures .1) in
-    (h .sound .few, (stage.paid-fits (F s) _ _ _ _ _ h, stage.factors-fit (F s) _ _ _ _ _ h (yes-thirteen else3) _ found))
-
--- question 14
-abbrev else3 : tie.After-complete2 → tie.Else3
-else3 c = c .before .before .before
-
-abbrev start4 : tie.After-complete2 → tie.Start
-start4 c = start3 (else3 c .before)
-
-fourteen : (c : tie.After-complete2) →
-    let f = F (start4 c) in
-    c .complete2 .result ≡ completedPass (completedAll (f .k) (paidIn f) (developmentIn f))
-fourteen c =
-    let s = start4 c in
-    let h = separated s in
-    let yes13 = yes-thirteen (else3 c) in
-    let found = stage.factors-are (F s) _ _ _ _ _ h yes13 _ (else3 c .before .development-factors .ensures .1) in
-    c .complete2 .ensures .0 ∙ stage.fourteen-is (F s) _ _ _ _ _ h yes13 _ found
-
-yes-fourteen : (c : tie.Else4) →
-    let f = F (start4 (c .before)) in
-    completedPass (completedAll (f .k) (paidIn f) (developmentIn f)) ≡ true
-yes-fourteen c = sym (fourteen (c .before)) ∙ not-false (c .before .complete2 .result) (c .if4 .left)
-
-returns-4 : tie.Need-returns-4
-unfolding lastQuestions completionQuestions ratioQuestions ladderQuestions every
-returns-4 c =
-    let at = c .before in
-    let s = start4 at in
-    let f = F s in
-    let out = s .args .out .now in
-    let no = sym (fourteen at) ∙ not-true (at .complete2 .result) (c .if4 .taken) in
-    let two = else2 (else3 at .before) in
-    later f out (completionQuestions f) _ out 14 refl (one-yes 11 _ (yes-eleven (else1 (two .before))))
-    (later f out (ratioQuestions f) _ out 14 refl (one-yes 12 _ (yes-twelve two))
-    (later f out ((13, _) ∷ []) _ out 14 refl (one-yes 13 _ (yes-thirteen (else3 at)))
-    (refused f out ((14, _) ∷ []) 14 (one-no 14 _ no) (λ z. omega arith))))
-
-ratio-of-requires : tie.Need-ratio-of-requires
+plain-ratio-requires : tie.Need-plain-ratio-requires
 unfolding ulaeTotal
-ratio-of-requires c κs =
-    let two = else2 (else3 (c .before .before .before .before .before) .before) in
-    let at = two .before in
+plain-ratio-requires c κs =
+    let at = c .before in
     let s = start2 at in
     let h = separated s in (
-      stage.paid-least (F s) _ _ _ _ _ h _ _ (sym (at .ratio-passes .ensures) ∙ not-false (at .ratio-passes .result) (two .if2 .left)),
+      stage.paid-least (F s) _ _ _ _ _ h _ _ (sym (at .ratio-passes .ensures) ∙ not-false (at .ratio-passes .result) (c .if2 .left)),
       omega (arith, at .before .sum-of2 .ensures, stage.spent-fits (F s) _ _ _ _ _ h),
     )
 
--- all that was worked out
-abbrev else4 : tie.After-ratio-of → tie.Else4
-else4 c = c .before .before .before .before .before
+-- the plain ratio and the provisions are the figures' own
+plain-is : (c : tie.After-plain-ratio) → c .plain-ratio .result ≡ plainRatioIn (F (start2 (c .before .before)))
+plain-is c =
+    let sums = c .before .before .before in
+    let s = start2 (c .before .before) in
+    c .plain-ratio .ensures ∙ stage.plain-is (F s) _ _ _ _ _ (separated s) _ _ (sums .before .before .sum-of .ensures) (sums .sum-of2 .ensures)
 
-abbrev start5 : tie.After-ratio-of → tie.Start
+provisions-are : (c : tie.Else1) → c .before .complete .last .1 .1 .1 .1 .1 .1 .1 .0 ≡ provisionsIn (F (start1 (c .before)))
+provisions-are c =
+    let s = start1 (c .before) in
+    let filled = c .before .before .before .before .before .fill-levels .ensures in
+    stage.provisions-are (F s) _ _ _ _ _ (separated s) _ filled _ (tailed s) (yes-eleven c) _ (c .before .complete .ensures .1 .1)
+
+used-ratio-requires : tie.Need-used-ratio-requires
+used-ratio-requires c κs =
+    let at = c .before in
+    let two = at .before in
+    let s = start2 (two .before) in
+    let one = else1 (two .before) in
+    (separated s .sound .increments, stage.reservable (F s) _ _ _ _ _ (separated s) _ _ (provisions-are one) (plain-is at) (yes-eleven one) (yes-twelve two))
+
+-- questions 15, 16 and 17
+abbrev else2 : tie.After-used-ratio → tie.Else2
+else2 c = c .before .before .before
+
+abbrev start3 : tie.After-used-ratio → tie.Start
+start3 c = start2 (else2 c .before)
+
+correction : (c : tie.After-used-ratio) → firstNo (correctionQuestions (start3 c .args .year) (F (start3 c))) ≡ c .used-ratio .result .answer
+correction c =
+    let s = start3 c in
+    stage.correction-is (F s) _ _ _ _ _ (separated s) _ _ (provisions-are (else1 (else2 c .before))) (plain-is (c .before .before)) (s .args .year) _ (c .used-ratio .ensures .0)
+
+returns-3 : tie.Need-returns-3
+unfolding lastQuestions completionQuestions ratioQuestions every
+returns-3 c =
+    let at = c .before .before in
+    let s = start3 at in
+    let f = F s in
+    let year = s .args .year in
+    let out = s .args .out .now in
+    let n = at .used-ratio .result .answer in
+    later year f out (completionQuestions f) _ out n refl (one-yes 11 _ (yes-eleven (else1 (else2 at .before))))
+    (later year f out (ratioQuestions f) _ out n refl (one-yes 12 _ (yes-twelve (else2 at)))
+    (first-refused year f out (correctionQuestions year f) _ n (correction at) (c .if3 .taken)))
+
+abbrev used3 : tie.Else3 → tie.After-used-ratio
+used3 c = c .before .before
+
+yes-correction : (c : tie.Else3) → firstNo (correctionQuestions (start3 (used3 c) .args .year) (F (start3 (used3 c)))) ≡ 0
+yes-correction c = correction (used3 c) ∙ c .if3 .left
+
+-- the ratio is the one that the year uses
+used-is : (c : tie.Else3) → used3 c .used-ratio .result .ratio ≡ usedRatioIn (start3 (used3 c) .args .year) (F (start3 (used3 c)))
+used-is c =
+    let at = used3 c in
+    let s = start3 at in
+    stage.used-is (F s) _ _ _ _ _ (separated s) _ _ (provisions-are (else1 (else2 at .before))) (plain-is (at .before .before)) (s .args .year) _ _ (c .if3 .left) (at .used-ratio .ensures .1)
+
+development-factors-requires : tie.Need-development-factors-requires
+development-factors-requires c κs = let s = start3 (used3 (c .before)) in stage.ladderable (F s) _ _ _ _ _ (separated s)
+
+-- question 13
+abbrev else3 : tie.After-development-factors → tie.Else3
+else3 c = c .before .before
+
+abbrev start4 : tie.After-development-factors → tie.Start
+start4 c = start3 (used3 (else3 c))
+
+thirteen : (c : tie.After-development-factors) →
+    let f = F (start4 c) in
+    c .development-factors .result ≡ factorsPass (f .k) (developed (f .k) (f .increments)) (base (f .k) (f .increments))
+thirteen c = let s = start4 c in c .development-factors .ensures .0 ∙ stage.thirteen-is (F s) _ _ _ _ _ (separated s)
+
+yes-thirteen : (c : tie.Else4) →
+    let f = F (start4 (c .before)) in
+    factorsPass (f .k) (developed (f .k) (f .increments)) (base (f .k) (f .increments)) ≡ true
+yes-thirteen c = sym (thirteen (c .before)) ∙ not-false (c .before .development-factors .result) (c .if4 .left)
+
+-- the questions before 13 have said yes
+before-13 : (c : tie.Else3) (left : List ℤ) (n : ℕ) →
+    let s = start3 (used3 c) in
+    Answers (ladderQuestions (F s)) (s .args .year) (F s) (s .args .out .now) left n → Answers (lastQuestions (s .args .year) (F s)) (s .args .year) (F s) (s .args .out .now) left n
+unfolding lastQuestions completionQuestions ratioQuestions correctionQuestions growthQuestions every
+before-13 c left n a =
+    let at = used3 c in
+    let s = start3 at in
+    let f = F s in
+    let year = s .args .year in
+    let out = s .args .out .now in
+    later year f out (completionQuestions f) _ left n refl (one-yes 11 _ (yes-eleven (else1 (else2 at .before))))
+    (later year f out (ratioQuestions f) _ left n refl (one-yes 12 _ (yes-twelve (else2 at)))
+    (later year f out (correctionQuestions year f) _ left n refl (yes-correction c) a))
+
+returns-4 : tie.Need-returns-4
+unfolding ladderQuestions
+returns-4 c =
+    let at = c .before in
+    let s = start4 at in
+    let no = sym (thirteen at) ∙ not-true (at .development-factors .result) (c .if4 .taken) in
+    before-13 (else3 at) _ 13 (first-refused (s .args .year) (F s) (s .args .out .now) ((13, _) ∷ []) _ 13 (one-no 13 _ no) (λ z. omega arith))
+
+complete-requires-2 : tie.Need-complete-requires-2
+complete-requires-2 c κs =
+    let else4 = c .before .before in
+    let at = else4 .before in
+    let s = start4 at in
+    let h = separated s in
+    let found = stage.factors-are (F s) _ _ _ _ _ h (yes-thirteen else4) _ (at .development-factors .ensures .1) in
+    (h .sound .few, (stage.paid-fits (F s) _ _ _ _ _ h, stage.factors-fit (F s) _ _ _ _ _ h (yes-thirteen else4) _ found))
+
+-- question 14
+abbrev else4 : tie.After-complete2 → tie.Else4
+else4 c = c .before .before .before
+
+abbrev start5 : tie.After-complete2 → tie.Start
 start5 c = start4 (else4 c .before)
 
-work : (c : tie.After-ratio-of) →
-    let three = else3 (else4 c .before) in
-    let one = else1 (else2 (three .before) .before) in
-    Worked (F (start5 c)) (one .before .before .before .before .before .fill-levels .last .1 .1 .1 .0) (one .before .complete .last .1 .1 .1 .1 .1 .1 .0) (one .before .complete .last .1 .1 .1 .1 .1 .1 .1 .0) (c .ratio-of .result)
-    (three .before .development-factors .last .1 .1 .1 .0) (else4 c .before .complete2 .last .1 .1 .1 .0)
+fourteen : (c : tie.After-complete2) →
+    let f = F (start5 c) in
+    c .complete2 .result ≡ completedPass (completedAll (f .k) (paidIn f) (developmentIn f))
+fourteen c =
+    let s = start5 c in
+    let h = separated s in
+    let yes13 = yes-thirteen (else4 c) in
+    let found = stage.factors-are (F s) _ _ _ _ _ h yes13 _ (else4 c .before .development-factors .ensures .1) in
+    c .complete2 .ensures .0 ∙ stage.fourteen-is (F s) _ _ _ _ _ h yes13 _ found
+
+yes-fourteen : (c : tie.Else5) →
+    let f = F (start5 (c .before)) in
+    completedPass (completedAll (f .k) (paidIn f) (developmentIn f)) ≡ true
+yes-fourteen c = sym (fourteen (c .before)) ∙ not-false (c .before .complete2 .result) (c .if5 .left)
+
+returns-5 : tie.Need-returns-5
+unfolding ladderQuestions every
+returns-5 c =
+    let at = c .before in
+    let s = start5 at in
+    let f = F s in
+    let year = s .args .year in
+    let out = s .args .out .now in
+    let no = sym (fourteen at) ∙ not-true (at .complete2 .result) (c .if5 .taken) in
+    before-13 (else3 (else4 at .before)) _ 14
+    (later year f out ((13, _) ∷ []) _ out 14 refl (one-yes 13 _ (yes-thirteen (else4 at)))
+    (refused year f out ((14, _) ∷ []) 14 (one-no 14 _ no) (λ z. omega arith)))
+
+-- all that was worked out
+work : (c : tie.Else5) →
+    let four = else4 (c .before) in
+    let three = else3 (four .before) in
+    let one = else1 (else2 (used3 three) .before) in
+    Worked (start5 (c .before) .args .year) (F (start5 (c .before))) (one .before .before .before .before .before .fill-levels .last .1 .1 .1 .0) (one .before .complete .last .1 .1 .1 .1 .1 .1 .0)
+    (one .before .complete .last .1 .1 .1 .1 .1 .1 .1 .0) (used3 three .used-ratio .result .ratio) (four .before .development-factors .last .1 .1 .1 .0) (c .before .complete2 .last .1 .1 .1 .0)
 work c =
-    let last = else4 c .before in
-    let three = else3 last in
-    let two = else2 (three .before) in
+    let four = else4 (c .before) in
+    let three = else3 (four .before) in
+    let two = else2 (used3 three) in
     let one = else1 (two .before) in
     let filled = one .before .before .before .before .before .fill-levels .ensures in
-    let f = F (start5 c) in
-    let h = separated (start5 c) in
-    let factors = stage.factors-are f _ _ _ _ _ h (yes-thirteen three) _ (three .before .development-factors .ensures .1) in
-    let sums = two .before .before in
-    stage.worked f (yes-eleven one) (yes-twelve two) (yes-thirteen three) (yes-fourteen (else4 c))
+    let s = start5 (c .before) in
+    let f = F s in
+    let h = separated s in
+    let factors = stage.factors-are f _ _ _ _ _ h (yes-thirteen four) _ (four .before .development-factors .ensures .1) in
+    stage.worked (s .args .year) f (yes-eleven one) (yes-twelve two) (yes-correction three) (yes-thirteen four) (yes-fourteen c)
     (stage.ahead-is f _ _ _ _ _ h _ filled)
-    (stage.payments-are f _ _ _ _ _ h _ filled _ (tailed (start5 c)) (yes-eleven one) _ (one .before .complete .ensures .1 .0))
-    (stage.provisions-are f _ _ _ _ _ h _ filled _ (tailed (start5 c)) (yes-eleven one) _ (one .before .complete .ensures .1 .1))
-    (c .ratio-of .ensures ∙ stage.ratio-is f _ _ _ _ _ h _ _ (sums .before .before .sum-of .ensures) (sums .sum-of2 .ensures))
+    (stage.payments-are f _ _ _ _ _ h _ filled _ (tailed s) (yes-eleven one) _ (one .before .complete .ensures .1 .0))
+    (provisions-are one)
+    (used-is three)
     factors
-    (stage.completed-are f _ _ _ _ _ h (yes-thirteen three) _ _ factors (yes-fourteen (else4 c)) (last .complete2 .ensures .1))
+    (stage.completed-are f _ _ _ _ _ h (yes-thirteen four) _ _ factors (yes-fourteen c) (c .before .complete2 .ensures .1))
+
+abbrev last : tie.After-completed2 → tie.Else5
+last c = c .before .before .before .before .before .before
 
 put-results-requires : tie.Need-put-results-requires
 put-results-requires c κs =
-    let at = c .before .before in
-    let s = start5 at in
-    (stage.printable (F s) _ _ _ _ _ (separated s) _ _ _ _ _ _ (work at) _ (tailed s), s .pre .1 .1)
+    let at = last c in
+    let s = start5 (at .before) in
+    (stage.printable (F s) _ _ _ _ _ (separated s) _ _ _ _ _ _ (s .args .year) (work at) _ (tailed s), s .pre .1 .1)
 
 same-length : tie.Need-same-length
 same-length c = search needs
 
-returns-5 : tie.Need-returns-5
-unfolding lastQuestions completionQuestions ratioQuestions ladderQuestions every
-returns-5 c =
+returns-6 : tie.Need-returns-6
+unfolding ladderQuestions every
+returns-6 c =
     let put = c .before in
-    let at = put .before .before .before in
-    let s = start5 at in
+    let at = last (put .before) in
+    let s = start5 (at .before) in
     let f = F s in
+    let year = s .args .year in
     let out = s .args .out .now in
     let left = put .put-results .last .0 in
     let w = work at in
-    later f out (completionQuestions f) _ left 0 refl (one-yes 11 _ (w .eleven))
-    (later f out (ratioQuestions f) _ left 0 refl (one-yes 12 _ (w .twelve))
-    (later f out ((13, _) ∷ []) _ left 0 refl (one-yes 13 _ (w .thirteen))
-    (accepted f out ((14, _) ∷ []) left (one-yes 14 _ (w .fourteen))
-    (put .put-results .ensures ∙ ap (sets out 0) (stage.printed-is f _ _ _ _ _ (separated s) _ _ _ _ _ _ w _ (tailed s))))))
+    before-13 (else3 (else4 (at .before) .before)) left 0
+    (later year f out ((13, _) ∷ []) _ left 0 refl (one-yes 13 _ (w .thirteen))
+    (accepted year f out ((14, _) ∷ []) left (one-yes 14 _ (w .fourteen))
+    (put .put-results .ensures ∙ ap (sets out 0) (stage.printed-is f _ _ _ _ _ (separated s) _ _ _ _ _ _ year w _ (tailed s)))))
 
 pub finish-spec : {M : Type 1} → statement M
 finish-spec =
@@ -273,11 +343,13 @@ finish-spec =
     sum-of-requires-2
     ratio-passes-requires
     returns-2
-    development-factors-requires
+    plain-ratio-requires
+    used-ratio-requires
     returns-3
-    complete-requires-2
+    development-factors-requires
     returns-4
-    ratio-of-requires
+    complete-requires-2
+    returns-5
     put-results-requires
     same-length
-    returns-5)
+    returns-6)

@@ -41,7 +41,7 @@ unfolding figureQuestions
 returns c =
     let s = start1 (c .before) in
     let no = sym (c .before .fill-rows .ensures .0) ∙ not-true (c .before .fill-rows .result) (c .if1 .taken) in
-    first-refused (F s) (s .args .out .now) ((6, _) ∷ []) _ 6 (one-no 6 _ no) (λ z. omega arith)
+    first-refused (s .args .year) (F s) (s .args .out .now) ((6, _) ∷ []) _ 6 (one-no 6 _ no) (λ z. omega arith)
 
 -- the square, and the answer of questions 7 to 10
 square-is : (c : tie.Else1) → c .before .fill-rows .last .1 .1 .1 .0 ≡ squareOf (F (start1 (c .before)))
@@ -76,8 +76,8 @@ returns-2 c =
     let f = F s in
     let out = s .args .out .now in
     let n = at .separate-totals .result .answer in
-    later f out ((6, _) ∷ []) _ out n refl (one-yes 6 _ (yes-six six))
-    (first-refused f out (separationQuestions (squareOf f) (f .k)) _ n (sym (answer-is at)) (c .if2 .taken))
+    later (s .args .year) f out ((6, _) ∷ []) _ out n refl (one-yes 6 _ (yes-six six))
+    (first-refused (s .args .year) f out (separationQuestions (squareOf f) (f .k)) _ n (sym (answer-is at)) (c .if2 .taken))
 
 -- the separation is accepted
 abbrev separate2 : tie.Else2 → tie.After-separate-totals
@@ -109,9 +109,9 @@ returns-3 c =
     let f = F s in
     let out = s .args .out .now in
     let n = carried .carry-tail .result in
-    later f out ((6, _) ∷ []) _ out n refl (one-yes 6 _ (yes-six six))
-    (later f out (separationQuestions (squareOf f) (f .k)) _ out n refl (accepted-is two)
-    (first-refused f out (tailQuestions (f .k) (firstTailAverageOf f) (f .indices)) _ n (sym (carried .carry-tail .ensures .0)) (c .if3 .taken)))
+    later (s .args .year) f out ((6, _) ∷ []) _ out n refl (one-yes 6 _ (yes-six six))
+    (later (s .args .year) f out (separationQuestions (squareOf f) (f .k)) _ out n refl (accepted-is two)
+    (first-refused (s .args .year) f out (tailQuestions (f .k) (firstTailAverageOf f) (f .indices)) _ n (sym (carried .carry-tail .ensures .0)) (c .if3 .taken)))
 
 -- the tail is carried on
 tailed-is : (c : tie.Else3) →
@@ -159,9 +159,9 @@ returns-4 c =
     let s = start1 (six .before) in
     let f = F s in
     let out = s .args .out .now in
-    later f out ((6, _) ∷ []) _ _ _ refl (one-yes 6 _ (yes-six six))
-    (later f out (separationQuestions (squareOf f) (f .k)) (laterQuestions f) _ _ refl (accepted-is two)
-    (later f out (tailQuestions (f .k) (firstTailAverageOf f) (f .indices)) (lastQuestions f) _ _ refl (tailed-is three .passed) (call .finish .ensures)))
+    later (s .args .year) f out ((6, _) ∷ []) _ _ _ refl (one-yes 6 _ (yes-six six))
+    (later (s .args .year) f out (separationQuestions (squareOf f) (f .k)) (laterQuestions (s .args .year) f) _ _ refl (accepted-is two)
+    (later (s .args .year) f out (tailQuestions (f .k) (firstTailAverageOf f) (f .indices)) (lastQuestions (s .args .year) f) _ _ refl (tailed-is three .passed) (call .finish .ensures)))
 
 pub run-figures-spec : {M : Type 1} → statement M
 run-figures-spec =

@@ -28,7 +28,7 @@ returns c =
     let at = c .before .before in
     let s = start at in
     let packed = s .args .packed .now in
-    first-refused (figuresOf packed) (s .args .out .now) (fieldQuestions packed) _ (at .read .result .answer) (sym (at .read .ensures .0)) (c .if1 .taken)
+    first-refused (s .args .year) (figuresOf packed) (s .args .out .now) (fieldQuestions packed) _ (at .read .result .answer) (sym (at .read .ensures .0)) (c .if1 .taken)
 
 -- questions 4 and 5 have said yes
 yes-fields : (c : tie.Else1) → firstNo (fieldQuestions (start (c .before .before) .args .packed .now)) ≡ 0
@@ -53,11 +53,11 @@ figures-read c =
 
 run-figures-requires : tie.Need-run-figures-requires
 run-figures-requires c κs =
-    let year = c .before .before .before .before .before .before in
-    let at = year .before .before .before in
+    let last = c .before .before .before .before .before .before in
+    let at = last .before .before .before in
     let s = start at in
     let packed = s .args .packed .now in
-    (rw (figures-read year) (sound-figures packed (bytes at) (s .pre .0) (yes-fields (year .before))), rw (year .last-year-of .ensures .0) (s .pre .1))
+    (rw (figures-read last) (sound-figures packed (bytes at) (s .pre .0) (yes-fields (last .before))), rw (last .last-year-of .ensures .0) (s .pre .1))
 
 same-length : tie.Need-same-length
 same-length c = search needs
@@ -66,11 +66,11 @@ returns-2 : tie.Need-returns-2
 unfolding fieldQuestions every
 returns-2 c =
     let run = c .before in
-    let year = run .before .before .before .before .before .before .before in
-    let at = year .before .before .before in
+    let last = run .before .before .before .before .before .before .before in
+    let at = last .before .before .before in
     let s = start at in
     let packed = s .args .packed .now in
-    later (figuresOf packed) (s .args .out .now) (fieldQuestions packed) _ _ _ refl (yes-fields (year .before)) (rw (figures-read year) at (run .run-figures .ensures))
+    later (s .args .year) (figuresOf packed) (s .args .out .now) (fieldQuestions packed) _ _ _ refl (yes-fields (last .before)) (rw (figures-read last) at (run .run-figures .ensures))
 
 pub run-record-spec : {M : Type 1} → statement M
 run-record-spec =

@@ -13,7 +13,7 @@ returns : tie.Need-returns
 returns c =
     let s = c .before .before .before .before .before .before .before in
     let size : s .args .p + 2 + s .args .n - (s .args .p + 2) ≡ s .args .n = omega arith in
-    put-same (ap (λ (m : ℕ). listRow (take m (drop (s .args .p + 2) (s .args .s .now)))) size) (c .before .before .put-list-row .ensures)
+    put-same (ap (λ (m : ℕ). listRow (s .args .year) (take m (drop (s .args .p + 2) (s .args .s .now)))) size) (c .before .before .put-list-row .ensures)
 
 pub put-record-spec : {M : Type 1} → statement M
 put-record-spec =

@@ -1,10 +1,14 @@
 -- The arrays that are read again are those of the record's figures (figures-filled), so the paid cumulatives and the totals are (paid-filled, totals-filled).
 -- Assumes nothing.
 use native.Mathlib.Omega.{arith}
-use mathlib.Core.Path.{_≡_, refl, _∙_}
+use mathlib.Core.Path.{_≡_, refl, ap, _∙_}
+use mathlib.Core.List.{List, map}
+use lib.IntN.{ℤ}
+use lib.Seq.{sets}
+use Prim.Native.Nat.{ℕ}
 use Rattle.rules.specs.Packing.{Fit}
-use Rattle.rules.specs.Record.{figuresOf}
-use Rattle.reading.specs.Reading.{Sound}
+use Rattle.rules.specs.Record.{increment, valueOf, figuresOf}
+use Rattle.reading.specs.Reading.{Sound, rowRead}
 use Rattle.reading.proofs.FiguresRead.{Filled, figures-filled, sound-figures}
 use Rattle.reading.proofs.RowsRead.{years-known, opening-yes}
 use Rattle.outcomes.proofs.Again.{rows-ready, paid-filled, totals-filled}
@@ -27,7 +31,19 @@ exposures-are : (c : tie.After-read) → c .read .last .1 .0 ≡ figuresOf (star
 exposures-are c = c .read .ensures .1 .1 .0 ∙ arrays c .exposures
 
 increments-are : (c : tie.After-read) → c .read .last .1 .1 .0 ≡ figuresOf (start c .args .packed .now) .increments
-increments-are c = c .read .ensures .1 .1 .1 .0 ∙ arrays c .increments
+increments-are c =
+    let s = start c in
+    c .read .ensures .1 .1 .1 .0 ∙ ap (λ (l : List ℤ). sets l 0 (map (valueOf increment) (rowRead (s .args .packed .now) 2))) (s .pre .1 .1 .1 .0) ∙ arrays c .increments
+
+reporting-are : (c : tie.After-read) → c .read .last .1 .1 .1 .1 .0 ≡ figuresOf (start c .args .packed .now) .reporting
+reporting-are c =
+    let s = start c in
+    c .read .ensures .1 .1 .1 .1 .1 .0 ∙ ap (λ (l : List ℕ). sets l 0 (rowRead (s .args .packed .now) 4)) (s .pre .1 .1 .1 .1 .0) ∙ arrays c .reporting
+
+ulae-are : (c : tie.After-read) → c .read .last .1 .1 .1 .1 .1 .0 ≡ figuresOf (start c .args .packed .now) .ulae
+ulae-are c =
+    let s = start c in
+    c .read .ensures .1 .1 .1 .1 .1 .1 .0 ∙ ap (λ (l : List ℕ). sets l 0 (rowRead (s .args .packed .now) 6)) (s .pre .1 .1 .1 .1 .1 .0) ∙ arrays c .ulae
 
 year-is : (c : tie.After-last-year-of) → c .last-year-of .result ≡ figuresOf (start (c .before) .args .packed .now) .k
 unfolding figuresOf
@@ -45,7 +61,7 @@ fill-rows-requires c κs =
     let at = year .before in
     let s = start at in
     let ready = rows-ready (figuresOf (s .args .packed .now)) _ _ _ (year-is year) (exposures-are at) (increments-are at) (sound at) in
-    (ready .0, (ready .1 .0, (ready .1 .1, (refl, (refl, s .pre .1 .1 .1)))))
+    (ready .0, (ready .1 .0, (ready .1 .1, (refl, (refl, s .pre .1 .1 .1 .1 .1 .1)))))
 
 returns : tie.Need-returns
 returns c =
@@ -54,8 +70,20 @@ returns c =
     let s = start at in
     let f = figuresOf (s .args .packed .now) in
     let six = s .pre .1 .1 .0 in (
-      paid-filled f _ _ _ (year-is year) (exposures-are at) (increments-are at) six _ (c .fill-rows .ensures .1 .1 .1 .0),
-      totals-filled f _ _ _ (year-is year) (exposures-are at) (increments-are at) (sound at) six _ _ (c .fill-rows .ensures .1 .1 .1 .1),
+      at .read .ensures .1 .0 ∙ arrays at .weight,
+      (
+        increments-are at,
+        (
+          reporting-are at,
+          (
+            ulae-are at,
+            (
+              paid-filled f _ _ _ (year-is year) (exposures-are at) (increments-are at) six _ (c .fill-rows .ensures .1 .1 .1 .0),
+              totals-filled f _ _ _ (year-is year) (exposures-are at) (increments-are at) (sound at) six _ _ (c .fill-rows .ensures .1 .1 .1 .1),
+            ),
+          ),
+        ),
+      ),
     )
 
 pub read-again-spec : {M : Type 1} → statement M

@@ -1,5 +1,4 @@
 -- By the number. Assumes nothing.
-use mathlib.Core.Path.{sym, _∙_}
 use Rattle.composing.proofs.Puts.{put-same}
 use Rattle.refusals.proofs.Totals.{seventh-is, other-is}
 use borrow.Author.Needs.{needs}
@@ -7,7 +6,7 @@ use Rattle.refusals.proofs.put_refused.Statement.{statement}
 use Rattle.refusals.proofs.put_refused.Tie as tie
 
 put-totals-refusal-requires : tie.Need-put-totals-refusal-requires
-put-totals-refusal-requires c κs = sym (c .before .before .before .before .pre) ∙ c .before .if1 .taken
+put-totals-refusal-requires c κs = c .before .before .before .before .pre (c .before .if1 .taken)
 
 returns : tie.Need-returns
 returns c = let s = c .before .before .before .before .before .before .before .args in put-same (seventh-is (s .packed .now) (s .answer) (c .before .before .before .before .if1 .taken)) (c .before .before .put-totals-refusal .ensures)

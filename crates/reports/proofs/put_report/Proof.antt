@@ -1,31 +1,24 @@
--- A refusal in words (refusal-is), or the page of the list that the engine filled. Assumes nothing.
-use native.Mathlib.Omega.{arith}
-use Rattle.composing.proofs.Puts.{put-same}
-use Rattle.reports.proofs.PagesAccepted.{refusal-is}
+-- The input's year, and its record, the part from the record's start on (record-part). Assumes nothing.
+use Rattle.valuation.proofs.Inputs.{record-part}
 use borrow.Author.Needs.{needs}
 use Rattle.reports.proofs.put_report.Statement.{statement}
 use Rattle.reports.proofs.put_report.Tie as tie
 
 returns : tie.Need-returns
 returns c =
-    let s = c .before .before .before .before .before .before .before .before .before .before .args in
-    let run = c .before .before .before .before .before .before .doonamurk-run in
-    put-same (refusal-is (s .html) (s .packed .now) (run .result) (run .ensures .0) (c .before .before .before .before .if1 .taken)) (c .before .before .put-refusal-form .ensures)
-
-put-accepted-requires : tie.Need-put-accepted-requires
-put-accepted-requires c κs =
-    let run = c .before .before .before .before .doonamurk-run in
-    (omega arith, run .ensures .1 .0)
+    let from = c .before .before .before .before .before .before .record-start in
+    let input = c .before .before .before .before .before .before .before .before .before .args .input .now in
+    rw (c .before .before .before .before .before .year-of .ensures, record-part input (from .result) (from .ensures .1)) at (c .before .before .put-run .ensures)
 
 pub put-report-spec : {M : Type 1} → statement M
 put-report-spec =
     tie.close
     (tie.spec
-    (λ c. search needs)
     (λ c κs. search needs)
     (λ c κs. search needs)
     (λ c. search needs)
-    returns
-    put-accepted-requires
     (λ c. search needs)
-    (λ c. search needs))
+    (λ c. search needs)
+    (λ c κs. search needs)
+    (λ c. search needs)
+    returns)

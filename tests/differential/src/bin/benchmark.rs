@@ -8,7 +8,9 @@
 //! machine meets them alike, and in every second layout Rust goes first. The time of a record in a layout is the best of all its batches; the tables have the
 //! mean over the layouts, and the lowest and the highest ratio among them. Python is timed apart, in a process of its own.
 
+use differential::generate::LAST_PLAIN;
 use differential::random::Random;
+use differential::records::ALL_ASKED;
 use differential::{generate, paper, records};
 use std::arch::global_asm;
 use std::hint::black_box;
@@ -44,6 +46,7 @@ static PADDING: unsafe extern "C" fn() = layout_padding;
 
 struct Row {
     name: String,
+    valuation_year: u64,
     record: Vec<u8>,
     /// The entries of the buffer that is lent.
     room: usize,
@@ -58,13 +61,27 @@ struct Times {
 }
 
 /// The questions in the order in which they are asked.
-const QUESTIONS: [u64; 16] = [1, 2, 3, 4, 5, 6, 7, 8, 9, 10, 18, 19, 11, 12, 13, 14];
+const QUESTIONS: [u64; 19] = [
+    1, 2, 3, 4, 5, 6, 7, 8, 9, 10, 18, 19, 11, 12, 15, 16, 17, 13, 14,
+];
 
-/// The records that are timed: accepted, of several lengths, and of sixteen years refused at each question in turn.
+/// How many rows are accepted; they come first.
+const ACCEPTED: usize = 5;
+
+/// The records that are timed: accepted, of several lengths, in 2026 and the longest in 2027 too, and of sixteen years refused in 2027 at each question in
+/// turn.
 fn rows() -> Vec<Row> {
-    let mut rows: Vec<Row> = [1, 4, 9, 15]
-        .map(|k| Row {
-            name: format!("k = {k}, accepted"),
+    let accepted: [(usize, u64); ACCEPTED] = [
+        (1, LAST_PLAIN),
+        (4, LAST_PLAIN),
+        (9, LAST_PLAIN),
+        (15, LAST_PLAIN),
+        (15, ALL_ASKED),
+    ];
+    let mut rows: Vec<Row> = accepted
+        .map(|(k, valuation_year)| Row {
+            name: format!("k = {k}, accepted, {valuation_year}"),
+            valuation_year,
             record: records::pack(&records::account(k)),
             room: ROOM,
             answer: 0,
@@ -79,6 +96,7 @@ fn rows() -> Vec<Row> {
         };
         rows.push(Row {
             name: format!("k = 15, refused {question}"),
+            valuation_year: ALL_ASKED,
             record,
             room: ROOM - usize::from(short),
             answer: question,
@@ -99,17 +117,17 @@ fn batch(calls: usize, mut call: impl FnMut()) -> f64 {
 /// The best batch of each side.
 fn measure(row: &Row, rust_first: bool) -> Times {
     let mut list = [0i64; ROOM];
-    let record = &row.record[..];
+    let (year, record) = (row.valuation_year, &row.record[..]);
     let list = &mut list[..row.room];
     let engine = |calls: usize, list: &mut [i64]| {
         batch(calls, || {
-            black_box(doonamurk::run(black_box(record), list)).ok();
+            black_box(doonamurk::run(black_box(year), black_box(record), list)).ok();
             black_box(&list);
         })
     };
     let rust = |calls: usize, list: &mut [i64]| {
         batch(calls, || {
-            black_box(paper::run(black_box(record), list)).ok();
+            black_box(paper::run(black_box(year), black_box(record), list)).ok();
             black_box(&list);
         })
     };
@@ -181,9 +199,10 @@ fn mean(layouts: &[Times]) -> Times {
 fn outcome(row: &Row) -> (u64, i64) {
     let mut ours = [0; ROOM];
     let mut theirs = [0; ROOM];
-    let answer =
-        doonamurk::run(&row.record, &mut ours[..row.room]).map_err(|refused| refused.number());
-    assert_eq!(answer, paper::run(&row.record, &mut theirs[..row.room]));
+    let (year, record) = (row.valuation_year, &row.record);
+    let answer = doonamurk::run(year, record, &mut ours[..row.room]);
+    let answer = answer.map_err(|refused| refused.number());
+    assert_eq!(answer, paper::run(year, record, &mut theirs[..row.room]));
     assert_eq!(ours, theirs);
     assert_eq!(answer.err().unwrap_or(0), row.answer, "{}", row.name);
     (row.answer, ours.iter().sum())
@@ -205,6 +224,7 @@ fn python(rows: &[Row]) -> Result<Option<Vec<f64>>, String> {
     };
     let mut lines = String::new();
     for row in rows {
+        lines.push_str(&format!("{} ", row.valuation_year));
         lines.extend(row.record.iter().map(|byte| format!("{byte:02x}")));
         lines.push('\n');
     }
@@ -262,8 +282,7 @@ fn compare(rows: &[Row], times: &[Vec<Times>]) -> Result<(), String> {
     for row in rows {
         outcome(row);
     }
-    let accepted = &rows[..4];
-    let python = python(accepted)?;
+    let python = python(&rows[..ACCEPTED])?;
     println!("Nanoseconds a record: the best of {} batches in each of {} layouts, mean over the layouts\n", PASSES * BATCHES, times[0].len());
     println!("| record | engine | Rust | engine / Rust | lowest and highest | Python |\n|---|---|---|---|---|---|");
     for (n, (row, layouts)) in rows.iter().zip(times).enumerate() {
@@ -286,12 +305,12 @@ fn compare(rows: &[Row], times: &[Vec<Times>]) -> Result<(), String> {
             all.engine / all.rust
         );
     }
-    println!("\nRefused 1: k is 0; 2: a filling bit is set; 3: the buffer is an entry too short. From 4 on the work of all questions before is done.");
+    println!("\nRefused in 2027. Refused 1: k is 0; 2: a filling bit is set; 3: the buffer is an entry too short. From 4 on the work of all questions before is done.");
     Ok(())
 }
 
 /// What is done between one refusal and the next.
-const STAGES: [(u64, &str); 7] = [
+const STAGES: [(u64, &str); 8] = [
     (2, "opening, questions 1 and 2"),
     (5, "fields and ranges, questions 3 to 5"),
     (
@@ -301,15 +320,16 @@ const STAGES: [(u64, &str); 7] = [
     (10, "shares and levels, questions 9 and 10"),
     (19, "payments after the last year, questions 18 and 19"),
     (
-        13,
-        "completed triangle to development factors, questions 11 to 13",
+        17,
+        "completed triangle and ULAE ratio, corrected, questions 11, 12 and 15 to 17",
     ),
+    (13, "ULAE reserve and development factors, question 13"),
     (0, "completed cumulatives, question 14, and the list"),
 ];
 
 /// The time of a record that is refused after a stage, less that of one that is refused before it.
 fn stages(rows: &[Row], times: &[Vec<Times>]) {
-    println!("\nWhat the time of k = 15 is made of (nanoseconds; differences of the times above, of different records, so a few more or less say nothing)\n");
+    println!("\nWhat the time of k = 15 in 2027 is made of (nanoseconds; differences of the times above, of different records, so a few more or less say nothing)\n");
     println!("| stage | engine | Rust |\n|---|---|---|");
     let mut before = Times {
         engine: 0.0,
@@ -331,7 +351,7 @@ fn stages(rows: &[Row], times: &[Vec<Times>]) {
 /// Whether a record is accepted.
 type Accepts = fn(&[u8], &mut [i64]) -> bool;
 
-/// Accepted records of all k, one behind another, and where each ends.
+/// Records of all k that are accepted in 2026, one behind another, and where each ends.
 fn accepted() -> (Vec<u8>, Vec<usize>) {
     let mut packed = Vec::new();
     let mut ends = Vec::with_capacity(MANY);
@@ -342,7 +362,7 @@ fn accepted() -> (Vec<u8>, Vec<usize>) {
         case += 1;
         let k = 1 + r.below(15);
         let record = records::pack(&generate::fields(&mut r, k));
-        if paper::run(&record, &mut list).is_ok() {
+        if paper::run(LAST_PLAIN, &record, &mut list).is_ok() {
             packed.extend_from_slice(&record);
             ends.push(packed.len());
         }
@@ -353,7 +373,7 @@ fn accepted() -> (Vec<u8>, Vec<usize>) {
 /// The time of reserve_many on a stream of these records, its text thrown away.
 fn program(packed: &[u8], ends: &[usize]) -> Result<f64, String> {
     let path = Path::new(env!("CARGO_MANIFEST_DIR")).join("../../target/bin/reserve_many");
-    let mut stream = Vec::with_capacity(packed.len() + 2 * ends.len());
+    let mut stream = (LAST_PLAIN as u16).to_be_bytes().to_vec();
     let mut from = 0;
     for &end in ends {
         stream.extend_from_slice(&((end - from) as u16).to_be_bytes());
@@ -377,14 +397,14 @@ fn program(packed: &[u8], ends: &[usize]) -> Result<f64, String> {
 fn many() -> Result<(), String> {
     let (packed, ends) = accepted();
     let mut list = [0i64; ROOM];
-    println!("\n{MANY} different accepted records of all k, one after another in one process: the best of five whole passes\n");
+    println!("\n{MANY} different records of all k that are accepted in 2026, one after another in one process: the best of five whole passes\n");
     println!("| | seconds | records a second |\n|---|---|---|");
     let calls: [(&str, Accepts); 2] = [
         ("engine, called", |record, list| {
-            doonamurk::run(record, list).is_ok()
+            doonamurk::run(LAST_PLAIN, record, list).is_ok()
         }),
         ("Rust, called", |record, list| {
-            paper::run(record, list).is_ok()
+            paper::run(LAST_PLAIN, record, list).is_ok()
         }),
     ];
     let say = |name: &str, seconds: f64| {
