@@ -1,8 +1,8 @@
 #!/usr/bin/env python3
 """make_cases.py: writes the stored input and expected output of the test programs read_cases, write_cases and run_cases and of the programs reserve,
 reserve_many, gather, fields, report, csv, pack and unpack, and the input of motor_account and report_html; the records of the examples from their texts, their
-pages and their lists as comma-separated values (tests/pages for the valuation year 2026, tests/pages/2027); records that question 7 refuses, with what is said
-of them (tests/refusals); and the texts that pack must accept or refuse, with the record of each or what pack says (tests/texts).
+pages and their lists as comma-separated values (tests/pages for the valuation year 2026, tests/pages/2027); records that question 7 refuses, or 13 before it,
+with what is said of them (tests/refusals); and the texts that pack must accept or refuse, with the record of each or what pack says (tests/texts).
 
 What is expected comes from model.py, page.py and sheet.py, which are written from documents 01 and 02 and from the docs and share nothing with the Rattle code.
 """
@@ -94,13 +94,6 @@ def read_cases():
     for record in bad:
         for room in (255, 3):
             yield room, record
-
-
-def answer(call):
-    try:
-        return 0, call()
-    except model.Refused as no:
-        return no.args[0], None
 
 
 def number(value):
@@ -328,8 +321,34 @@ def tail_edges():
     yield 11, *(tailed(1, [million, 5 * million], model.S, {1: claims}) for claims in (19999, 20000))
 
 
+def developing(k, h, base, above, claims=100):
+    """Fields whose chain-ladder B and A of development year h are these, whose other factors are small: of the years that develop from h, only year 0 is paid,
+    with so many claims, `base` in development year 0 and the rest in h + 1."""
+    rows = [[10000] + [10] * (k - i) if i >= k - h else [0] * (k + 1 - i) for i in range(k + 1)]
+    rows[0][0], rows[0][h + 1] = base, above - base
+    return fields_of(changed([100] * (k + 1), 0, claims), rows)
+
+
+def some_years(k):
+    """The first, a middle and the last development year that the chain ladder develops from."""
+    return sorted({0, k // 2, k - 1})
+
+
+def development_edges():
+    """As edges: question 13 in every k, in the first, a middle and the last development year."""
+    million = 10**6
+    for k in range(1, 16):
+        for place, h in enumerate(some_years(k)):
+            # B of 1 and of 0; a factor of 50 and of 51; of 50 and a millionth more, B being a million; of 50 still, by rounding down, and a millionth more
+            limits = [(13, (1, 7), (0, 7), 100), (13, (1, 50), (1, 51), 100), (13, (million, 50 * million), (million, 50 * million + 1), million),
+                      (13, (2 * million + 1, 100 * million + 52), (2 * million + 1, 100 * million + 53), million)]
+            # all of them for a few k, and one in turn for the others
+            for number_, within, past, claims in limits if k in (1, 2, 5) else [limits[(k + place) % 4]]:
+                yield number_, developing(k, h, *within, claims), developing(k, h, *past, claims)
+
+
 def all_edges():
-    return (*edges(), *half_edges(), *total_edges(), *tail_edges())
+    return (*edges(), *half_edges(), *total_edges(), *tail_edges(), *development_edges())
 
 
 def plain_but(k, cells):
@@ -377,10 +396,11 @@ def refused():
         yield 7, diagonal_of(k, k, -1)
     # the last column and the latest diagonal are below 0, so that T_k - v_k is 0 too
     yield 7, plain_but(2, {(0, 2): -1, (1, 1): 0, (2, 0): 0})
-    # by halves T_1 - v_1 is 0 and a column is below 0 too; the chain ladder's base is zero too
+    # by halves T_1 - v_1 is 0 and a column is below 0 too; a column is 0; the chain ladder's base is zero too
     yield 7, fields_of([100, 200], [[10, -1], [1]])
     yield 7, fields_of([200, 200], [[9, -3], [1]])
-    yield 8, fields_of([100, 200], [[0, 3], [1]])
+    yield 8, fields_of([100, 200], [[1, 3], [1]])
+    yield 13, fields_of([100, 200], [[0, 3], [1]])
     # the ULAE totals are too large too
     yield 7, fields_of([200, 100], [[9000, -3], [66]], U=[10**10, 10**10])
     # every average is a half, which is 0
@@ -394,20 +414,44 @@ def refused():
     n, rows = plain(15, 10**10, 10**10, 10)
     yield 7, fields_of(n, [row[:9] + [0] * len(row[9:]) for row in rows])
     yield 8, changed(model.TWO_YEARS, 5, 0)
-    yield 8, fields_of([1, 1, 1], [[0, 5, 0], [0, 5], [0]])
+    # without the 1 the chain ladder's base is zero too
+    yield 8, fields_of([1, 1, 1], [[1, 5, 0], [0, 5], [0]])
+    yield 13, fields_of([1, 1, 1], [[0, 5, 0], [0, 5], [0]])
     yield 8, fields_of([1] * 4, [[5, 5, 5, 0], [5, 0, 5], [0, 0], [0]])
-    # in both a level would be too large too
-    yield 9, model.THREE_YEARS
-    yield 9, fields_of([100] * 3, [[5000, 5000, 999999], [0, 0], [1]])
-    yield 10, fields_of([100] * 3, [[5, 500, 999999], [0, 0], [1]])
-    # the chain ladder's base is zero too, and the ULAE totals are too large
-    yield 11, fields_of([100, million], [[0, 19800002], [9999900001]], [5 * million, million], U=[10**10, 10**10])
+    # in all of these a level would be too large; a running share is 0 too, and no question before it says no
+    yield 9, RUNNING_OUT
+    yield 9, changed(RUNNING_OUT, places(2)["U"], 10**10)
+    yield 10, fields_of([100] * 3, [[100, 500, 20000], [0, 0], [1]])
+    # a running share is 0 or a level too large, and the chain ladder's base is zero, its first factor too large, or its second
+    yield 13, model.THREE_YEARS
+    yield 13, fields_of([100] * 3, [[5, 500, 999999], [0, 0], [1]])
+    yield 13, fields_of([100] * 3, [[5000, 5000, 999999], [0, 0], [1]])
+    # the ULAE totals are too large too; and the chain ladder's base is zero
+    for number_, first in ((11, 10**7), (13, 0)):
+        yield number_, fields_of([100, million], [[first, 19800002], [9999900001]], [5 * million, million], U=[10**10, 10**10])
     yield 13, changed(model.TWO_YEARS, 3, 0)
     yield 13, fields_of([1, 1], [[1, 50], [66]])
     yield 13, fields_of([1, 1, 1], [[0, 5, 5], [0, 5], [7]])
     n, rows = plain(10, 10**9, 10**9, million)
     yield 14, fields_of(n, rows[:10] + [[10**10]])
     yield from tail_refusals()
+    yield from over_developed()
+
+
+# A_0 is 0 and a level would be too large, and the chain ladder's factors are within their limit
+RUNNING_OUT = fields_of([100] * 3, [[5000, 45000, 2000000], [0, 0], [1]])
+
+
+def over_developed():
+    """As refused: factors within their limit carry the last year past 10^11, and each question before 14 but 15 to 17 says no too."""
+    million, most = 10**6, 10**10
+    # year 0 is paid about fifty times as much each year, and the years between nothing; in the last case no other question says no
+    paid = [1, 49, 2450, 122500, 6125000, 306250000, most]
+    claims = (7, 1, 100, 10000), (8, million, million, 20), (9, million, 100, 20), (10, million, 100, 100), (14, million, 100, 10000)
+    for number_, first, last, latest in claims:
+        yield number_, fields_of([first] + [100] * 5 + [last], [paid] + [[0] * (7 - i) for i in range(1, 6)] + [[latest]])
+    for number_, other in ((18, dict(a=model.S + 1)), (19, dict(e=[1, 6], a=model.S)), (11, dict(a=model.S)), (12, dict(U=[most, most])), (14, dict())):
+        yield number_, fields_of([100, million], [[1000, 49000], [most]], **other)
 
 
 def tail_refusals():
@@ -435,10 +479,12 @@ def tail_refusals():
     yield 6, fields_of([100, 100], [[60, -61], [66]], a=most)
     yield 7, fields_of([100, 100], [[60, -1], [66]], a=most)
     yield 8, fields_of([100, 100], [[60, 40], [0]], a=most)
-    yield 9, changed(model.THREE_YEARS, places(2)["a"], most)
-    # the questions after them: ULAE totals too large, no base of the chain ladder
+    yield 9, changed(RUNNING_OUT, places(2)["a"], most)
+    yield 13, changed(model.THREE_YEARS, places(2)["a"], most)
+    # a question after them, ULAE totals too large; and no base of the chain ladder, which comes before them
     for number_, e, a in ((18, None, model.S + 1), (19, [1, 6], model.S), (11, None, model.S)):
-        yield number_, fields_of([100, million], [[0, 40], [660000]], e, U=[most, most], a=a)
+        yield number_, fields_of([100, million], [[30, 40], [660000]], e, U=[most, most], a=a)
+        yield 13, fields_of([100, million], [[0, 40], [660000]], e, U=[most, most], a=a)
 
 
 def paid_back(k, latest, n=None, **other):
@@ -501,25 +547,28 @@ def growth_edges():
 def growth_refusals():
     """As growth_accepted: two questions say no, or more, 15 to 17 among them."""
     million, most, late = 10**6, 10**10, [0, 10**6]
-    # 15, and a divisor of that Y would be above 0 and give 17, or be 0; 15 and 13, 15 and 14
+    # 15, and a divisor of that Y would be above 0 and give 17; 13 and 15, and a divisor of that Y would be 0; 15 and 14
     yield 0, 15, fields_of([1, 100, 1], [[0, 1, 0], [50, -40], [1]], b=[0, 0, million], U=[6, 3, 3])
-    yield 13, 15, fields_of([1, 10000, 1], [[0, 0, 0], [50, -40], [1]], b=[0, 0, million], w=million)
+    yield 13, 13, fields_of([1, 10000, 1], [[0, 0, 0], [50, -40], [1]], b=[0, 0, million], w=million)
+    yield 0, 15, fields_of([300, 10000, 1], [[1, 0, -1], [50, -40], [1]], b=[0, 0, million], w=million)
     yield 14, 15, fields_of([1, million, 1], [[0, 5000, 245000], [most, -5 * 10**9], [million]])
-    # 16 and 13, 16 and 14; 17 and 13, 17 and 14
-    yield 13, 16, fields_of([1, 1], [[0, 0], [2000000]], b=late, w=million)
+    # 13 and 16; 16, of year 0 as much is paid back as is paid; 16 and 14; 13 and 17, 17 and 14
+    yield 13, 13, fields_of([1, 1], [[0, 0], [2000000]], b=late, w=million)
+    yield 0, 16, fields_of([300, 1], [[1, -1], [2000000]], b=late, w=million)
     yield 14, 16, fields_of([1, million], [[1, 49], [most]], b=late, w=million)
-    yield 13, 17, fields_of([1, 1], [[0, 100], [66]], b=late, w=million, U=[66, 100])
+    yield 13, 13, fields_of([1, 1], [[0, 100], [66]], b=late, w=million, U=[66, 100])
     yield 14, 17, fields_of([1, million], [[1, 49], [most]], b=late, w=million - 1, U=[10**9, 0])
     # 12, and 15, 16 and 17 in turn
     yield 12, 12, changed(model.PAID_BACK, places(2)["U"], 100)
     yield 12, 12, fields_of([1, 1], [[1, 0], [2000000]], b=late, w=million, U=[2000000, 2])
     yield 12, 12, fields_of([1, 1], [[60, 40], [66]], b=late, w=million, U=[66, 101])
-    # each question before 12, and 15
+    # each question before 12, and 15; 13 with 9 too
     yield 11, 11, paid_back(2, 1, [1, 20000, 1], e=[million, 5 * million, million], a=10**7)
     yield 19, 19, paid_back(2, 1, e=[1, 6, 1], a=10**7)
     yield 18, 18, paid_back(2, 1, a=10**7 + 1)
     yield 10, 10, fields_of([100, million, 100], [[5000, 25, 200000], [300000, -250000], [26]])
-    yield 9, 9, fields_of([100, million, 100], [[0, 60001, 5 * 10**8], [7 * 10**8, -6 * 10**8], [60001]])
+    yield 9, 9, fields_of([100, million, 100], [[0, 2000000, 9 * 10**7], [7 * 10**8, -6 * 10**8], [60001]])
+    yield 13, 13, fields_of([100, million, 100], [[0, 60001, 5 * 10**8], [7 * 10**8, -6 * 10**8], [60001]])
     yield 8, 8, fields_of([300, 300], [[10, -1], [1]])
     yield 7, 7, fields_of([1, 1, 1], [[60, 0, 0], [60, -40], [1]])
     yield 6, 6, fields_of([1, 1], [[60, -61], [1]])
@@ -528,6 +577,134 @@ def growth_refusals():
 
 def growth_cases():
     return (*growth_accepted(), *growth_edges(), *growth_refusals())
+
+
+def unpaid(rows, h):
+    """Nothing is paid up to development year h of the years that develop from it: the chain ladder's B of h is 0."""
+    k = len(rows) - 1
+    return [[0] * (h + 1) + row[h + 1:] if i < k - h else row for i, row in enumerate(rows)]
+
+
+def jumping(rows, h):
+    """Year 0 is paid fifty times B more in development year h + 1: the factor of h is above 50."""
+    base = sum(sum(row[:h + 1]) for row in rows[:len(rows) - 1 - h])
+    return [changed(rows[0], h + 1, rows[0][h + 1] + 50 * base)] + rows[1:]
+
+
+def refused_by(question, k, change=lambda rows: rows):
+    """Fields that question 13 lets pass and this one, of 7 to 12 and 15 to 19, is the first to refuse from 2027 on; or those fields with changed increments."""
+    million, most = 10**6, 10**10
+    n, rows = [100] * (k + 1), [[10000] + [10] * (k - i) for i in range(k + 1)]
+    other = {}
+    if question == 7:
+        # the averages total more than S by the last year alone
+        n[k], rows[k] = 1, [10**7]
+    if question == 8:
+        rows = [row if i == 0 else [0] + row[1:] for i, row in enumerate(rows)]
+    if question == 9:
+        n, rows = [1] + [million] * k, [[0, 200] + [0] * (k - 2) + [600]] + [[5000] + [0] * (k - i) for i in range(1, k)] + [[5001]]
+    if question == 10:
+        rows = [[5000, 200000] + [0] * (k - 1)] + [[0] * (k + 1 - i) for i in range(1, k)] + [[1]]
+    if question == 15:
+        n, rows[1], rows[k] = changed(n, 1, million), [6000] + [0] * (k - 2) + [-5000], [1]
+        rows[0] = [60] + [0] * k
+        rows[2:k] = [[60] + [0] * (k - i) for i in range(2, k)]
+    if question in (16, 17):
+        other = dict(b=[0] * k + [million], w=million)
+        rows = [[1] + [0] * (k - i) for i in range(k)] + [[2000000]] if question == 16 else rows[:k] + [[10**6]]
+    rows = change(rows)
+    if question == 11:
+        n[k], other = million, dict(a=model.S)
+    if question == 12:
+        other = dict(U=[most] * (k + 1))
+    if question == 17:
+        other["U"] = [sum(map(sum, rows))] + [0] * k
+    if question == 18:
+        other = dict(a=model.S + 1)
+    if question == 19:
+        other = dict(e=[1] * k + [6], a=model.S)
+    return fields_of(n, rows, **other)
+
+
+# the questions whose answer gives way to 13
+GIVING_WAY = [7, 8, 9, 10, 18, 19, 11, 12, 15, 16, 17]
+
+
+def apart(year, fields):
+    """What question 13 answers of fields that pass 1 to 6, and what those that give way to it do, each by itself."""
+    figures = model.opened(model.pack(fields), model.result_count(15))
+    C = model.cumulatives(figures[2])
+    return model.answer(model.development_factors, C)[0], model.answer(model.forecast, year, *figures, C)[0]
+
+
+def two_refuse():
+    """As growth_accepted: fields that a question that gives way to 13 refuses, alone and with 13, which says no by turns for want of a base and by too large a
+    factor, in the first, a middle and the last development year; and other questions with 13."""
+    turn = 0
+    for k in (1, 2, 5, 15):
+        for question in GIVING_WAY:
+            # where k is 1 no running share is 0, and where 13 says no too and nothing is paid in the latest year, 8 says no before 15
+            if k == 1 and question in (9, 15):
+                continue
+            alone = refused_by(question, k)
+            assert apart(2027, alone) == (0, question), (question, k, apart(2027, alone))
+            yield 0 if question in (15, 16, 17) else question, question, alone
+            changes = [lambda rows, change=change, h=h: change(rows, h) for h in some_years(k) for change in (unpaid, jumping)]
+            both = [fields for fields in (refused_by(question, k, change) for change in changes)
+                    if model.answer(apart, 2027, fields) == (0, (13, question))]
+            assert both, (question, k)
+            yield 13, 13, both[turn % len(both)]
+            turn += 1
+    # 6 comes before 13: a cumulative is below 0, or above 10^11
+    yield 6, 6, fields_of([1, 1], [[0, -1], [66]])
+    yield 6, 6, fields_of([1] * 3, [[0, 0, 0], [50, -51], [1]])
+    yield 6, 6, fields_of([10**6] * 16, [[1] + [10**10] * 10 + [0] * 5] + [[0] * (16 - i) for i in range(1, 16)])
+    yield 6, 6, fields_of([10**6] * 16, [[0] * 5 + [10**10] * 11] + [[0] * (16 - i) for i in range(1, 16)])
+    # 5 and 4 do too; a cumulative would be completed past 10^11 by the factor that is too large
+    yield 5, 5, changed(model.THREE_YEARS, places(2)["b"], 0)
+    yield 4, 4, changed(model.THREE_YEARS, places(2)["n"], 0)
+    yield 13, 13, fields_of([1, 10**6], [[1, 50], [10**10]])
+
+
+def by_chance(source):
+    """Fields of few years, of few sizes."""
+    million = 10**6
+    k = source.randint(1, 4)
+    scale = source.choice((1, 100, million))
+    n = [source.choice((1, 100, million, scale)) for _ in range(k + 1)]
+    rows = [[0 if source.random() < 0.3 else source.choice((1, 2, 60, 49 * scale, 51 * scale, scale, -scale if j else 0, 10**7)) for j in range(k + 1 - i)]
+            for i in range(k + 1)]
+    b = source.choice(([million] + [0] * k, [0] * k + [million]))
+    U = [source.choice((0, 0, 1, scale)) for _ in range(k + 1)]
+    e = [source.choice((1, 6, million)) for _ in range(k + 1)]
+    return fields_of(n, rows, e, b, source.choice((0, million)), U, source.choice((0, 0, 0, 1, 10**7, 10**7 + 1, 10**10)))
+
+
+def changed_answers():
+    """Request 6 in small: over the stored records and over records by chance the answer is another than with 13 directly before 14 just where 1 to 6 pass, 13
+    says no and so does one of those that give way to it; it is then 13."""
+    def before(year, k, n, P, *rest):
+        C = model.cumulatives(P)
+        model.forecast(year, k, n, P, *rest, C)
+        model.completed(C, model.development_factors(C))
+
+    source, most = random.Random(6), model.result_count(15)
+    records = list(dict.fromkeys([record for *_, record in run_inputs()] + [model.pack(by_chance(source)) for _ in range(1500)]))
+    met, same = {}, 0
+    for record in records:
+        number_, figures = model.answer(model.opened, record, most)
+        for year in () if number_ else (2026, 2027):
+            six, C = model.answer(model.cumulatives, figures[2])
+            factors, rest = [0 if six else model.answer(*call)[0] for call in ((model.development_factors, C), (model.forecast, year, *figures, C))]
+            old, new = model.answer(before, year, *figures)[0], model.run(year, record, most)[0]
+            moves = six == 0 and factors == 13 and rest in GIVING_WAY
+            assert (new != old) == moves and (new == 13 or not moves), (year, record.hex(), old, new)
+            if moves:
+                met[rest] = met.get(rest, 0) + 1
+            else:
+                same += 1
+    assert sorted(met) == sorted(GIVING_WAY), met
+    print("answers that request 6 makes 13, by what they were:", dict(sorted(met.items())), "and the same:", same)
 
 
 def run_inputs():
@@ -543,11 +720,11 @@ def run_inputs():
         yield 2026, count, record
     for room, record in damaged_and_short():
         yield 2026, room, record
-    for before, since, fields in growth_cases():
+    for before, since, fields in (*growth_cases(), *two_refuse()):
         record, count = model.pack(fields), model.result_count(fields[0])
         for year, number_ in ((2026, before), (2027, since)):
             assert model.run(year, record, count)[0] == number_, (year, number_, fields, model.run(year, record, count)[0])
-            if year == 2027 or before != since:
+            if year == 2027 or before != since or since == 13:
                 yield year, count, record
     yield from years()
 
@@ -562,10 +739,11 @@ def damaged_and_short():
         yield 22, record
     zero = places(1)["P"]
     yield 22, model.pack(changed(model.TWO_YEARS, zero, 0), negative_zeros=(zero,))
-    # question 3, also before questions 4, 8 and 18; 20 entries are the list without the payments after the last year
+    # question 3, also before questions 4, 13, 8 and 18; 20 entries are the list without the payments after the last year
     for room in (0, 20, 21):
         yield room, two
         yield room, model.pack(changed(model.TWO_YEARS, 1, 0))
+        yield room, model.pack(changed(model.TWO_YEARS, 3, 0))
         yield room, model.pack(changed(model.TWO_YEARS, 5, 0))
         yield room, model.pack(changed(model.TWO_YEARS, places(1)["a"], 10**10))
     yield 489, longest
@@ -600,7 +778,7 @@ def main():
     given, wanted = b"", ""
     for room, record in read_cases():
         given += bytes([room]) + len(record).to_bytes(2, "big") + record
-        number_, fields = answer(lambda: model.read(record, room))
+        number_, fields = model.answer(model.read, record, room)
         wanted += shown(number_, fields, room)
     store("read_cases", given, wanted)
     given, wanted = b"", ""
@@ -608,8 +786,8 @@ def main():
         given += number(room) + number(k) + number(lists["w"][0]) + number(lists["a"][0])
         for name in "nPebU":
             given += number(len(lists[name])) + b"".join(number(v) for v in lists[name])
-        number_, record = answer(
-            lambda: model.write(k, lists["n"], lists["P"], lists["e"], lists["b"], lists["w"][0], lists["U"], lists["a"][0], room))
+        number_, record = model.answer(
+            model.write, k, lists["n"], lists["P"], lists["e"], lists["b"], lists["w"][0], lists["U"], lists["a"][0], room)
         wanted += f"answer {number_}\n"
         wanted += "unchanged\n" if record is None else record.hex() + "\n"
     store("write_cases", given, wanted)
@@ -619,8 +797,11 @@ def main():
         number_, results = model.run(year, record, room)
         numbers.append(number_)
         wanted += shown(number_, results, room)
+    # run_cases stops after so many
+    assert len(numbers) <= 1000
     store("run_cases", given, wanted)
     print("cases by number:", {number_: numbers.count(number_) for number_ in sorted(set(numbers))})
+    changed_answers()
     record = model.pack(model.TWO_YEARS)
     store("fields", record, "".join(f"{v}\n" for v in model.TWO_YEARS))
     record = model.pack(model.MOTOR_ACCOUNT)
@@ -671,7 +852,8 @@ def examples():
 
 
 def refusals():
-    """Records that question 7 refuses, each for another reason, and what is said of them (tests/refusals)."""
+    """Records that question 13 or 7 refuses, each for another reason, and what is said of them, 13 first (tests/refusals)."""
+    many = model.M
     made = {
         "column": fields_of([1, 1], [[60, -1], [66]]),
         "later_column": fields_of([1] * 4, [[60, 5, -9, 1], [70, 5, 8], [80, 5], [90]]),
@@ -679,11 +861,31 @@ def refusals():
         "half_column": fields_of([200] * 3, [[900, -1, -3], [900, 0], [900]]),
         "diagonal": fields_of([1] * 3, [[60, -5, 5], [0, 5], [70]]),
         "too_large": fields_of([100, 1], [[500000000, 200000001], [3000000]]),
+        # nothing paid in the first development year but for the latest origin year, in a later one, in the last, and paid back
+        "base_of_two_years": fields_of([1, 1], [[0, 40], [66]]),
+        "base": fields_of([1] * 4, [[0, 5, 5, 5], [0, 5, 5], [0, 5], [9]]),
+        "later_base": fields_of([1] * 4, [[0, 0, 5, 1], [0, 0, 7], [9, 9], [9]]),
+        "last_base": fields_of([1] * 4, [[0, 0, 0, 5], [0, 3, 3], [9, 9], [9]]),
+        "paid_back": fields_of([1] * 4, [[4, 0, -4, 5], [5, 3, 3], [9, 9], [9]]),
+        # a factor of 50.000001, in the last year after one of 50, from one currency unit, and from none and above 50 in other years
+        "factor": fields_of([many] * 2, [[1000000, 49000001], [66]]),
+        "last_factor": fields_of([many] * 4, [[1000000, 49000000, 0, 2450000050], [1000000, 49000000, 0], [1000000, 49000000], [66]]),
+        "factor_of_one": fields_of([1, 1], [[1, 50], [66]]),
+        "factor_and_then_base": fields_of([1] * 3, [[1, -1, 5], [1, 200], [9]]),
+        "base_and_then_factor": fields_of([1] * 3, [[0, 1, 100], [0, 1], [9]]),
+        # years of two digits
+        "base_of_16_years": fields_of([1] * 16, [[0] * 15 + [5]] + [[10] + [1] * (15 - i) for i in range(1, 16)]),
+        "factor_of_16_years": fields_of([1] * 16, [[10] + [0] * 14 + [491]] + [[10] + [0] * (15 - i) for i in range(1, 16)]),
+        # 7 would say no too: a column below 0, and averages that are too large; and 9, of document 01's last marked item
+        "base_and_column": fields_of([1] * 3, [[0, 5, -3], [0, 2], [9]]),
+        "factor_and_too_large": fields_of([1, 1], [[1000000, 49000001], [66]]),
+        "base_and_share": model.THREE_YEARS,
     }
+    assert [apart(2026, made[name]) for name in list(made)[-3:]] == [(13, 7), (13, 7), (13, 9)]
     for name, fields in made.items():
         record = model.pack(fields)
         put(os.path.join(HERE, "refusals", name + ".rec"), record)
-        put(os.path.join(HERE, "refusals", name + ".said"), page.totals_refusal(record))
+        put(os.path.join(HERE, "refusals", name + ".said"), page.refusal(record))
 
 
 def texts():

@@ -1,5 +1,5 @@
-"""Document 01's record and engine, with requests 1, 3 and 4 of document 02 (the ULAE ratio under growth, payments after the last year, halves to the even
-hundredth), in plain Python, written from the paper and not from the Rattle code.
+"""Document 01's record and engine, with requests 1, 3, 4 and 6 of document 02 (the ULAE ratio under growth, payments after the last year, halves to the even
+hundredth, question 13 directly after 6), in plain Python, written from the paper and not from the Rattle code.
 
 Used to make the stored inputs and expected outputs of the test programs (make_cases.py), and timed beside the engine by tests/benchmark.
 """
@@ -43,6 +43,14 @@ def field_count(k):
 
 class Refused(Exception):
     """The number of the first question whose answer is no."""
+
+
+def answer(call, *given):
+    """The answer to a call: 0 and what it gives, or the number of its refusal and None."""
+    try:
+        return 0, call(*given)
+    except Refused as no:
+        return no.args[0], None
 
 
 def pack(fields, negative_zeros=()):
@@ -129,8 +137,29 @@ def average(paid, claims):
     return round(Fraction(100 * paid, claims))
 
 
-def separate(s):
-    """Shares and levels of a triangle of averages, given by row, under questions 7 to 10."""
+def cumulatives(P):
+    """C by row, under question 6; P by row."""
+    C = [[sum(row[:j + 1]) for j in range(len(row))] for row in P]
+    if any(not 0 <= c <= 10**11 for row in C for c in row):
+        raise Refused(6)
+    return C
+
+
+def development_factors(C):
+    """m_0 to m_{k-1} of the cumulatives, under question 13."""
+    k = len(C) - 1
+    m = []
+    for h in range(k):
+        above = sum(C[i][h + 1] for i in range(k - h))
+        below = sum(C[i][h] for i in range(k - h))
+        if below < 1 or M * above // below > 50 * M:
+            raise Refused(13)
+        m.append(M * above // below)
+    return m
+
+
+def running_shares(s):
+    """A_0 to A_k and the diagonals d_0 to d_k of a triangle of averages, given by row, under questions 7 and 8."""
     k = len(s) - 1
     v = [sum(s[i][j] for i in range(k + 1 - j)) for j in range(k + 1)]
     d = [sum(s[i][h - i] for i in range(h + 1)) for h in range(k + 1)]
@@ -142,13 +171,24 @@ def separate(s):
     A = [0] * k + [S]
     for h in range(k, 0, -1):
         A[h - 1] = A[h] * (T[h] - v[h]) // T[h]
+    return A, d
+
+
+def level(A, d, h):
+    """l_h, of a running share A_h of at least 1."""
+    return d[h] * S // A[h]
+
+
+def separate(s):
+    """Shares, levels and the latest diagonal of a triangle of averages, given by row, under questions 7 to 10."""
+    A, d = running_shares(s)
     if min(A) < 1:
         raise Refused(9)
-    r = [A[0]] + [A[h] - A[h - 1] for h in range(1, k + 1)]
-    level = [d[h] * S // A[h] for h in range(k + 1)]
-    if max(level) > S:
+    r = [A[0]] + [A[h] - A[h - 1] for h in range(1, len(A))]
+    levels = [level(A, d, h) for h in range(len(A))]
+    if max(levels) > S:
         raise Refused(10)
-    return r, level, d[k]
+    return r, levels, d[-1]
 
 
 def tail_payments(n, e, a):
@@ -193,14 +233,11 @@ def ratio_used(year, p, k, P, b, w, X):
     return corrected
 
 
-def results(year, k, n, P, e, b, w, U, a):
-    """The result list of a valuation year and of fields that have passed questions 4 and 5; P by row."""
+def forecast(year, k, n, P, e, b, w, U, a, C):
+    """The entries of the result list up to p, and the tail payments, which end it, under questions 7 to 12 and 15 to 19."""
     years = range(k + 1)
-    C = [[sum(row[:j + 1]) for j in range(len(row))] for row in P]
-    if any(not 0 <= c <= 10**11 for row in C for c in row):
-        raise Refused(6)
     s = [[average(P[i][j], n[i]) for j in range(k + 1 - i)] for i in years]
-    r, level, latest = separate(s)
+    r, levels, latest = separate(s)
     L = [None] + [latest * e[t - 1] // M for t in range(1, k + 1)]
     y = [[n[i] * (r[j] * L[i + j - k] // S) // 100 for j in range(k + 1 - i, k + 1)] for i in years]
     z = tail_payments(n, e, a)
@@ -212,41 +249,50 @@ def results(year, k, n, P, e, b, w, U, a):
     N = [X[i] * sum(b[k - i + 1:]) // M for i in years]
     H = [(w * N[i] + (M - w) * R[i]) // M for i in years]
     Q = [p * H[i] // M for i in years]
-    m = []
-    for h in range(k):
-        above = sum(C[i][h + 1] for i in range(k - h))
-        below = sum(C[i][h] for i in range(k - h))
-        m.append(M * above // below if below >= 1 else None)
-    if any(f is None or f > 50 * M for f in m):
-        raise Refused(13)
-    completed = []
-    for i in years:
+    return sum(s, []) + r + levels + L[1:] + sum(y, []) + R + [sum(R)] + N + Q + [sum(Q)] + [p], z
+
+
+def completed(C, m):
+    """The completed C by row, those past the diagonal only, under question 14."""
+    k = len(m)
+    out = []
+    for i in range(k + 1):
         c = C[i][k - i]
         for h in range(k - i, k):
             c = c * m[h] // M
-            completed.append(c)
-    if any(c > 10**11 for c in completed):
+            out.append(c)
+    if any(c > 10**11 for c in out):
         raise Refused(14)
-    return sum(s, []) + r + level + L[1:] + sum(y, []) + R + [sum(R)] + N + Q + [sum(Q)] + [p] + m + completed + z
+    return out
+
+
+def results(year, k, n, P, e, b, w, U, a):
+    """The result list of a valuation year and of fields that have passed questions 4 and 5; P by row. Question 13 is put directly after 6."""
+    C = cumulatives(P)
+    m = development_factors(C)
+    entries, z = forecast(year, k, n, P, e, b, w, U, a, C)
+    out = entries + m + completed(C, m) + z
+    assert len(out) == result_count(k)
+    return out
+
+
+def opened(record, room):
+    """What results and forecast take: the fields of a record, for a result buffer of `room` entries, under questions 1 to 5."""
+    given = lists(read(record, room, result_count))
+    k = given["k"][0]
+    return k, given["n"], by_row(k, given["P"]), given["e"], given["b"], given["w"][0], given["U"], given["a"][0]
 
 
 def run(year, record, room):
     """The answer to a record in a valuation year and the result list where it is 0, for a buffer of `room` entries."""
-    try:
-        given = lists(read(record, room, result_count))
-        k = given["k"][0]
-        out = results(year, k, given["n"], by_row(k, given["P"]), given["e"], given["b"], given["w"][0], given["U"], given["a"][0])
-        assert len(out) == result_count(k)
-        return 0, out
-    except Refused as no:
-        return no.args[0], None
+    return answer(lambda: results(year, *opened(record, room)))
 
 
 # a zero amount, with e_{k+1} = M, as request 3 has the marked triangles
 TWO_YEARS = [1, 1, 1, 60, 40, 66, 1100000, M, 800000, 200000, 500000, 6, 10, 0]
 MOTOR = [504, 282, 90, 48, 580, 292, 97, 595, 332, 662]
 MOTOR_ACCOUNT = ([3, 1, 1, 1, 1] + MOTOR + [1100000, 1210000, 1331000, M] + [700000, 200000, 80000, 20000] + [500000] + [20, 25, 30, 35] + [0])
-# its A_0 is 0: document 01's last marked item, whose other fields are free
+# document 01's last marked item, whose other fields are free: nothing is paid in development year 0, and A_0 is 0
 THREE_YEARS = [2, 100, 100, 100, 0, 5000, 999999, 0, 0, 1, M, M, M, M, 0, 0, 0, 0, 0, 0, 0]
 
 
@@ -256,7 +302,7 @@ PAID_BACK = [2, 1, 100, 1, 0, 1, 0, 50, -40, 1, M, M, M, M, 0, 0, 500000, 0, 0, 
 
 def marked():
     """The items of document 01's "Marked triangles and edges", which are of 2026, averages as request 4 of document 02 marks them, the amount zero as request 3
-    does; and what the ratio under growth makes of the two years."""
+    does, and the k = 2 case as request 6 does; and what the ratio under growth makes of the two years."""
     def put(*changes, year=2026):
         fields = list(TWO_YEARS)
         for at, value in changes:
@@ -276,7 +322,11 @@ def marked():
     assert put((3, 0)) == (13, None)
     assert put((12, 161)) == (12, None)
     assert put((12, 160))[0] == 0 and put((12, 160))[1][17] == M
-    assert run(2026, pack(THREE_YEARS), result_count(2)) == (9, None)
+    assert [run(year, pack(THREE_YEARS), result_count(2)) for year in (2026, 2027)] == [(13, None)] * 2
+    # of its separation itself: A_1 and A_0, refused 9, and l_1 would be too large too
+    s = [[average(paid, 100) for paid in row] for row in by_row(2, lists(THREE_YEARS)["P"])]
+    A, d = running_shares(s)
+    assert A == [0, 1000, S] and level(A, d, 1) > S and answer(separate, s) == (9, None)
     # an amount of 100 for year 0, carried to year 1 by e_2 / e_1 = 1.1: provisions, claims not reported and reserves
     tail = (7, 1210000), (13, 100)
     number, out = put(*tail)

@@ -4,6 +4,8 @@ Written from the page in README.md, docs/SHEET.md and the definitions (crates/pa
 code; the numbers come from model.py. make_cases.py makes of it what report, csv and unpack are expected to write.
 """
 
+import itertools
+
 import model
 
 # the widths of the columns: a year, a cell of a triangle, an amount
@@ -162,10 +164,26 @@ def csv(year, record):
     return "".join(",".join(str(cell) for cell in line) + "\n" for line in lines)
 
 
+def development_refusal(record):
+    """The line that tells why question 13 refuses a record that has passed 1 to 6, or None where it does not: the first development year with nothing to develop
+    from, or with a factor above 50."""
+    k = record[0] >> 4
+    given = model.lists(model.read(record, model.field_count(k)))
+    cumulatives = [list(itertools.accumulate(row)) for row in model.by_row(k, given["P"])]
+    assert all(0 <= c <= 10**11 for row in cumulatives for c in row)
+    for h in range(k):
+        base, developed = (sum(cumulatives[i][j] for i in range(k - h)) for j in (h, h + 1))
+        if base < 1:
+            return (f"refused 13: the chain ladder has nothing to develop from: up to development year {h} nothing is paid for the origin years that have a "
+                    "later one\n")
+        if model.M * developed // base > 50 * model.M:
+            return f"refused 13: the chain ladder's development factor from development year {h} to {h + 1} is above 50\n"
+    return None
+
+
 def totals_refusal(record):
     """The line that tells why question 7 refuses a record: the first column, else the first diagonal, that adds up to less than 0, else the whole."""
     k = record[0] >> 4
-    assert model.run(2026, record, model.result_count(k))[0] == 7
     given = model.lists(model.read(record, model.field_count(k)))
     averages = [[model.average(paid, given["n"][i]) for paid in row] for i, row in enumerate(model.by_row(k, given["P"]))]
     years = range(k + 1)
@@ -176,6 +194,13 @@ def totals_refusal(record):
             if total < 0:
                 return f"refused 7: the averages of {kind} year {year} add up to less than 0\n"
     return "refused 7: the averages add up to more than 1,000,000,000 hundredths\n"
+
+
+def refusal(record):
+    """The line that report writes of a record that question 13 or 7 refuses in every year."""
+    numbers = {model.run(year, record, model.result_count(record[0] >> 4))[0] for year in (2026, 2027)}
+    assert numbers in ({13}, {7})
+    return development_refusal(record) if numbers == {13} else totals_refusal(record)
 
 
 def sheet(fields):

@@ -216,6 +216,8 @@ static void refusals(void)
     const struct { int64_t cells[3]; uint64_t ulae[2]; uint64_t number; const char *what; } marked[] = {
         {{60, 40, 0}, {6, 10}, 8, "refused 8: the two years with 66 made 0"},
         {{0, 40, 66}, {6, 10}, 13, "refused 13: the two years with first cell 0"},
+        {{0, 40, 66}, {6, 161}, 13, "refused 13: the two years with first cell 0 and U 6, 161"},
+        {{0, -1, 66}, {6, 10}, 6, "refused 6: the two years with first cell 0 and less paid after it"},
         {{60, 40, 66}, {6, 161}, 12, "refused 12: the two years with U 6, 161"},
     };
     const uint64_t exposures[] = {1, 1}, indices[] = {1100000, 1000000}, reporting[] = {800000, 200000};
@@ -223,6 +225,18 @@ static void refusals(void)
         check(doonamurk_write(1, exposures, 2, marked[i].cells, 3, indices, 2, reporting, 2, 500000, marked[i].ulae, 2, 0, changed, 45) == 0,
               "a changed two years is written");
         refused(marked[i].number, changed, 45, 22, marked[i].what);
+    }
+    /* Document 01's k = 2 case: nothing is paid in development year 0, and a running share is 0; and one that has a base and small factors. */
+    const struct { int64_t cells[6]; uint64_t number; const char *what; } three_years[] = {
+        {{0, 5000, 999999, 0, 0, 1}, 13, "refused 13: no base of the chain ladder, and a running share of 0"},
+        {{5000, 45000, 2000000, 0, 0, 1}, 9, "refused 9: a running share of 0"},
+    };
+    const uint64_t hundred[] = {100, 100, 100}, level[] = {1000000, 1000000, 1000000}, at_once[] = {1000000, 0, 0}, none[] = {0, 0, 0};
+    for (size_t i = 0; i < sizeof three_years / sizeof *three_years; i++) {
+        bytes = doonamurk_record_bytes(2);
+        check(doonamurk_write(2, hundred, 3, three_years[i].cells, 6, level, 3, at_once, 3, 0, none, 3, 0, changed, bytes) == 0, "three years are written");
+        refused_in(2026, three_years[i].number, changed, bytes, doonamurk_result_count(2), three_years[i].what);
+        refused_in(2027, three_years[i].number, changed, bytes, doonamurk_result_count(2), three_years[i].what);
     }
     /* An average of 10^9 and 100 hundredths, and one of 10^9 that the indices carry to 6 * 10^9. */
     write_two_years(1000000, 1000000, 10000001, changed);

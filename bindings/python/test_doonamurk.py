@@ -185,12 +185,24 @@ class Calls(unittest.TestCase):
         for number, change in (
             (8, dict(increments=[60, 40, 0])),
             (13, dict(increments=[0, 40, 66])),
+            (13, dict(increments=[0, 40, 66], ulae=[6, 161])),
+            (6, dict(increments=[0, -1, 66])),
             (12, dict(ulae=[6, 161])),
             (18, dict(tail=10000001)),
             (19, dict(indices=[1, 6], tail=10000000)),
         ):
             refusal = self.refused(number, doonamurk.run, doonamurk.write(**{**TWO_YEARS, **change}), 2026)
             self.assertEqual(refusal.question, doonamurk.QUESTIONS[number])
+
+    def test_no_base_of_the_chain_ladder_comes_before_a_running_share_of_0(self):
+        """Document 01's k = 2 case, and one that has a base and small factors."""
+        three_years = dict(k=2, exposures=[100] * 3, indices=[1000000] * 3, reporting=[1000000, 0, 0], weight=0, ulae=[0] * 3, tail=0)
+        for number, increments in ((13, [0, 5000, 999999, 0, 0, 1]), (9, [5000, 45000, 2000000, 0, 0, 1])):
+            record = doonamurk.write(**three_years, increments=increments)
+            for year in (2026, 2027):
+                self.refused(number, doonamurk.run, record, year)
+        order = [1, 2, 3, 4, 5, 6, 13, 7, 8, 9, 10, 18, 19, 11, 12, 15, 16, 17, 14]
+        self.assertEqual((list(doonamurk.QUESTIONS), list(doonamurk.WRITE_QUESTIONS)), (order, order))
 
     def test_refused_writes(self):
         for number, change in (

@@ -120,6 +120,24 @@ stopifnot(
   words == "refused 19: Is the average of what is still to be paid after year k, carried to each year by the indices, at most 5 * 10^9?"
 )
 
+# The two years with 66 made 0, with first cell 0, also with U 6, 161, and with less paid after it. Document 01's k = 2 case: nothing is paid in development
+# year 0, and a running share is 0; and one that has a base and small factors.
+two_years_paid <- function(paid, ulae = c(6, 10)) {
+  doonamurk_write(c(1, 1), rbind(paid[1:2], c(paid[3], NA)), c(1100000, 1000000), c(800000, 200000), 500000, ulae, 0)
+}
+three_years_paid <- function(first) {
+  doonamurk_write(rep(100, 3), rbind(first, c(0, 0, NA), c(1, NA, NA)), rep(1000000, 3), c(1000000, 0, 0), 0, rep(0, 3), 0)
+}
+stopifnot(
+  refused(doonamurk_run(two_years_paid(c(60, 40, 0)), 2026)) == 8,
+  refused(doonamurk_run(two_years_paid(c(0, 40, 66)), 2026)) == 13,
+  refused(doonamurk_run(two_years_paid(c(0, 40, 66), c(6, 161)), 2026)) == 13,
+  refused(doonamurk_run(two_years_paid(c(0, -1, 66)), 2026)) == 6,
+  vapply(c(2026, 2027), function(year) refused(doonamurk_run(three_years_paid(c(0, 5000, 999999)), year)), 0) == 13,
+  vapply(c(2026, 2027), function(year) refused(doonamurk_run(three_years_paid(c(5000, 45000, 2000000)), year)), 0) == 9,
+  names(doonamurk_questions) == c(1:6, 13, 7:10, 18, 19, 11, 12, 15:17, 14)
+)
+
 # Averages that lie halfway between two hundredths go to the even one, negative ones too.
 halves <- write_motor(exposures = rep(8, 4), paid_ = rbind(c(401, -1, 3, 5), c(403, 7, -3, NA), c(405, 9, NA, NA), c(407, NA, NA, NA)))
 stopifnot(doonamurk_run(halves, 2026)[1:10] == c(5012, -12, 38, 62, 5038, 88, -38, 5062, 112, 5088))

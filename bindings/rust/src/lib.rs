@@ -110,6 +110,9 @@ impl Refused {
             (_, 4) => "Is every field in its range?",
             (_, 5) => "Do the reporting shares sum to 1,000,000?",
             (_, 6) => "Is every given cumulative from 0 to 10^11?",
+            (_, 13) => {
+                "Is every chain-ladder base at least 1, and every development factor at most 50,000,000?"
+            }
             (_, 7) => {
                 "Is every column and every diagonal of the averages at least 0, and their total at most 10^9?"
             }
@@ -127,9 +130,6 @@ impl Refused {
             (_, 15) => "From valuation year 2027 on: is the total paid in the latest payment year at least 1?",
             (_, 16) => "From valuation year 2027 on: is the divisor of the ULAE ratio not 0?",
             (_, 17) => "From valuation year 2027 on: is the corrected ULAE ratio at most 1,000,000?",
-            (_, 13) => {
-                "Is every chain-ladder base at least 1, and every development factor at most 50,000,000?"
-            }
             (_, 14) => "Is every completed cumulative at most 10^11?",
             _ => "a number that no question has",
         }

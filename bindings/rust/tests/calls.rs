@@ -253,7 +253,7 @@ fn a_short_buffer_is_refused_and_left() {
 
 #[test]
 fn marked_refusals_of_the_engine() {
-    let changed: [(Fields, u64); 5] = [
+    let changed: [(Fields, u64); 7] = [
         (
             Fields {
                 increments: &[60, 40, 0],
@@ -267,6 +267,21 @@ fn marked_refusals_of_the_engine() {
                 ..TWO_YEARS
             },
             13,
+        ),
+        (
+            Fields {
+                increments: &[0, 40, 66],
+                ulae: &[6, 161],
+                ..TWO_YEARS
+            },
+            13,
+        ),
+        (
+            Fields {
+                increments: &[0, -1, 66],
+                ..TWO_YEARS
+            },
+            6,
         ),
         (
             Fields {
@@ -296,6 +311,32 @@ fn marked_refusals_of_the_engine() {
         let refusal = run_to_vec(2026, &record).expect_err("refused");
         assert_eq!(refusal.number(), number);
         assert!(refusal.question().ends_with('?'));
+    }
+}
+
+/// Document 01's k = 2 case, and one that has a base and small factors.
+#[test]
+fn no_base_of_the_chain_ladder_comes_before_a_running_share_of_0() {
+    let cases: [([i64; 6], u64); 2] = [
+        ([0, 5_000, 999_999, 0, 0, 1], 13),
+        ([5_000, 45_000, 2_000_000, 0, 0, 1], 9),
+    ];
+    for (increments, number) in cases {
+        let record = write_to_vec(&Fields {
+            k: 2,
+            exposures: &[100; 3],
+            increments: &increments,
+            indices: &[1_000_000; 3],
+            reporting: &[1_000_000, 0, 0],
+            weight: 0,
+            ulae: &[0; 3],
+            tail: 0,
+        })
+        .expect("written");
+        for year in [2026, 2027] {
+            let refusal = run_to_vec(year, &record).expect_err("refused");
+            assert_eq!(refusal.number(), number);
+        }
     }
 }
 

@@ -17,7 +17,7 @@ use Rattle.rules.specs.Expense.{paidTotal, ulaeTotal, ratioPass, plainRatio, re
 use Rattle.rules.specs.Growth.{corrects, growthQuestions, usedRatio}
 use Rattle.rules.specs.Ladder.{developed, base, developmentFactor, developmentFactors, factorPasses, factorsPass, completed, completedRow, completedAll, completedPass}
 use Rattle.rules.specs.Results.{shareSection, paymentSection, provisionSection, reserveSection, tailSection, sectionCounts, sectionStart, separationSections, completionSections, reserveSections, ladderSections, tailSections, squareOf, latestDiagonalOf, factorsIn, firstTailAverageOf, paidIn, levelsIn, tailsIn, provisionsIn, developmentIn, plainRatioIn, usedRatioIn, sections, resultsOf}
-use Rattle.rules.specs.Engine.{completionQuestions, ratioQuestions, correctionQuestions, ladderQuestions, lastQuestions, laterQuestions, figureQuestions}
+use Rattle.rules.specs.Engine.{developmentQuestions, completionQuestions, ratioQuestions, correctionQuestions, completedLadderQuestions, lastQuestions, laterQuestions, figureQuestions}
 use Rattle.rules.specs.Demand.{entryOf, printed, exactPayment, paymentOver, exactTail, tailOver, exactProvision, provisionOver, exactNotReported, exactWeighted, exactReserve, reserveOver, paymentAllowance, tailAllowance, provisionAllowance, reserveAllowance}
 
 -- n 100, 1000; cells 1, 1 / 9,999,999,980; e 5,000,000, 4,999,999; 1 still to be paid: share 1 is printed as 2 billionths and is just above 1, the payment as 90 and is 50,
@@ -51,5 +51,5 @@ pub limits-bite :
     ∷ within low provisionSection 1 (exactProvision low (latestDiagonalOf low) (latestDiagonalOf low) (exactShares low) 1) (provisionOver low (latestDiagonalOf low)) (provisionAllowance low 1 - tailAllowance low 1)
     ∷ within low reserveSection 1 (exactReserve low (latestDiagonalOf low) (latestDiagonalOf low) (exactShares low) (usedRatioIn 2026 low) 1) (reserveOver low (latestDiagonalOf low)) (reserveAllowance low 1 - 100)
     ∷ [] ≡ false ∷ false ∷ false ∷ false ∷ false ∷ false ∷ []))
-unfolding firstNo figureQuestions laterQuestions lastQuestions completionQuestions ratioQuestions ladderQuestions separationQuestions total upTo padded joined every cells rowStart futureStart paidOf sumTo cumulativeOf rowPasses cumulativesPass givenCumulative paidTo evenly nearest averageOf averageRow averagesOf cellOf cellsTotal columnTotal diagonalTotal cornerTotal allTotal columnOf diagonalOf cornerOf runningDown runningOf shareOf levelOf totalsPass restsPass runningPass levelsPass factorsOf futureLevel futureLevels paymentOf payment paymentRow payments provision provisions ultimate ultimatesPass paidTotal ulaeTotal ratioPass plainRatio reportedAfter notReported weighted reserveOf reserve developed base developmentFactor developmentFactors factorPasses factorsPass completed completedRow completedAll completedPass sectionCounts sectionStart separationSections completionSections reserveSections ladderSections squareOf latestDiagonalOf factorsIn paidIn levelsIn provisionsIn developmentIn plainRatioIn usedRatioIn corrects growthQuestions usedRatio correctionQuestions sections resultsOf entryOf printed exactPayment exactProvision exactNotReported exactWeighted exactReserve exactTail paymentAllowance tailAllowance provisionAllowance reserveAllowance tailQuestions firstTailAverage tailAverage tailPayment tailPayments firstTailAveragePasses tailAveragesPass tailSections firstTailAverageOf tailsIn
+unfolding firstNo figureQuestions developmentQuestions laterQuestions lastQuestions completionQuestions ratioQuestions completedLadderQuestions separationQuestions total upTo padded joined every cells rowStart futureStart paidOf sumTo cumulativeOf rowPasses cumulativesPass givenCumulative paidTo evenly nearest averageOf averageRow averagesOf cellOf cellsTotal columnTotal diagonalTotal cornerTotal allTotal columnOf diagonalOf cornerOf runningDown runningOf shareOf levelOf totalsPass restsPass runningPass levelsPass factorsOf futureLevel futureLevels paymentOf payment paymentRow payments provision provisions ultimate ultimatesPass paidTotal ulaeTotal ratioPass plainRatio reportedAfter notReported weighted reserveOf reserve developed base developmentFactor developmentFactors factorPasses factorsPass completed completedRow completedAll completedPass sectionCounts sectionStart separationSections completionSections reserveSections ladderSections squareOf latestDiagonalOf factorsIn paidIn levelsIn provisionsIn developmentIn plainRatioIn usedRatioIn corrects growthQuestions usedRatio correctionQuestions sections resultsOf entryOf printed exactPayment exactProvision exactNotReported exactWeighted exactReserve exactTail paymentAllowance tailAllowance provisionAllowance reserveAllowance tailQuestions firstTailAverage tailAverage tailPayment tailPayments firstTailAveragePasses tailAveragesPass tailSections firstTailAverageOf tailsIn
 limits-bite = (refl, (refl, refl))

@@ -1,8 +1,8 @@
 // The run of any valuation year and record as comma-separated values: its result list, or the question that said no in words.
 use csv_text::put_csv;
 use engine::doonamurk_run;
+use opening::last_year_of;
 use outcomes::read_accepted;
-use reading::last_year_of;
 use refusals::put_refused;
 use rules::MOST_ENTRIES;
 use valuation::record_start;

@@ -28,7 +28,7 @@ use Rattle.laws.proofs.Joined.{sets-filled}
 use Rattle.laws.proofs.Questions.{yes-said}
 use Rattle.entries.proofs.Leading.{leading-all}
 use Rattle.tail.specs.Tailable.{yearsCarried, tailsCarried}
-use Rattle.engine.specs.Stages.{Tailed}
+use Rattle.reserving.specs.Stages.{Tailed}
 use Rattle.reading.specs.Reading.{Sound, rowRead}
 use Rattle.reading.proofs.FiguresRead.{Filled}
 

@@ -1,4 +1,4 @@
 pub mod RunQuestions
 pub mod Before
-pub mod Later
+pub mod Development
 pub mod Run

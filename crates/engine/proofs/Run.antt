@@ -19,8 +19,9 @@ use Rattle.laws.proofs.Questions.{both-zero}
 use Rattle.reading.proofs.FiguresRead.{sound-figures}
 use Rattle.results.proofs.SectionPlaces.{results-length}
 use Rattle.results.proofs.Demanded.{third-demand}
-use Rattle.engine.specs.Stages.{Answers}
-use Rattle.engine.proofs.RunQuestions.{answered, one-said}
+use Rattle.reserving.specs.Stages.{Answers}
+use Rattle.reserving.proofs.Answering.{one-said}
+use Rattle.engine.proofs.RunQuestions.{answered}
 
 -- what a run that answers n and leaves `held` in the buffer `out` has to show
 abbrev pub Ran : ℕ → List ℕ → List ℤ → ℕ → List ℤ → Type 0

@@ -1,18 +1,10 @@
 // The engine: from a valuation year and a record to the result list, under questions 1 to 19. It asks every question before it writes.
-use completion::fill_levels;
-use entries::sum_of;
-use expense::plain_ratio;
-use expense::put_reserves;
-use expense::ratio_passes;
-use growth::used_ratio;
 use ladder::development_factors;
 use listing::entries_of;
-use listing::put_completion;
-use listing::put_last;
-use listing::put_separation;
-use reading::last_year_of;
-use reading::opens;
+use opening::last_year_of;
+use opening::opens;
 use reading::read;
+use reserving::finish;
 use rules::ACCEPTED;
 use separation::separate_totals;
 use tail::carry_tail;
@@ -21,136 +13,16 @@ ghost use mathlib.Core.Path.{_≡_};
 ghost use mathlib.Core.List.{_++_};
 ghost use Prim.Native.Nat.{_≤_};
 ghost use lib.ListN.{length};
-ghost use lib.Seq.{sets};
 ghost use Rattle.rules.specs.Questions.{firstNo};
 ghost use Rattle.rules.specs.Record.{figures, lastYearOf, figuresOf};
 ghost use Rattle.rules.specs.Reading.{openingQuestions, fieldQuestions};
 ghost use Rattle.rules.specs.Results.{resultCount};
-ghost use Rattle.rules.specs.Engine.{lastQuestions, figureQuestions, holdsList, runAnswer, runInto};
+ghost use Rattle.rules.specs.Engine.{figureQuestions, holdsList, runAnswer, runInto};
 ghost use Rattle.rules.specs.Demand.{ThirdDemand};
 ghost use Rattle.reading.specs.Reading.{Sound};
-ghost use Rattle.engine.specs.Stages.{Separated, Tailed, Printable, printedList, Answers};
+ghost use Rattle.reserving.specs.Stages.{Answers};
 
-// The whole list.
-fn put_results<'a>(
-    out: &mut [i64],
-    k: usize,
-    square: &[[i64; 16]; 16],
-    shares: &'a [u64; 16],
-    levels: &'a [u64; 16],
-    ahead: &[u64; 16],
-    payments: &[u64; 120],
-    provisions: &[u64; 16],
-    paid: &[u64; 16],
-    reporting: &[u64; 16],
-    weight: u64,
-    ratio: u64,
-    factors: &[u64; 16],
-    completed: &[u64; 120],
-    tails: &[u64; 16],
-)
-    requires { ⌜ Printable k (now shares) (now levels) (now ahead) (now payments) (now provisions) (now paid) (now reporting) weight ratio (now factors) (now completed) (now tails)
-        × (resultCount k ≤ length (now out)) ⌝ }
-    ensures { λ _. ⌜ now (out .exit)
-        ≡ sets (now (out .entry)) 0
-        (printedList k (now (square .entry)) (now (shares .entry)) (now (levels .entry)) (now (ahead .entry)) (now (payments .entry)) (now (provisions .entry)) (now (paid .entry))
-        (now (reporting .entry)) weight ratio (now (factors .entry)) (now (completed .entry)) (now (tails .entry))) ⌝ }
-{
-    let a = put_separation(out, square, shares, levels, k);
-    let b = put_completion(out, a, ahead, payments, provisions, k);
-    let c = put_reserves(out, b, k, paid, provisions, reporting, weight, ratio);
-    put_last(out, c, factors, completed, tails, k);
-}
-
-// Questions 11 to 17 of figures whose separation was accepted and whose tail was carried on, and the list where all say yes. The latest diagonal is the latest level.
-fn finish<'a>(
-    year: u64,
-    k: usize,
-    exposures: &[u64; 16],
-    increments: &[i64; 136],
-    indices: &[u64; 16],
-    reporting: &[u64; 16],
-    weight: u64,
-    ulae: &[u64; 16],
-    tail: u64,
-    square: &[[i64; 16]; 16],
-    sums: &[u64; 16],
-    paid: &[u64; 16],
-    shares: &'a [u64; 16],
-    levels: &'a [u64; 16],
-    tails: &[u64; 16],
-    out: &mut [i64],
-) -> u64
-    requires { ⌜ Separated (figures k (now exposures) (now increments) (now indices) (now reporting) weight (now ulae) tail) (now square) (now sums) (now paid) (now shares) (now levels)
-        × (Tailed (figures k (now exposures) (now increments) (now indices) (now reporting) weight (now ulae) tail) (now tails) × (resultCount k ≤ length (now out))) ⌝ }
-    ensures { λ r. ⌜ Answers (lastQuestions year (figures k (now (exposures .entry)) (now (increments .entry)) (now (indices .entry)) (now (reporting .entry)) weight (now (ulae .entry)) tail))
-        year (figures k (now (exposures .entry)) (now (increments .entry)) (now (indices .entry)) (now (reporting .entry)) weight (now (ulae .entry)) tail) (now (out .entry)) (now (out .exit)) r ⌝ }
-{
-    let n = k + 1;
-    let mut ahead = [0u64; 16];
-    let mut payments = [0u64; 120];
-    let mut provisions = [0u64; 16];
-    fill_levels(levels[k], indices, k, &mut ahead);
-    if !completion::complete(
-        k,
-        exposures,
-        shares,
-        &ahead,
-        tails,
-        paid,
-        &mut payments,
-        &mut provisions,
-    ) {
-        return 11;
-    }
-    let total = sum_of(paid, n);
-    let spent = sum_of(ulae, n);
-    if !ratio_passes(total, spent) {
-        return 12;
-    }
-    let plain = plain_ratio(total, spent);
-    let used = used_ratio(
-        year,
-        k,
-        increments,
-        reporting,
-        weight,
-        paid,
-        &provisions,
-        plain,
-    );
-    if used.answer != ACCEPTED {
-        return used.answer;
-    }
-    let mut factors = [0u64; 16];
-    if !development_factors(k, sums, paid, &mut factors) {
-        return 13;
-    }
-    let mut completed = [0u64; 120];
-    if !ladder::complete(k, paid, &factors, &mut completed) {
-        return 14;
-    }
-    put_results(
-        out,
-        k,
-        square,
-        shares,
-        levels,
-        &ahead,
-        &payments,
-        &provisions,
-        paid,
-        reporting,
-        weight,
-        used.ratio,
-        &factors,
-        &completed,
-        tails,
-    );
-    ACCEPTED
-}
-
-// The questions from 6 on of figures that have passed 4 and 5, and the list where all say yes.
+// The questions from 6 on of figures that have passed 4 and 5, for a buffer that holds their list, and the list where all say yes.
 pub fn run_figures(
     year: u64,
     k: usize,
@@ -184,6 +56,10 @@ pub fn run_figures(
     ) {
         return 6;
     }
+    let mut development = [0u64; 16];
+    if !development_factors(k, &sums, &paid, &mut development) {
+        return 13;
+    }
     let separation = separate_totals(&columns, &diagonals, k);
     if separation.answer != ACCEPTED {
         return separation.answer;
@@ -205,7 +81,7 @@ pub fn run_figures(
         ulae,
         tail,
         &square,
-        &sums,
+        &development,
         &paid,
         &factors.shares,
         &factors.levels,

@@ -1,9 +1,9 @@
--- Questions one after another: where the answer is 0, and where the first or the others give it. Assumes nothing.
+-- Questions one after another: where the answer is 0, where the first or the others give it, and what a question changes that is moved forward. Assumes nothing.
 use Prim.Native.Nat.{ℕ, zero, suc, _≤_}
 use native.Mathlib.Omega.{arith}
-use borrow.Author.Tests.{leb-true}
-use mathlib.Core.Path.{_≡_, refl}
-use mathlib.Core.Bool.{Bool, true, false, cond}
+use borrow.Author.Tests.{leb-true, eqb-true, eqb-false, not-true, eq-eqb, ne-eqb}
+use mathlib.Core.Path.{_≡_, refl, sym, _∙_}
+use mathlib.Core.Bool.{Bool, true, false, cond, _&&_, not, and-false}
 use mathlib.Core.List.{List, [], _∷_, _++_}
 use lib.Dec.{eqb, leb}
 use lib.ListN.{getD}
@@ -80,3 +80,87 @@ pub after-refusal : {A : Type 0} (n : ℕ) (written held : A) → (n ≡ 0 → �
 unfolding afterCall
 after-refusal zero written held h = absurd (h refl)
 after-refusal (suc n) written held h = refl
+
+-- whether no question has the number n
+abbrev pub without : ℕ → List (ℕ × Bool) → Bool
+without n qs = every (λ q. not (eqb (q .0) n)) qs
+
+-- then n, from 1 on, is not the answer
+pub other-answer : (n : ℕ) → 1 ≤ n → (qs : List (ℕ × Bool)) → without n qs ≡ true → firstNo qs ≡ n → ⊥
+unfolding firstNo every
+other-answer n l [] w h = omega arith
+other-answer n l (q ∷ qs) w h =
+    let here = eqb-false (q .0) n (not-true (eqb (q .0) n) (both-left (not (eqb (q .0) n)) (without n qs) w)) in
+    go (q .1) here (other-answer n l qs (both-right (not (eqb (q .0) n)) (without n qs) w)) h
+  where
+    go : (b : Bool) → (q .0 ≡ n → ⊥) → (firstNo qs ≡ n → ⊥) → cond b (firstNo qs) (q .0) ≡ n → ⊥
+    go true here after e = after e
+    go false here after e = here e
+
+-- whether a question q, asked directly after the first and no longer after those between, gives the answer that one of those between gave: the first say yes, q says no, and so
+-- does one of those between
+abbrev pub overtakes : List (ℕ × Bool) → ℕ × Bool → List (ℕ × Bool) → Bool
+overtakes first q between = eqb (firstNo first) 0 && (not (q .1) && not (eqb (firstNo between) 0))
+
+module _ (first between rest : List (ℕ × Bool)) (q : ℕ × Bool) (k : numbered first ≡ true) (l : numbered (q ∷ between) ≡ true) where
+  between-numbered : numbered between ≡ true
+  unfolding every
+  between-numbered = both-right (leb 1 (q .0)) (numbered between) l
+
+  least : 1 ≤ q .0
+  unfolding every
+  least = leb-true 1 (q .0) (both-left (leb 1 (q .0)) (numbered between) l)
+
+  -- what there is to show of the answer m with q moved forward and the answer n of before, where q overtakes and where it does not
+  abbrev Moves : Bool → ℕ → ℕ → Type 0
+  Moves b m n = cond b ((m ≡ q .0) × ((n ≡ firstNo between) × (firstNo between ≡ 0 → ⊥))) (m ≡ n)
+
+  no-here : q .1 ≡ false → firstNo (q ∷ (between ++ rest)) ≡ q .0
+  unfolding firstNo
+  no-here f = rw f
+
+  moves : Moves (overtakes first q between) (firstNo (first ++ (q ∷ (between ++ rest)))) (firstNo (first ++ (between ++ (q ∷ rest))))
+  unfolding firstNo
+  moves = go (eqb (firstNo first) 0) refl (q .1) refl (eqb (firstNo between) 0) refl
+    where
+      go : (x : Bool) → eqb (firstNo first) 0 ≡ x → (b : Bool) → q .1 ≡ b → (y : Bool) → eqb (firstNo between) 0 ≡ y
+          → Moves (x && (not b && not y)) (firstNo (first ++ (q ∷ (between ++ rest)))) (firstNo (first ++ (between ++ (q ∷ rest))))
+      go false e b f y g = first-answer first _ (eqb-false _ 0 e) ∙ sym (first-answer first _ (eqb-false _ 0 e))
+      go true e b f true g =
+          let yes = eqb-true _ 0 e in
+          let all = eqb-true _ 0 g in
+          rw (and-false (not b), later-answer first (q ∷ (between ++ rest)) k yes, later-answer first (between ++ (q ∷ rest)) k yes, later-answer between (q ∷ rest) between-numbered all, later-answer between rest between-numbered all)
+      go true e true f false g =
+          let yes = eqb-true _ 0 e in
+          let no = eqb-false _ 0 g in
+          rw (later-answer first (q ∷ (between ++ rest)) k yes, later-answer first (between ++ (q ∷ rest)) k yes, first-answer between (q ∷ rest) no, f, first-answer between rest no)
+      go true e false f false g =
+          let yes = eqb-true _ 0 e in
+          let no = eqb-false _ 0 g in
+          (later-answer first (q ∷ (between ++ rest)) k yes ∙ no-here f, (later-answer first (between ++ (q ∷ rest)) k yes ∙ first-answer between (q ∷ rest) no, no))
+
+  -- the answer is that of q where it overtakes, and otherwise that of before
+  pub moved-answer : firstNo (first ++ (q ∷ (between ++ rest))) ≡ cond (overtakes first q between) (q .0) (firstNo (first ++ (between ++ (q ∷ rest))))
+  moved-answer = go (overtakes first q between) _ _ moves
+    where
+      go : (b : Bool) (m n : ℕ) → Moves b m n → m ≡ cond b (q .0) n
+      go true m n h = h .0
+      go false m n h = h
+
+  -- it is another just where q overtakes, once none of those between has its number
+  pub moved-changes : without (q .0) between ≡ true
+      → eqb (firstNo (first ++ (q ∷ (between ++ rest)))) (firstNo (first ++ (between ++ (q ∷ rest)))) ≡ not (overtakes first q between)
+  moved-changes w = go (overtakes first q between) _ _ moves
+    where
+      go : (b : Bool) (m n : ℕ) → Moves b m n → eqb m n ≡ not b
+      go true m n h = ne-eqb m n (λ e. other-answer (q .0) least between w (sym (h .1 .0) ∙ (sym e ∙ h .0)))
+      go false m n h = eq-eqb m n h
+
+  -- and what a call leaves is what it left before
+  pub moved-call : {A : Type 0} (written held : A)
+      → afterCall (firstNo (first ++ (q ∷ (between ++ rest)))) written held ≡ afterCall (firstNo (first ++ (between ++ (q ∷ rest)))) written held
+  moved-call written held = go (overtakes first q between) _ _ moves
+    where
+      go : (b : Bool) (m n : ℕ) → Moves b m n → afterCall m written held ≡ afterCall n written held
+      go true m n h = after-refusal m written held (λ z. omega (arith, least, h .0)) ∙ sym (after-refusal n written held (λ z. h .1 .1 (sym (h .1 .0) ∙ z)))
+      go false m n h = rw h

@@ -14,7 +14,7 @@ use Rattle.rules.specs.Results.{resultCount, mostEntries, resultsOf}
 use Rattle.rules.specs.Engine.{questions, runAnswer, runInto}
 use Rattle.laws.proofs.Joined.{take-sets}
 use Rattle.laws.proofs.Questions.{both-zero}
-use Rattle.reading.proofs.RowsRead.{years-known, opening-yes}
+use Rattle.opening.proofs.Opened.{years-known, opening-yes}
 use Rattle.record.proofs.RecordAnswers.{reader-yes}
 use Rattle.record.proofs.Number.{record-read}
 use Rattle.results.proofs.SectionPlaces.{results-length}

@@ -1,4 +1,4 @@
--- Document 01's rules without a tail, as they would be without request 3 of document 02 (with request 4's halves and, from valuation year 2027 on, request 1's ratio): they
+-- Document 01's rules without a tail, as they would be without request 3 of document 02 (with request 4's halves, request 6's place of 13 and, from valuation year 2027 on, request 1's ratio): they
 -- stand here only to be held against. Where a rule of today does not name the tail or e_{k+1}, it is the same rule. Assumes nothing.
 use Prim.Native.Nat.{ℕ, _+_, _-_, _*_, _/_, _%_, _^_, _≤_}
 use mathlib.Core.Path.{_≡_}
@@ -20,7 +20,7 @@ use Rattle.rules.specs.Expense.{notReported, reserve}
 use Rattle.rules.specs.Growth.{latestReported, divisorOf, growthQuestions, usedRatio}
 use Rattle.rules.specs.Ladder.{developed, base, developmentFactors, completedAll}
 use Rattle.rules.specs.Results.{separationSections, completionSections, reserveSections, ladderSections, squareOf, latestDiagonalOf, factorsIn, paidIn, levelsIn, developmentIn, plainRatioIn, latestPaidIn}
-use Rattle.rules.specs.Engine.{ratioQuestions, ladderQuestions, runAnswer, runInto}
+use Rattle.rules.specs.Engine.{developmentQuestions, ratioQuestions, completedLadderQuestions, runAnswer, runInto}
 
 -- the record: k indices, and nothing after the ULAE totals
 unfoldable pub layout01 : ℕ → List (ℕ × Kind)
@@ -94,8 +94,8 @@ fieldQuestions01 s =
 unfoldable pub figureQuestions01 : ℕ → Figures → List (ℕ × Bool)
 figureQuestions01 year f =
     (6, cumulativesPass (f .k) (f .increments))
-    ∷ (separationQuestions (squareOf f) (f .k) ++ ((11, ultimatesPass (f .k) (paidIn f) (provisionsIn01 f))
-    ∷ (ratioQuestions f ++ (growthQuestions year (plainRatioIn f) (latestPaidIn f) (divisor01 f) ++ ladderQuestions f))))
+    ∷ (developmentQuestions f ++ (separationQuestions (squareOf f) (f .k) ++ ((11, ultimatesPass (f .k) (paidIn f) (provisionsIn01 f))
+    ∷ (ratioQuestions f ++ (growthQuestions year (plainRatioIn f) (latestPaidIn f) (divisor01 f) ++ completedLadderQuestions f)))))
 
 unfoldable pub runAnswer01 : ℕ → List ℕ → ℕ → ℕ
 runAnswer01 year s m =

@@ -6,7 +6,7 @@ use lib.ListN.{getD}
 use Rattle.rules.specs.Record.{Figures, figures}
 use Rattle.rules.specs.Completion.{futureLevel, futureLevels}
 use Rattle.rules.specs.Results.{squareOf, latestDiagonalOf, factorsIn, paidIn, levelsIn, developmentIn, plainRatioIn, latestPaidIn}
-use Rattle.rules.specs.Engine.{ratioQuestions, ladderQuestions}
+use Rattle.rules.specs.Engine.{developmentQuestions, ratioQuestions, completedLadderQuestions}
 use Rattle.laws.proofs.Lists.{upTo-ext}
 use Rattle.no_tail.proofs.Document01.{provisions01, divisor01, resultsOf01, figureQuestions01}
 
@@ -20,7 +20,7 @@ module _ (year : ℕ) (f : Figures) (e : List ℕ) (same : (t : ℕ) → t < f .
   levels-same = upTo-ext _ _ (f .k) (λ t l. ap (futureLevel (latestDiagonalOf f)) (same t l))
 
   pub questions-same : figureQuestions01 year (withIndices e f) ≡ figureQuestions01 year f
-  unfolding figureQuestions01 provisions01 divisor01 ratioQuestions ladderQuestions squareOf latestDiagonalOf factorsIn paidIn levelsIn developmentIn plainRatioIn latestPaidIn
+  unfolding figureQuestions01 provisions01 divisor01 developmentQuestions ratioQuestions completedLadderQuestions squareOf latestDiagonalOf factorsIn paidIn levelsIn developmentIn plainRatioIn latestPaidIn
   questions-same = rw levels-same
 
   pub results-same : resultsOf01 year (withIndices e f) ≡ resultsOf01 year f

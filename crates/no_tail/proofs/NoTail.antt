@@ -13,7 +13,7 @@ use Rattle.rules.specs.Record.{mostIndex, layout, kindsOf, section, widths, bit
 use Rattle.rules.specs.Reading.{hasLength, openingQuestions}
 use Rattle.packing.proofs.Pack.{unpack-fits, length-row}
 use Rattle.layout.specs.Places.{startOf}
-use Rattle.reading.proofs.RowsRead.{WholeRecord, whole-record}
+use Rattle.opening.proofs.Opened.{WholeRecord, whole-record}
 use Rattle.reading.proofs.ListsRead.{one-row, codes, lists}
 use Rattle.record.proofs.Number.{bytesWith}
 use Rattle.no_tail.proofs.Document01.{layout01, widths01, byteCount01, fillingCount01, codesOf01, openingQuestions01, SameCodes, Without, SameRun}

@@ -17,7 +17,7 @@ use Rattle.rules.specs.Completion.{provision, provisions}
 use Rattle.rules.specs.Questions.{firstNo}
 use Rattle.rules.specs.Results.{factorsIn, levelsIn, firstTailAverageOf, tailsIn, provisionsIn, separationSections, completionSections, reserveSections, ladderSections, tailSections, latestReportedIn, divisorIn, usedRatioIn, sections, resultsOf}
 use Rattle.rules.specs.Separation.{separationQuestions}
-use Rattle.rules.specs.Engine.{completionQuestions, correctionQuestions, lastQuestions, laterQuestions, figureQuestions}
+use Rattle.rules.specs.Engine.{developmentQuestions, completionQuestions, correctionQuestions, lastQuestions, laterQuestions, figureQuestions}
 use Rattle.rules.proofs.Nearest.{nearest-zero}
 use Rattle.laws.proofs.Lists.{upTo-ext, every-yes, map-upTo}
 use Rattle.laws.proofs.Joined.{joined-append, upTo-all, padded-all}
@@ -76,7 +76,7 @@ module _ (year : ℕ) (f : Figures) (none : f .tail ≡ 0) where
   averages-pass = every-yes _ (λ i. i) (k + 1) (λ i l. rw (average-none i) refl)
 
   pub questions-none : firstNo (figureQuestions year f) ≡ firstNo (figureQuestions01 year f)
-  unfolding firstNo figureQuestions laterQuestions lastQuestions completionQuestions correctionQuestions separationQuestions tailQuestions divisorIn latestReportedIn divisor01 figureQuestions01 provisionsIn
+  unfolding firstNo figureQuestions developmentQuestions laterQuestions lastQuestions completionQuestions correctionQuestions separationQuestions tailQuestions divisorIn latestReportedIn divisor01 figureQuestions01 provisionsIn
   questions-none = rw (first-passes, averages-pass, provisions-same)
 
   -- the list

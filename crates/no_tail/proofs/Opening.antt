@@ -16,7 +16,7 @@ use Rattle.rules.specs.Reading.{hasLastYear}
 use Rattle.packing.proofs.Pack.{Fits}
 use Rattle.laws.proofs.Lists.{both-left}
 use Rattle.laws.proofs.Questions.{yes-said}
-use Rattle.reading.proofs.RowsRead.{years-known}
+use Rattle.opening.proofs.Opened.{years-known}
 use Rattle.record.proofs.Number.{bytesFor, fillingFor, bytesWith, years-first, bytes-hold}
 
 -- the widths after the first, by k

@@ -17,7 +17,7 @@ use Rattle.rules.specs.Expense.{paidTotal, ulaeTotal, ratioPass, plainRatio, re
 use Rattle.rules.specs.Growth.{corrects, growthQuestions, usedRatio}
 use Rattle.rules.specs.Ladder.{developed, base, developmentFactor, developmentFactors, factorPasses, factorsPass, completed, completedRow, completedAll, completedPass}
 use Rattle.rules.specs.Results.{separationSections, completionSections, reserveSections, ladderSections, squareOf, latestDiagonalOf, factorsIn, paidIn, levelsIn, developmentIn, plainRatioIn}
-use Rattle.rules.specs.Engine.{ratioQuestions, ladderQuestions}
+use Rattle.rules.specs.Engine.{developmentQuestions, ratioQuestions, completedLadderQuestions}
 use Rattle.rules.proofs.Worked.{bytes}
 use Rattle.no_tail.proofs.Document01.{layout01, widths01, byteCount01, fillingCount01, codesOf01, fieldsOf01, figuresOf01, provisions01, resultCount01, resultsOf01, openingQuestions01, fieldQuestions01, figureQuestions01, runAnswer01, Without}
 
@@ -32,7 +32,7 @@ printed =
 
 -- accepted in 2026 with room for 20 entries, refused 3 with room for 19, and the list
 pub worked-run : (runAnswer01 2026 bytes01 20 ≡ 0) × ((runAnswer01 2026 bytes01 19 ≡ 3) × (resultsOf01 2026 (figuresOf01 bytes01) ≡ printed))
-unfolding total upTo padded every pack unpack numberOf firstNo cells kindsOf section valueOf inRange negativeZero bitsInRange everyField lastYearOf hasLastYear rowStart paidOf sumTo cumulativeOf cumulativesPass evenly nearest averageOf averageRow averagesOf cellOf cellsTotal columnTotal diagonalTotal cornerTotal allTotal columnOf diagonalOf cornerOf runningDown runningOf shareOf levelOf totalsPass restsPass runningPass levelsPass factorsOf futureLevel payment paymentRow paidTo ultimate ultimatesPass paidTotal ulaeTotal ratioPass plainRatio reportedAfter notReported weighted reserve givenCumulative developed base developmentFactor completed completedRow factorsPass completedPass squareOf latestDiagonalOf factorsIn joined zipWith rowPasses futureLevels paymentOf payments reserveOf developmentFactors factorPasses completedAll paidIn levelsIn developmentIn plainRatioIn corrects growthQuestions usedRatio separationSections completionSections reserveSections ladderSections separationQuestions ratioQuestions ladderQuestions layout01 widths01 byteCount01 fillingCount01 codesOf01 fieldsOf01 figuresOf01 provisions01 resultCount01 resultsOf01 openingQuestions01 fieldQuestions01 figureQuestions01 runAnswer01
+unfolding total upTo padded every pack unpack numberOf firstNo cells kindsOf section valueOf inRange negativeZero bitsInRange everyField lastYearOf hasLastYear rowStart paidOf sumTo cumulativeOf cumulativesPass evenly nearest averageOf averageRow averagesOf cellOf cellsTotal columnTotal diagonalTotal cornerTotal allTotal columnOf diagonalOf cornerOf runningDown runningOf shareOf levelOf totalsPass restsPass runningPass levelsPass factorsOf futureLevel payment paymentRow paidTo ultimate ultimatesPass paidTotal ulaeTotal ratioPass plainRatio reportedAfter notReported weighted reserve givenCumulative developed base developmentFactor completed completedRow factorsPass completedPass squareOf latestDiagonalOf factorsIn joined zipWith rowPasses futureLevels paymentOf payments reserveOf developmentFactors factorPasses completedAll paidIn levelsIn developmentIn plainRatioIn corrects growthQuestions usedRatio separationSections completionSections reserveSections ladderSections separationQuestions developmentQuestions ratioQuestions completedLadderQuestions layout01 widths01 byteCount01 fillingCount01 codesOf01 fieldsOf01 figuresOf01 provisions01 resultCount01 resultsOf01 openingQuestions01 fieldQuestions01 figureQuestions01 runAnswer01
 worked-run = (refl, (refl, refl))
 
 pub worked-without : Without million bytes01 bytes

@@ -17,7 +17,7 @@ use Rattle.rules.specs.Growth.{corrects, latestPaidPasses, growthQuestions}
 use Rattle.rules.specs.Ladder.{completedAll, completedPass}
 use Rattle.rules.specs.Results.{mostEntries, paidIn, provisionsIn, developmentIn, latestPaidIn, resultsOf}
 use Rattle.rules.specs.Tail.{tailQuestions}
-use Rattle.rules.specs.Engine.{completionQuestions, ratioQuestions, correctionQuestions, ladderQuestions, lastQuestions, laterQuestions, figureQuestions, runAnswer, runInto}
+use Rattle.rules.specs.Engine.{developmentQuestions, completionQuestions, ratioQuestions, correctionQuestions, completedLadderQuestions, lastQuestions, laterQuestions, figureQuestions, runAnswer, runInto}
 use Rattle.laws.proofs.Questions.{yes-said}
 use Rattle.results.proofs.SectionPlaces.{results-length}
 use Rattle.outcomes.specs.Outcome.{filledBy}
@@ -26,20 +26,20 @@ use Rattle.outcomes.proofs.Passed.{accepted, room, figures-answer}
 module _ (year : ℕ) (s : List ℕ) (ok : runAnswer year s mostEntries ≡ 0) where
   -- questions 11, 12 and 14 have said yes
   pub ultimates : ultimatesPass (figuresOf s .k) (paidIn (figuresOf s)) (provisionsIn (figuresOf s)) ≡ true
-  unfolding figureQuestions separationQuestions laterQuestions tailQuestions lastQuestions completionQuestions ratioQuestions correctionQuestions growthQuestions ladderQuestions every
+  unfolding figureQuestions developmentQuestions separationQuestions laterQuestions tailQuestions lastQuestions completionQuestions ratioQuestions correctionQuestions growthQuestions completedLadderQuestions every
   ultimates = yes-said 11 (figureQuestions year (figuresOf s)) refl (figures-answer year s (accepted year s ok))
 
   pub ratio : ratioPass (paidTotal (figuresOf s .k) (figuresOf s .increments)) (ulaeTotal (figuresOf s .k) (figuresOf s .ulae)) ≡ true
-  unfolding figureQuestions separationQuestions laterQuestions tailQuestions lastQuestions completionQuestions ratioQuestions correctionQuestions growthQuestions ladderQuestions every
+  unfolding figureQuestions developmentQuestions separationQuestions laterQuestions tailQuestions lastQuestions completionQuestions ratioQuestions correctionQuestions growthQuestions completedLadderQuestions every
   ratio = yes-said 12 (figureQuestions year (figuresOf s)) refl (figures-answer year s (accepted year s ok))
 
   pub completed : completedPass (completedAll (figuresOf s .k) (paidIn (figuresOf s)) (developmentIn (figuresOf s))) ≡ true
-  unfolding figureQuestions separationQuestions laterQuestions tailQuestions lastQuestions completionQuestions ratioQuestions correctionQuestions growthQuestions ladderQuestions every
+  unfolding figureQuestions developmentQuestions separationQuestions laterQuestions tailQuestions lastQuestions completionQuestions ratioQuestions correctionQuestions growthQuestions completedLadderQuestions every
   completed = yes-said 14 (figureQuestions year (figuresOf s)) refl (figures-answer year s (accepted year s ok))
 
   -- and question 15, where the year's ratio is corrected
   pub latest : corrects year ≡ true → latestPaidPasses (latestPaidIn (figuresOf s)) ≡ true
-  unfolding figureQuestions separationQuestions laterQuestions tailQuestions lastQuestions completionQuestions ratioQuestions correctionQuestions growthQuestions ladderQuestions every
+  unfolding figureQuestions developmentQuestions separationQuestions laterQuestions tailQuestions lastQuestions completionQuestions ratioQuestions correctionQuestions growthQuestions completedLadderQuestions every
   latest e = rw e at (yes-said 15 (figureQuestions year (figuresOf s)) refl (figures-answer year s (accepted year s ok)))
 
   -- the list begins with the results

@@ -3,10 +3,9 @@ use Prim.Native.Nat.{ℕ, _+_, _*_, _^_, _≤_, _<_}
 use native.Mathlib.Nat.{mul-le-mul, div-le-self}
 use native.Mathlib.Omega.{arith}
 use borrow.Author.Tests.{leb-true}
-use mathlib.Core.Path.{_≡_, sym, ap}
+use mathlib.Core.Path.{_≡_, ap}
 use mathlib.Core.Bool.{true, false}
 use mathlib.Core.List.{List, _++_}
-use lib.Dec.{leb}
 use lib.IntN.{ℤ, pos, negsuc, natAbs}
 use lib.ListN.{getD, take}
 use Rattle.rules.specs.Lists.{total, upTo, padded}
@@ -17,10 +16,11 @@ use Rattle.rules.specs.Expense.{paidTotal, ulaeTotal, ratioPass, plainRatio}
 use Rattle.rules.specs.Growth.{corrects, latestReported, latestPaid, latestPaidPasses, divisorOf}
 use Rattle.rules.specs.Results.{provisionSection, sectionStart, factorsIn, paidIn, levelsIn, tailsIn, provisionsIn, plainRatioIn, latestReportedIn, latestPaidIn, divisorIn, resultsOf}
 use Rattle.rules.specs.Demand.{entryOf, printed}
-use Rattle.laws.proofs.Lists.{both-left, total-most, upTo-ext}
-use Rattle.triangle.proofs.Passed.{paid-most, paid-total}
+use Rattle.laws.proofs.Lists.{upTo-ext}
+use Rattle.triangle.proofs.Passed.{paid-most}
 use Rattle.reading.specs.Reading.{Sound}
 use Rattle.listing.specs.Starts.{Addable}
+use Rattle.reserving.proofs.PlainRatio as ratio
 use Rattle.results.proofs.Limits.{ultimates-most}
 use Rattle.results.proofs.Printed.{provision-entry}
 use Rattle.growth.specs.declared.Correction.{Correction}
@@ -52,36 +52,27 @@ paid-small f six i = omega (arith, paid-most (f .k) (f .increments) six i)
 module _ (f : Figures) (good : Sound f) (six : cumulativesPass (f .k) (f .increments) ≡ true) where
   -- the paid cumulatives c and the ULAE totals u of the years 0 to k
   module _ (k : ℕ) (c u : List ℕ) (ek : k ≡ f .k) (ec : c ≡ paidIn f) (eu : u ≡ f .ulae) where
-    paid-is : pos (total (take (k + 1) c)) ≡ paidTotal (f .k) (f .increments)
-    unfolding paidIn
-    paid-is = rw (ec, ek) (sym (paid-total (f .k) (f .increments) six (good .few)))
+    paid-sum : total (take (k + 1) c) ≡ total (take (f .k + 1) (paidIn f))
+    paid-sum = rw (ek, ec)
 
-    spent-is : total (take (k + 1) u) ≡ ulaeTotal (f .k) (f .ulae)
-    unfolding ulaeTotal
-    spent-is = rw (ek, eu)
+    spent-sum : total (take (k + 1) u) ≡ total (take (f .k + 1) (f .ulae))
+    spent-sum = rw (ek, eu)
 
     pub ratio-ready : ratioPass (paidTotal (f .k) (f .increments)) (ulaeTotal (f .k) (f .ulae)) ≡ true
         → (k < 16) × (Addable c × (Addable u × ((1 ≤ total (take (k + 1) c)) × (total (take (k + 1) u) ≤ 16 * mostAmount))))
-    unfolding ratioPass ulaeTotal
-    ratio-ready q =
-        let n = total (take (k + 1) c) in
-        let m = total (take (k + 1) u) in (
-          omega (arith, good .few),
-          (
-            rw ec (paid-small f six),
-            (
-              rw eu (λ t. omega (arith, good .ulae t)),
-              (
-                leb-true 1 n (both-left (leb 1 n) (leb m n) (rw (← paid-is, ← spent-is) at q)),
-                omega (arith, spent-is, total-most mostAmount (f .ulae) (good .ulae) (f .k + 1), good .few),
-              ),
-            ),
-          ),
-        )
+    ratio-ready q = (
+      omega (arith, good .few),
+      (
+        rw ec (paid-small f six),
+        (
+          rw eu (λ t. omega (arith, good .ulae t)),
+          (ratio.paid-least f good six _ _ paid-sum spent-sum q, ratio.spent-most f good six _ _ paid-sum spent-sum),
+        ),
+      ),
+    )
 
     pub plain-is : plainRatio (pos (total (take (k + 1) c))) (total (take (k + 1) u)) ≡ plainRatioIn f
-    unfolding plainRatioIn
-    plain-is = rw (paid-is, spent-is)
+    plain-is = ratio.plain-is f good six _ _ paid-sum spent-sum
 
 -- the provisions that stand in a list which begins with the results
 pub provisions-are : (year : ℕ) (f : Figures) (rest list : List ℤ) (k p : ℕ) → k ≡ f .k → p ≡ sectionStart (f .k) provisionSection → list ≡ resultsOf year f ++ rest

@@ -1,4 +1,4 @@
-// What of a record is needed again after a run of the engine. Laws about what the record has passed where no question before the seventh refuses it, and about the list
+// What of a record is needed again after a run of the engine. Laws about what the record has passed where none of questions 1 to 6 refuses it, and about the list
 // that an accepted run filled, stand in proofs/.
 use entries::size_of;
 use entries::sum_of;
@@ -9,7 +9,7 @@ use growth::divisor_of;
 use growth::latest_paid;
 use growth::latest_reported;
 use listing::starts_of;
-use reading::last_year_of;
+use opening::last_year_of;
 use reading::read;
 use rules::MOST_ENTRIES;
 use triangle::fill_rows;
@@ -26,17 +26,19 @@ ghost use Rattle.rules.specs.Triangle.{cumulativesPass, TotalsIn};
 ghost use Rattle.rules.specs.Expense.{plainRatio};
 ghost use Rattle.rules.specs.Results.{mostEntries, squareOf, paidIn};
 ghost use Rattle.rules.specs.Engine.{runAnswer};
+ghost use Rattle.triangle.specs.Columns.{columnSum};
 ghost use Rattle.listing.specs.Starts.{Addable};
 ghost use Rattle.outcomes.specs.Outcome.{filledBy, correctionBy};
 
-// The increments, the reporting shares, the ULAE totals and the paid cumulatives of a record that has passed questions 1, 2, 4, 5 and 6, and the totals of the columns and
-// diagonals of its averages; answers the weight.
+// The increments, the reporting shares, the ULAE totals, the paid cumulatives and the sums of the cumulatives' columns of a record that has passed questions 1, 2, 4, 5 and 6, and
+// the totals of the columns and diagonals of its averages; answers the weight.
 pub fn read_again(
     packed: &[u8],
     increments: &mut [i64; 136],
     reporting: &mut [u64; 16],
     ulae: &mut [u64; 16],
     paid: &mut [u64; 16],
+    sums: &mut [u64; 16],
     columns: &mut [i64; 16],
     diagonals: &mut [i64; 16],
 ) -> u64
@@ -44,13 +46,16 @@ pub fn read_again(
         × ((firstNo (fieldQuestions (now packed)) ≡ 0)
         × ((cumulativesPass (figuresOf (now packed) .k) (figuresOf (now packed) .increments) ≡ true)
         × ((now increments ≡ replicate 136 (pos 0))
-        × ((now reporting ≡ replicate 16 0) × ((now ulae ≡ replicate 16 0) × (now paid ≡ replicate 16 0)))))) ⌝ }
+        × ((now reporting ≡ replicate 16 0)
+        × ((now ulae ≡ replicate 16 0) × ((now paid ≡ replicate 16 0) × (now sums ≡ replicate 16 0))))))) ⌝ }
     ensures { λ r. ⌜ (r ≡ figuresOf (now (packed .entry)) .weight)
         × ((now (increments .exit) ≡ figuresOf (now (packed .entry)) .increments)
         × ((now (reporting .exit) ≡ figuresOf (now (packed .entry)) .reporting)
         × ((now (ulae .exit) ≡ figuresOf (now (packed .entry)) .ulae)
         × ((now (paid .exit) ≡ paidIn (figuresOf (now (packed .entry))))
-        × TotalsIn (squareOf (figuresOf (now (packed .entry)))) (now (columns .exit)) (now (diagonals .exit)))))) ⌝ }
+        × ((now (sums .exit)
+        ≡ upTo (columnSum (figuresOf (now (packed .entry)) .k) (figuresOf (now (packed .entry)) .increments) (figuresOf (now (packed .entry)) .k + 1)) 16)
+        × TotalsIn (squareOf (figuresOf (now (packed .entry)))) (now (columns .exit)) (now (diagonals .exit))))))) ⌝ }
 {
     let mut exposures = [0u64; 16];
     let mut indices = [0u64; 16];
@@ -63,13 +68,12 @@ pub fn read_again(
         ulae,
     );
     let mut square = [[0i64; 16]; 16];
-    let mut sums = [0u64; 16];
     fill_rows(
         last_year_of(packed),
         &exposures,
         increments,
         &mut square,
-        &mut sums,
+        sums,
         paid,
         columns,
         diagonals,
@@ -114,6 +118,7 @@ pub fn read_accepted(
     let mut increments = [0i64; 136];
     let mut reporting = [0u64; 16];
     let mut ulae = [0u64; 16];
+    let mut sums = [0u64; 16];
     let mut columns = [0i64; 16];
     let mut diagonals = [0i64; 16];
     let weight = read_again(
@@ -122,6 +127,7 @@ pub fn read_accepted(
         &mut reporting,
         &mut ulae,
         paid,
+        &mut sums,
         &mut columns,
         &mut diagonals,
     );

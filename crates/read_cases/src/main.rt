@@ -1,7 +1,7 @@
 // Test of the reader. Each case on standard input is the length of a list (one byte), the length of a record (two bytes, high byte first) and
 // the record. The list is lent full of -7. Writes the answer, and then the list after an answer of 0, or whether a refusal left it unchanged.
 use printing::put_outcome;
-use reading::doonamurk_read;
+use reader::doonamurk_read;
 ghost use Prim.Native.Nat.{_<_};
 
 // What each entry of the lent list holds before the call.

@@ -23,7 +23,7 @@ use Rattle.packing.proofs.Pack.{length-row}
 use Rattle.packing.specs.Field.{fieldAt, rowAt}
 use Rattle.layout.specs.Places.{startOf, placesOf}
 use Rattle.reading.specs.Reading.{rowRead, Sound}
-use Rattle.reading.proofs.RowsRead.{WholeRecord, whole-record}
+use Rattle.opening.proofs.Opened.{WholeRecord, whole-record}
 use Rattle.reading.proofs.ListsRead.{lists, one-row}
 use Rattle.reading.proofs.Ranges.{Passed, Tested, PlacesFound, places-found, ranges-pass}
 use Rattle.reading.proofs.ReadAnswers.{fields-yes}

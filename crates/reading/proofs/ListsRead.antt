@@ -1,4 +1,4 @@
--- The lists of a record that has passed questions 1 and 2, as the reader holds them. Assumes nothing.
+-- The lists of a record that has passed questions 1 and 2, as they are read. Assumes nothing.
 use Prim.Native.Nat.{ℕ, _+_, _*_, _/_, _%_, _^_}
 use native.Mathlib.Omega.{arith}
 use mathlib.Core.Path.{_≡_, refl, ap, ap₂, _∙_}
@@ -12,7 +12,8 @@ use Rattle.rules.specs.Lists.{upTo}
 use Rattle.layout.specs.Places.{startOf}
 use Rattle.layout.proofs.RecordSizes.{starts}
 use Rattle.laws.proofs.Lists.{sizes-again}
-use Rattle.reading.proofs.RowsRead.{WholeRecord, codes-row, fields-row}
+use Rattle.opening.proofs.Opened.{WholeRecord}
+use Rattle.reading.proofs.RowsRead.{codes-row, fields-row}
 
 -- the values of a kind without a sign bit are its bits
 value : (κ : Kind) → κ .signed ≡ false → (x : ℕ) → valueOf κ x ≡ pos x

@@ -18,7 +18,8 @@ use Rattle.layout.specs.declared.Places.{Places}
 use Rattle.layout.proofs.RecordSizes.{bytes-room, bytes-least, bits-most, starts}
 use Rattle.laws.proofs.TriangleRows.{cells-most}
 use Rattle.reading.specs.Reading.{RowInside, rowRead}
-use Rattle.reading.proofs.RowsRead.{WholeRecord, ranges-are, codes-row, rows, years-field}
+use Rattle.opening.proofs.Opened.{WholeRecord}
+use Rattle.reading.proofs.RowsRead.{ranges-are, codes-row, rows, years-field}
 use Rattle.reading.proofs.ListsRead.{codes, one-row}
 use Rattle.reading.proofs.Reached.{kindAt, rowFits, reached, unreached, rows-pass, row-fails, row-passes}
 
@@ -61,7 +62,7 @@ unfolding passing
 passing-plain w l m [] = refl
 passing-plain w l m (x ∷ xs) = rw (plain w l m x, passing-plain w l m xs)
 
--- a row with the range that the reader asks for: whether it is in range, and what is read of it
+-- a row with the range that the reading asks for: whether it is in range, and what is read of it
 pub record Tested (s : List ℕ) (i : ℕ) (p : ℕ → Bool) (row : List ℕ) : Type 0 where
   pub same : fits s i ≡ every p row
   pub read : Passed s i → rowRead s i ≡ passing p row

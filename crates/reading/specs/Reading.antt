@@ -1,12 +1,12 @@
--- What the reader makes of a record: the rows of fields that it reads as far as question 4 says yes, the fields in their order, and what the later steps
--- use of figures that have passed questions 4 and 5. Assumes nothing.
+-- What is read of a record: the rows of fields as far as question 4 says yes, and what the later steps use of figures that have passed questions 4 and 5.
+-- Assumes nothing.
 use Prim.Native.Nat.{ℕ, _+_, _*_, _<_, _≤_, _^_}
 use mathlib.Core.Bool.{cond}
-use mathlib.Core.List.{List, [], _∷_, _++_, map}
-use lib.IntN.{ℤ, pos, natAbs}
+use mathlib.Core.List.{List, [], _∷_}
+use lib.IntN.{pos, natAbs}
 use lib.ListN.{length, getD, take, drop}
 use Rattle.rules.specs.Lists.{every, total}
-use Rattle.rules.specs.Record.{Kind, layout, cells, bitsInRange, codesOf, lastYearOf, Figures, million, mostIndex, mostAmount}
+use Rattle.rules.specs.Record.{Kind, layout, bitsInRange, codesOf, lastYearOf, Figures, million, mostIndex, mostAmount}
 use Rattle.entries.specs.Leading.{passing}
 use mathlib.Core.Path.{_≡_}
 
@@ -28,19 +28,6 @@ rowsRead (r ∷ rs) codes =
 -- row i of the record s
 unfoldable pub rowRead : List ℕ → ℕ → List ℕ
 rowRead s i = getD (rowsRead (layout (lastYearOf s)) (codesOf s)) i []
-
--- numbers that stand in a signed list
-abbrev pub Signable : List ℕ → Type 0
-Signable xs = (i : ℕ) → getD xs i 0 < 2 ^ 63
-
--- the fields in the record's order from their arrays: k, the exposures n and the increments p; and the indices e, the reporting shares b, the weight w,
--- the ULAE totals u and the amount still to be paid a
-unfoldable pub triangleFields : ℕ → List ℕ → List ℤ → List ℤ
-triangleFields k n p = pos k ∷ (map pos (take (k + 1) n) ++ take (cells k) p)
-
-unfoldable pub assumptionFields : ℕ → List ℕ → List ℕ → ℕ → List ℕ → ℕ → List ℤ
-assumptionFields k e b w u a =
-    map pos (take (k + 1) e) ++ (map pos (take (k + 1) b) ++ (pos w ∷ (map pos (take (k + 1) u) ++ (pos a ∷ []))))
 
 -- entries past the lists' ends are bounded too, since they are zero
 pub record Sound (f : Figures) : Type 0 where

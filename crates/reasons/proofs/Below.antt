@@ -1,13 +1,13 @@
 -- Totals below zero and not, and the reason by the first of them. Assumes nothing.
-use mathlib.Core.Path.{_≡_, refl, sym}
-use Prim.Native.Nat.{ℕ, zero, suc, _+_, _≤_, _<_}
-use native.Mathlib.Omega.{arith}
+use mathlib.Core.Path.{_≡_, sym, ap}
+use Prim.Native.Nat.{ℕ, _+_, _≤_, _<_}
 use borrow.Author.Tests.{lt-ltb, le-ltb}
 use lib.IntN.{ℤ, pos}
 use lib.Signed.{leZ}
 use Rattle.entries.specs.Leading.{leading}
 use Rattle.composing.specs.Text.{ascii}
 use Rattle.reasons.specs.Reasons.{firstBelow, yearReason, totalsReason}
+use Rattle.reasons.proofs.Counted.{leading-same}
 
 -- the reason where a column is below zero, where a diagonal is, and where none is
 module _ (v d : ℕ → ℤ) (k : ℕ) where
@@ -26,10 +26,7 @@ module _ (v d : ℕ → ℤ) (k : ℕ) where
 
 -- of the same totals the same reason
 below-same : (v w : ℕ → ℤ) (n : ℕ) → ((i : ℕ) → i < n → v i ≡ w i) → leading (λ i. leZ (pos 0) (v i)) n ≡ leading (λ i. leZ (pos 0) (w i)) n
-unfolding leading
-below-same v w zero h = refl
-below-same v w (suc n) h =
-    rw (below-same v w n (λ i l. h i (omega arith)), h n (omega arith))
+below-same v w n h = leading-same (λ i. leZ (pos 0) (v i)) (λ i. leZ (pos 0) (w i)) n (λ i l. ap (leZ (pos 0)) (h i l))
 
 pub reason-same : (v w d e : ℕ → ℤ) (k : ℕ) → ((i : ℕ) → i < k + 1 → v i ≡ w i) → ((i : ℕ) → i < k + 1 → d i ≡ e i) → totalsReason v d k ≡ totalsReason w e k
 unfolding totalsReason firstBelow

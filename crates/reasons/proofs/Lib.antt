@@ -1,2 +1,4 @@
 pub mod Below
+pub mod Counted
 pub mod Why
+pub mod Stored

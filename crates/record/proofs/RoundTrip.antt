@@ -16,8 +16,8 @@ use Rattle.rules.specs.Lists.{every}
 use Rattle.rules.specs.Engine.{figureQuestions, holdsList, questions, runAnswer}
 use Rattle.packing.proofs.Pack.{bytes-small}
 use Rattle.layout.proofs.RecordSizes.{years-lt}
-use Rattle.reading.proofs.RowsRead.{WholeRecord}
-use Rattle.reading.proofs.ReadAnswers.{listOf, list-same}
+use Rattle.opening.proofs.Opened.{WholeRecord}
+use Rattle.reader.proofs.FieldsPut.{listOf, list-same}
 use Rattle.laws.proofs.Questions.{both-zero, later-answer}
 use borrow.Author.Tests.{le-leb}
 use native.Mathlib.Nat.{le-refl}

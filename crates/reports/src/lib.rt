@@ -3,9 +3,9 @@ use engine::doonamurk_run;
 use entries::size_of;
 use growth::Correction;
 use listing::starts_of;
+use opening::last_year_of;
 use outcomes::read_accepted;
 use page::put_page;
-use reading::last_year_of;
 use refusals::put_refused;
 use rules::MOST_ENTRIES;
 use valuation::record_start;
@@ -21,7 +21,7 @@ ghost use Rattle.rules.specs.Lists.{upTo, padded};
 ghost use Rattle.rules.specs.Results.{completedSection, sectionStart, mostEntries};
 ghost use Rattle.rules.specs.Engine.{runAnswer};
 ghost use Rattle.composing.specs.Text.{Put};
-ghost use Rattle.refusals.specs.Refusal.{PassedToSix, refusalOf};
+ghost use Rattle.refusals.specs.Refusal.{Refused, refusalOf};
 ghost use Rattle.listing.specs.Starts.{Addable};
 ghost use Rattle.amounts_table.specs.Amounts.{TailsAddable};
 ghost use Rattle.ratio_table.specs.Ratio.{InSignedRange};
@@ -88,7 +88,7 @@ fn put_accepted(
 
 // The words of a refusal on a page of HTML.
 fn put_web_refusal(out: &mut [u8], packed: &[u8], answer: u64) -> usize
-    requires { ⌜ (answer ≡ 7 → PassedToSix (now packed)) ⌝ }
+    requires { ⌜ Refused (now packed) answer ⌝ }
     ensures { λ r. ⌜ Put (now (out .entry)) (now (out .exit)) 0 r (webRefusal (now (packed .entry)) answer) ⌝ }
 {
     let a = put_web_start(out, 0);
@@ -99,7 +99,7 @@ fn put_web_refusal(out: &mut [u8], packed: &[u8], answer: u64) -> usize
 
 // The words of a refusal, as HTML or as text.
 fn put_refusal_form(out: &mut [u8], packed: &[u8], answer: u64, html: bool) -> usize
-    requires { ⌜ (answer ≡ 7 → PassedToSix (now packed)) ⌝ }
+    requires { ⌜ Refused (now packed) answer ⌝ }
     ensures { λ r. ⌜ Put (now (out .entry)) (now (out .exit)) 0 r (cond html (webRefusal (now (packed .entry)) answer) (refusalOf (now (packed .entry)) answer)) ⌝ }
 {
     if html {

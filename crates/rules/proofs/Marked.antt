@@ -1,6 +1,6 @@
--- The marked triangles and edges of document 01, with what requests 1, 3 and 4 of document 02 mark: one or more rows for each starred item, what the rules give and
+-- The marked triangles and edges of document 01, with what requests 1, 3, 4 and 6 of document 02 mark: one or more rows for each starred item, what the rules give and
 -- what the paper prints, and one theorem. A marked triangle is of valuation year 2026, has nothing still to be paid after year k, and e_{k+1} = M. The second row
--- of averages, and the rows with an amount still to be paid or a later year, are ours.
+-- of averages, the rows with an amount still to be paid or a later year, and the last three but for document 01's k = 2 case are ours.
 -- Assumes nothing.
 use Prim.Native.Nat.{ℕ}
 use mathlib.Core.Path.{_≡_, refl}
@@ -23,7 +23,7 @@ use Rattle.rules.specs.Expense.{paidTotal, ulaeTotal, ratioPass, plainRa
 use Rattle.rules.specs.Growth.{corrects, latestReported, latestPaid, latestPaidPasses, divisorOf, divisorPasses, correctedRatio, correctedRatioPasses, growthQuestions, usedRatio}
 use Rattle.rules.specs.Ladder.{developed, base, developmentFactor, developmentFactors, factorPasses, factorsPass, completed, completedRow, completedAll, completedPass}
 use Rattle.rules.specs.Results.{reserveSection, ratioSection, mostEntries, sectionCounts, resultCount, sectionStart, separationSections, completionSections, reserveSections, ladderSections, tailSections, squareOf, latestDiagonalOf, factorsIn, firstTailAverageOf, paidIn, levelsIn, tailsIn, provisionsIn, developmentIn, plainRatioIn, latestReportedIn, latestPaidIn, divisorIn, usedRatioIn, sections, resultsOf}
-use Rattle.rules.specs.Engine.{completionQuestions, ratioQuestions, correctionQuestions, ladderQuestions, lastQuestions, laterQuestions, figureQuestions, holdsList, questions, runAnswer, runInto}
+use Rattle.rules.specs.Engine.{developmentQuestions, completionQuestions, ratioQuestions, correctionQuestions, completedLadderQuestions, lastQuestions, laterQuestions, figureQuestions, holdsList, questions, runAnswer, runInto}
 
 -- the record of two years with these exposures, cells, indices, ULAE totals and amount still to be paid; b 800,000, 200,000; w 500,000
 abbrev twoYears : List ℕ → List ℤ → List ℕ → List ℕ → ℕ → List ℕ
@@ -84,6 +84,20 @@ nothingPaid = threeYears (1000 ∷ 100 ∷ 1000000 ∷ []) (pos 0 ∷ pos 1 ∷ 
 -- n 100, 1,000,000, 1, cells 0, 0, 0 / 50, −40 / 39: Y = −1, and nothing paid for year 0, so that the chain ladder's B of development year 1 is 0
 abbrev emptyFirstYear : List ℕ
 emptyFirstYear = threeYears (100 ∷ 1000000 ∷ 1 ∷ []) (pos 0 ∷ pos 0 ∷ pos 0 ∷ pos 50 ∷ negsuc 39 ∷ pos 39 ∷ [])
+
+-- document 01's case with k = 2: n 100 each, cells 0, 5000, 999999 / 0, 0 / 1; the chain ladder's B of development year 0 is 0
+abbrev steepExposures : List ℕ
+steepExposures = 100 ∷ 100 ∷ 100 ∷ []
+
+abbrev steepCells : List ℤ
+steepCells = pos 0 ∷ pos 5000 ∷ pos 999999 ∷ pos 0 ∷ pos 0 ∷ pos 1 ∷ []
+
+abbrev steep : List ℕ
+steep = threeYears steepExposures steepCells
+
+-- n 1, 10^6, cells 1, 49 / 10^10 and these ULAE totals: m_0 = 50 × M, and C of year 1 is 5 × 10^11
+abbrev steepLadder : List ℕ → List ℕ
+steepLadder u = twoYears (1 ∷ 1000000 ∷ []) (pos 1 ∷ pos 49 ∷ pos 10000000000 ∷ []) (1100000 ∷ 1000000 ∷ []) u 0
 
 -- the answers of 2026 and 2027
 abbrev bothYears : List ℕ → List ℤ
@@ -164,21 +178,28 @@ markedTable = (
       bothYears emptyFirstYear
           ++ (bothYears (reportedLate (pos 0 ∷ pos 0 ∷ pos 66 ∷ []) (6 ∷ 10 ∷ []))
           ++ (bothYears (reportedLate (pos 0 ∷ pos 40 ∷ pos 66 ∷ []) (40 ∷ 60 ∷ [])) ++ bothYears (reportedLate (pos 0 ∷ pos 40 ∷ pos 66 ∷ []) (40 ∷ 67 ∷ [])))),
-      pos 13 ∷ pos 15 ∷ pos 13 ∷ pos 16 ∷ pos 13 ∷ pos 17 ∷ pos 12 ∷ pos 12 ∷ [],
+      replicate 8 (pos 13),
     )
+    ∷ (
+      answer (pos 0 ∷ negsuc 0 ∷ pos 66 ∷ []) (6 ∷ 10 ∷ []) ∷ answer (pos 0 ∷ pos 10000000000 ∷ pos 66 ∷ []) (6 ∷ 10 ∷ []) ∷ bothYears steep,
+      pos 6 ∷ pos 13 ∷ pos 13 ∷ pos 13 ∷ [],
+    )
+    ∷ (answer (pos 1 ∷ pos 49 ∷ pos 66 ∷ []) (6 ∷ 10 ∷ []) ∷ answer (pos 1 ∷ pos 50 ∷ pos 66 ∷ []) (6 ∷ 10 ∷ []) ∷ [], pos 0 ∷ pos 13 ∷ [])
+    ∷ (answerTo (steepLadder (6 ∷ 10 ∷ [])) ∷ answerTo (steepLadder (10000000000 ∷ 10000000000 ∷ [])) ∷ [], pos 14 ∷ pos 12 ∷ [])
     ∷ []
 
 -- the rules give what is printed, in every row
 pub marked-hold : map (λ row. row .0) markedTable ≡ map (λ row. row .1) markedTable
-unfolding corrects latestReported latestPaid latestPaidPasses divisorOf divisorPasses correctedRatio correctedRatioPasses growthQuestions usedRatio plainRatioIn latestReportedIn latestPaidIn divisorIn correctionQuestions total upTo padded every pack unpack numberOf bytesOf firstNo afterCall cells layout kindsOf section widths bitCount byteCount fillingCount valueOf codeOf inRange negativeZero bitsInRange everyField lastYearOf codesOf fillingOf fieldsOf recordOf exposuresIn incrementsIn indicesIn reportingIn weightIn ulaeIn tailIn figuresOf hasLastYear hasLength inRanges sharesSum givenFields rowStart paidOf sumTo cumulativeOf cumulativesPass evenly nearest averageOf averageRow averagesOf cellOf cellsTotal columnTotal diagonalTotal cornerTotal allTotal columnOf diagonalOf cornerOf runningDown runningOf shareOf levelOf totalsPass restsPass runningPass levelsPass factorsOf separateAnswer separated futureLevel payment paymentRow provision paidTo ultimate ultimatesPass paidTotal ulaeTotal ratioPass plainRatio reportedAfter notReported weighted reserve givenCumulative developed base developmentFactor completed completedRow factorsPass completedPass squareOf latestDiagonalOf factorsIn joined sections resultsOf sectionCounts resultCount figureQuestions holdsList questions runAnswer runInto zipWith rowPasses futureLevels paymentOf payments provisions reserveOf developmentFactors factorPasses completedAll paidIn levelsIn provisionsIn developmentIn usedRatioIn separationSections completionSections reserveSections ladderSections openingQuestions fieldQuestions separationQuestions completionQuestions ratioQuestions ladderQuestions sectionStart laterQuestions lastQuestions firstTailAverage tailAverage tailPayment tailPayments firstTailAveragePasses tailAveragesPass tailSections firstTailAverageOf tailsIn tailQuestions
+unfolding corrects latestReported latestPaid latestPaidPasses divisorOf divisorPasses correctedRatio correctedRatioPasses growthQuestions usedRatio plainRatioIn latestReportedIn latestPaidIn divisorIn correctionQuestions total upTo padded every pack unpack numberOf bytesOf firstNo afterCall cells layout kindsOf section widths bitCount byteCount fillingCount valueOf codeOf inRange negativeZero bitsInRange everyField lastYearOf codesOf fillingOf fieldsOf recordOf exposuresIn incrementsIn indicesIn reportingIn weightIn ulaeIn tailIn figuresOf hasLastYear hasLength inRanges sharesSum givenFields rowStart paidOf sumTo cumulativeOf cumulativesPass evenly nearest averageOf averageRow averagesOf cellOf cellsTotal columnTotal diagonalTotal cornerTotal allTotal columnOf diagonalOf cornerOf runningDown runningOf shareOf levelOf totalsPass restsPass runningPass levelsPass factorsOf separateAnswer separated futureLevel payment paymentRow provision paidTo ultimate ultimatesPass paidTotal ulaeTotal ratioPass plainRatio reportedAfter notReported weighted reserve givenCumulative developed base developmentFactor completed completedRow factorsPass completedPass squareOf latestDiagonalOf factorsIn joined sections resultsOf sectionCounts resultCount figureQuestions holdsList questions runAnswer runInto zipWith rowPasses futureLevels paymentOf payments provisions reserveOf developmentFactors factorPasses completedAll paidIn levelsIn provisionsIn developmentIn usedRatioIn separationSections completionSections reserveSections ladderSections openingQuestions fieldQuestions separationQuestions developmentQuestions completionQuestions ratioQuestions completedLadderQuestions sectionStart laterQuestions lastQuestions firstTailAverage tailAverage tailPayment tailPayments firstTailAveragePasses tailAveragesPass tailSections firstTailAverageOf tailsIn tailQuestions
 marked-hold = refl
 
--- the square of document 01's case with k = 2: n 100 each, cells 0, 5000, 999999 / 0, 0 / 1
-abbrev steep : List (List ℤ)
-steep = averagesOf 2 (100 ∷ 100 ∷ 100 ∷ []) (pos 0 ∷ pos 5000 ∷ pos 999999 ∷ pos 0 ∷ pos 0 ∷ pos 1 ∷ [])
+-- the square of document 01's case with k = 2
+abbrev steepSquare : List (List ℤ)
+steepSquare = averagesOf 2 steepExposures steepCells
 
--- A_1 = 1000 and A_0 = 0, so it is refused 9, though l_1 would be too large too
-pub steep-refused : (runningOf steep 2 1 ≡ 1000) × ((runningOf steep 2 0 ≡ 0) × ((separateAnswer steep 2 ≡ 9) × (ltb billion (levelOf steep 2 1) ≡ true)))
+-- of its separation alone: A_1 = 1000 and A_0 = 0, so it is refused 9, though l_1 would be too large too
+pub steep-refused : (runningOf steepSquare 2 1 ≡ 1000)
+    × ((runningOf steepSquare 2 0 ≡ 0) × ((separateAnswer steepSquare 2 ≡ 9) × (ltb billion (levelOf steepSquare 2 1) ≡ true)))
 unfolding total upTo padded every firstNo rowStart paidOf sumTo evenly nearest averageOf averageRow averagesOf cellOf cellsTotal columnTotal diagonalTotal cornerTotal allTotal columnOf diagonalOf cornerOf runningDown runningOf shareOf levelOf totalsPass restsPass runningPass levelsPass separationQuestions separateAnswer
 steep-refused = (refl, (refl, (refl, refl)))
 

@@ -1,5 +1,5 @@
 -- The questions as the code asks them are questions 7, 9 and 10 of the square, and the answers of the separation. Assumes nothing.
-use mathlib.Core.Path.{_≡_, sym, ap, ap₂, _∙_}
+use mathlib.Core.Path.{_≡_, refl, sym, ap, ap₂, _∙_}
 use mathlib.Core.Bool.{Bool, true, false, _&&_}
 use mathlib.Core.List.{List, [], _∷_}
 use Prim.Native.Nat.{ℕ, suc, _+_, _-_, _≤_, _<_, zero-le}
@@ -22,7 +22,8 @@ use Rattle.laws.proofs.Padded.{filled-at}
 use Rattle.laws.proofs.Sums.{sumTo-same}
 use Rattle.totals.proofs.Walk.{all-columns-to}
 use Rattle.separation.proofs.Steps.{running-least}
-use Rattle.laws.proofs.Questions.{after-refusal}
+use Rattle.laws.proofs.Questions.{first-answer, later-answer, after-refusal}
+use Rattle.separation.specs.Walk.{totalsAnswer}
 
 -- the answer to questions 9 and 10 of factors of the years 0 to k
 abbrev pub factorsAnswer : ℕ → Factors → ℕ
@@ -64,19 +65,32 @@ module _ (s : List (List ℤ)) (k : ℕ) where
       ∙ every-same (between 0 billion) (λ h. leb (levelOf s k h) billion) (levelOf s k) (λ h. h) (k + 1)
       (λ i l. rw (le-leb 0 (levelOf s k i) zero-le))
 
-  -- question 7 says no, and question 8
-  pub answer-seven : totalsPass s k ≡ false → 7 ≡ separateAnswer s k
-  unfolding separateAnswer separationQuestions firstNo
+  -- the number of questions 7 and 8: the first says no, the second does, or both say yes
+  pub answer-seven : totalsPass s k ≡ false → 7 ≡ totalsAnswer s k
+  unfolding totalsAnswer firstNo
   answer-seven e = rw e
 
-  pub answer-eight : totalsPass s k ≡ true → restsPass s k ≡ false → 8 ≡ separateAnswer s k
-  unfolding separateAnswer separationQuestions firstNo
+  pub answer-eight : totalsPass s k ≡ true → restsPass s k ≡ false → 8 ≡ totalsAnswer s k
+  unfolding totalsAnswer firstNo
   answer-eight e q = rw (e, q)
 
-  -- both say yes, and the factors give the answer
-  pub answer-factors : totalsPass s k ≡ true → restsPass s k ≡ true → (f : Factors) → f ≡ factorsOf s k → factorsAnswer k f ≡ separateAnswer s k
-  unfolding separateAnswer separationQuestions firstNo factorsOf padded
-  answer-factors e q f is = ap (factorsAnswer k) is ∙ rw (e, q, ← nine, ← ten)
+  pub answer-none : totalsPass s k ≡ true → restsPass s k ≡ true → 0 ≡ totalsAnswer s k
+  unfolding totalsAnswer firstNo
+  answer-none e q = rw (e, q)
+
+  -- one of them that says no gives the separation's answer
+  pub first-gives : (a : ℕ) → a ≡ totalsAnswer s k → (a ≡ 0 → ⊥) → a ≡ separateAnswer s k
+  unfolding totalsAnswer separateAnswer separationQuestions
+  first-gives a e h =
+      e ∙ sym (first-answer ((7, totalsPass s k) ∷ (8, restsPass s k) ∷ []) ((9, runningPass s k) ∷ (10, levelsPass s k) ∷ []) (λ z. h (e ∙ z)))
+
+  -- where both say yes, the factors give it
+  pub factors-give : totalsAnswer s k ≡ 0 → (f : Factors) → f ≡ factorsOf s k → factorsAnswer k f ≡ separateAnswer s k
+  unfolding totalsAnswer separateAnswer separationQuestions every
+  factors-give e f is =
+      ap (factorsAnswer k) is
+      ∙ (ap₂ (λ (a b : Bool). firstNo ((9, a) ∷ (10, b) ∷ [])) nine ten
+      ∙ sym (later-answer ((7, totalsPass s k) ∷ (8, restsPass s k) ∷ []) ((9, runningPass s k) ∷ (10, levelsPass s k) ∷ []) refl e))
 
   -- what is handed back with an answer
   pub none-back : (a : ℕ) → a ≡ separateAnswer s k → (a ≡ 0 → ⊥) → noFactors k ≡ separated s k

@@ -2,7 +2,7 @@
 use mathlib.Core.Path.{_≡_, sym}
 use mathlib.Core.List.{List}
 use Prim.Native.Nat.{ℕ, zero, suc, _+_, _-_, _*_, _/_, _≤_, _<_}
-use native.Mathlib.Nat.{le-refl, div-le-of-le-mul, mul-le-mul-left, mul-comm, not-suc-le-zero}
+use native.Mathlib.Nat.{le-refl, not-suc-le-zero}
 use native.Mathlib.Omega.{arith}
 use lib.IntN.{ℤ}
 use lib.ListN.{getD}
@@ -10,11 +10,8 @@ use Rattle.rules.specs.Lists.{upTo, padded}
 use Rattle.rules.specs.Separation.{billion, columnOf, cornerOf, runningDown, runningOf, shareOf, levelOf, noFactors}
 use Rattle.rules.specs.declared.Factors.{Factors}
 use Rattle.laws.proofs.Padded.{filled-more}
+use Rattle.factors.proofs.Parts.{below-part-most}
 use Rattle.separation.specs.Walk.{TotalsOf, Ready, withYear, factorsTo, FactorsFound}
-
--- a part of a number is at most the number
-pub below-part-most : (a t v : ℕ) → a * (t - v) / t ≤ a
-below-part-most a t v = div-le-of-le-mul t (rw (mul-comm t a) (mul-le-mul-left a (omega arith)))
 
 -- what the walk asks up to a year, it asks up to the year below
 pub ready-below : (v d t : List ℕ) (h n : ℕ) → n ≤ h → Ready v d t h → Ready v d t n

@@ -1,23 +1,25 @@
 // Taylor's separation: shares and levels from a square of averages, or from its totals, and k alone, under questions 7 to 10.
-use entries::within;
+use factors::factors_answer;
+use factors::level_of;
+use factors::no_factors;
+use factors::running_below;
 use rules::ACCEPTED;
 use rules::BILLION;
 use rules::Factors;
 use totals::fill_totals;
 ghost use mathlib.Core.Path.{_≡_};
 ghost use mathlib.Core.Bool.{true, _&&_};
-ghost use mathlib.Core.List.{List, [], _∷_};
+ghost use mathlib.Core.List.{List};
 ghost use Prim.Native.Nat.{ℕ, _+_, _-_, _*_, _/_, _≤_, _<_};
 ghost use lib.IntN.{ℤ, pos, natAbs};
-ghost use lib.Dec.{leb};
-ghost use lib.ListN.{length, getD, take};
+ghost use lib.ListN.{length, getD};
 ghost use lib.Signed.{leZ};
-ghost use Rattle.rules.specs.Lists.{below, every, between};
+ghost use Rattle.rules.specs.Lists.{below, every};
 ghost use Rattle.rules.specs.Triangle.{sumTo, ZeroOutside};
-ghost use Rattle.rules.specs.Questions.{firstNo};
-ghost use Rattle.rules.specs.Separation.{billion, noFactors, separateAnswer, separated};
+ghost use Rattle.rules.specs.Questions.{afterCall};
+ghost use Rattle.rules.specs.Separation.{billion, noFactors, factorsOf, separateAnswer, separated};
 ghost use Rattle.totals.specs.CellSizes.{Cells, mostTotal};
-ghost use Rattle.separation.specs.Walk.{Summed, SizesOf, CornersFound, Ready, FactorsFound, withYear};
+ghost use Rattle.separation.specs.Walk.{Summed, SizesOf, CornersFound, Ready, FactorsFound, withYear, totalsAnswer, TotalsAnswered};
 
 // The number that the separation answers, and the factors: zeros where it is not 0.
 pub struct Separation {
@@ -82,44 +84,12 @@ fn fill_corners(
     true
 }
 
-// The running share of the year below h, from that of h.
-fn running_below(columns: &[u64; 16], corners: &[u64; 16], h: usize, a: u64) -> u64
-    requires { ⌜ (getD (now columns) h 0 < getD (now corners) h 0) × ((getD (now corners) h 0 ≤ billion) × ((a ≤ billion) × (h < 16))) ⌝ }
-    ensures { λ r. ⌜ (r ≡ a * (getD (now (corners .entry)) h 0 - getD (now (columns .entry)) h 0) / getD (now (corners .entry)) h 0) × (r ≤ a) ⌝ }
-{
-    let t = corners[h];
-    a * (t - columns[h]) / t
-}
-
-// The level of year h, of which a is the running share; 0 where a is 0.
-fn level_of(diagonals: &[u64; 16], h: usize, a: u64) -> u64
-    requires { ⌜ (getD (now diagonals) h 0 ≤ billion) × (h < 16) ⌝ }
-    ensures { λ r. ⌜ r ≡ getD (now (diagonals .entry)) h 0 * billion / a ⌝ }
-{
-    if a == 0 {
-        return 0;
-    }
-    diagonals[h] * BILLION / a
-}
-
 // The share of a year: what its running share is above that of the year below.
 fn share_of(a: u64, next: u64) -> u64
     requires { ⌜ next ≤ a ⌝ }
     ensures { λ r. ⌜ r ≡ a - next ⌝ }
 {
     a - next
-}
-
-// No factors.
-fn no_factors(k: usize) -> Factors
-    ensures { λ r. ⌜ r ≡ noFactors k ⌝ }
-{
-    let zeros = [0u64; 16];
-    Factors {
-        shares: zeros,
-        levels: zeros,
-        k,
-    }
 }
 
 // The factors of year 0.
@@ -179,19 +149,41 @@ fn refused(answer: u64, k: usize) -> Separation
     Separation { answer, factors }
 }
 
-// Questions 9 and 10 of the factors. The running shares are the less the earlier the year, so the first share tells question 9.
-fn factors_answer<'a>(shares: &'a [u64; 16], levels: &'a [u64; 16], k: usize) -> u64
-    requires { ⌜ k < 16 ⌝ }
-    ensures { λ r. ⌜ r
-        ≡ firstNo ((9, leb 1 (getD (now (shares .entry)) 0 0)) ∷ (10, every (between 0 billion) (take (k + 1) (now (levels .entry)))) ∷ []) ⌝ }
+// Questions 7 and 8 of the totals of a square of averages: where both say yes, the sizes of the totals are in v and d and the totals T in corners, for the walk.
+fn totals_answer(
+    columns: &[i64; 16],
+    diagonals: &[i64; 16],
+    k: usize,
+    v: &mut [u64; 16],
+    d: &mut [u64; 16],
+    corners: &mut [u64; 16],
+) -> u64
+    requires { ⌜ (k < 16) × (((s : List (List ℤ)) × Summed s k (now columns) (now diagonals))
+        × ((length (now v) ≡ 16) × ((length (now d) ≡ 16) × (length (now corners) ≡ 16)))) ⌝ }
+    ensures { λ r. ⌜ TotalsAnswered k (now (columns .entry)) (now (diagonals .entry)) (now (v .exit)) (now (d .exit)) (now (corners .exit)) r ⌝ }
 {
-    if shares[0] < 1 {
-        return 9;
+    if !totals_pass(columns, diagonals, k + 1, v, d) {
+        return 7;
     }
-    if !within(levels, k + 1, 0, BILLION) {
-        return 10;
+    if !fill_corners(v, d, k, corners) {
+        return 8;
     }
     ACCEPTED
+}
+
+// The factors of a square of averages from its totals, where questions 7 and 8 say yes, before 9 and 10 are put to them; none where 7 or 8 says no.
+pub fn walk(columns: &[i64; 16], diagonals: &[i64; 16], k: usize) -> Factors
+    requires { ⌜ (k < 16) × ((s : List (List ℤ)) × Summed s k (now columns) (now diagonals)) ⌝ }
+    ensures { λ r. ⌜ ((s : List (List ℤ)) → Summed s k (now (columns .entry)) (now (diagonals .entry))
+        → r ≡ afterCall (totalsAnswer s k) (factorsOf s k) (noFactors k)) ⌝ }
+{
+    let mut v = [0u64; 16];
+    let mut d = [0u64; 16];
+    let mut corners = [0u64; 16];
+    if totals_answer(columns, diagonals, k, &mut v, &mut d, &mut corners) != ACCEPTED {
+        return no_factors(k);
+    }
+    level_step(&v, &d, &corners, BILLION, k, k)
 }
 
 // Shares and levels of the years 0 to k from the totals of a square of averages, or the number of the first of questions 7, 8, 9 and 10 that says no.
@@ -202,12 +194,10 @@ pub fn separate_totals(columns: &[i64; 16], diagonals: &[i64; 16], k: usize) -> 
 {
     let mut v = [0u64; 16];
     let mut d = [0u64; 16];
-    if !totals_pass(columns, diagonals, k + 1, &mut v, &mut d) {
-        return refused(7, k);
-    }
     let mut corners = [0u64; 16];
-    if !fill_corners(&v, &d, k, &mut corners) {
-        return refused(8, k);
+    let first = totals_answer(columns, diagonals, k, &mut v, &mut d, &mut corners);
+    if first != ACCEPTED {
+        return refused(first, k);
     }
     let level = level_of(&d, k, BILLION);
     let f = share_step(&v, &d, &corners, BILLION, level, k, k);

@@ -2,7 +2,7 @@
 use composing::put_byte;
 use composing::put_integer;
 use entries::size_of;
-use reading::doonamurk_read;
+use reader::doonamurk_read;
 use rules::ACCEPTED;
 use rules::MOST_FIELDS;
 use sheet::Due;

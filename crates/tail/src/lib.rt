@@ -1,9 +1,9 @@
 // Payments after the last year: the average of the amount still to be paid for year 0, carried to the tail payments of the years, under questions 18 and 19.
+use averages::average;
 use entries::size_of;
 use rules::ACCEPTED;
 use rules::BILLION;
 use rules::MOST_TAIL_AVERAGE;
-use triangle::average;
 ghost use mathlib.Core.Path.{_≡_};
 ghost use Prim.Native.Nat.{_≤_};
 ghost use lib.ListN.{getD};

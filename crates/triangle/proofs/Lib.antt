@@ -1,5 +1,3 @@
-pub mod Halves
-pub mod Rounding
 pub mod Added
 pub mod Cumulatives
 pub mod Square

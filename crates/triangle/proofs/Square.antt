@@ -9,7 +9,7 @@ use Rattle.rules.specs.Triangle.{paidOf, averagesOf, cellOf}
 use Rattle.totals.proofs.Square.{cell-inside, zero-outside}
 use Rattle.totals.specs.CellSizes.{mostAverage, Cells}
 use Rattle.triangle.specs.Columns.{Increments, Exposures}
-use Rattle.triangle.proofs.Rounding.{average-most}
+use Rattle.averages.proofs.Rounding.{average-most}
 use Rattle.triangle.proofs.Cumulatives.{increment-most}
 
 module _ (k : ℕ) (n : List ℕ) (p : List ℤ) where

@@ -1,4 +1,1 @@
-pub mod WrittenSigns
-pub mod RowsGiven
-pub mod Recorded
 pub mod WriteAnswers

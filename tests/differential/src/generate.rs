@@ -306,7 +306,12 @@ fn totals_edge(r: &mut Random, a: &mut Given, k: usize, past: i64) {
     let by_column = r.one_in(2);
     if r.one_in(2) {
         let total: i64 = a.increments.iter().sum();
-        let place = r.below(a.increments.len());
+        // In development year 0 so large a payment leaves the chain ladder's factors small; elsewhere question 13 mostly says no first.
+        let place = if r.one_in(4) {
+            r.below(a.increments.len())
+        } else {
+            cell(k, r.below(k + 1), 0)
+        };
         a.increments[place] += S + past - total;
         return;
     }
@@ -326,6 +331,127 @@ fn totals_edge(r: &mut Random, a: &mut Given, k: usize, past: i64) {
             a.increments[cell(k, i, 0)] += (total + past).max(0);
         }
     }
+}
+
+/// A development year that the chain ladder develops from: mostly the first or the last.
+fn development_year(r: &mut Random, k: usize) -> usize {
+    let any = r.below(k);
+    r.pick(&[0, k - 1, any])
+}
+
+/// B of development year h: what the years that develop from it have been paid up to it.
+fn base(a: &Given, k: usize, h: usize) -> i64 {
+    (0..k - h)
+        .map(|i| {
+            a.increments[cell(k, i, 0)..=cell(k, i, h)]
+                .iter()
+                .sum::<i64>()
+        })
+        .sum()
+}
+
+/// B of a development year set to 1 or to 0, or its factor to 50 × M or a millionth past it.
+fn development_edge(r: &mut Random, a: &mut Given, k: usize, past: i64) {
+    let h = development_year(r, k);
+    if r.one_in(3) {
+        // One of the years that develop from h takes the change in h + 1; it has so many claims that its averages stay small.
+        let i = r.below(k - h);
+        a.exposures[i] = EXPOSURE_MAX as u64;
+        let base = base(a, k, h);
+        let above: i64 = base
+            + (0..k - h)
+                .map(|i| a.increments[cell(k, i, h + 1)])
+                .sum::<i64>();
+        a.increments[cell(k, i, h + 1)] += factor_limit(r, base, past) - above;
+        return;
+    }
+    // Of the years that develop from h only year 0 is paid, up to h and in h + 1.
+    for i in 0..k - h {
+        a.increments[cell(k, i, 0)..=cell(k, i, k - i)].fill(0);
+    }
+    let any = r.spread(30_000_000) as i64;
+    let base = match r.below(5) {
+        0 | 1 => 1 - past.max(0),
+        2 => r.between(1, 60),
+        _ => r.pick(&[M - 1, M, M + 1, any]),
+    };
+    if base >= 10_000 {
+        a.exposures[0] = EXPOSURE_MAX as u64;
+    }
+    a.increments[r.below(h + 1)] = base;
+    let above = if r.one_in(4) {
+        base + r.between(0, 40)
+    } else {
+        factor_limit(r, base, past)
+    };
+    a.increments[h + 1] = above - base;
+    let ratio = r.pick(&[0, M / 10]);
+    set_ratio(r, a, ratio);
+}
+
+/// The largest A whose factor over this B is 50 × M, or 50 × B, or the least past it.
+fn factor_limit(r: &mut Random, base: i64, past: i64) -> i64 {
+    let least = (base + M - 1) / M;
+    match past {
+        1 => 50 * base + least,
+        0 => 50 * base + r.pick(&[0, (least - 1).max(0)]),
+        _ => 50 * base - 1,
+    }
+}
+
+/// Nothing is paid of the years that develop from some development year up to it: its B is 0.
+fn leave_unpaid(r: &mut Random, a: &mut Given, k: usize) {
+    let h = development_year(r, k);
+    for i in 0..k - h {
+        a.increments[cell(k, i, 0)..=cell(k, i, h)].fill(0);
+    }
+}
+
+/// A year is paid fifty times B more in the next development year: the factor is above 50.
+fn jump(r: &mut Random, a: &mut Given, k: usize) {
+    let h = development_year(r, k);
+    let i = r.below(k - h);
+    let late = 50 * base(a, k, h).max(1);
+    a.increments[cell(k, i, h + 1)] += late;
+    if i + h + 1 == k && r.one_in(2) {
+        // What is paid in the latest year stays, where another year takes it back.
+        let other = r.below(k + 1);
+        a.increments[cell(k, other, k - other)] -= late;
+    }
+}
+
+/// Fifty times as much is paid of year 0 each year, or a little less, and of the years between nothing: the last year, of which little is paid, is completed
+/// past 10^11, and its average is so small that questions 8 to 10 say no, or so many are paid of few claims that 7 does.
+fn over_developed(r: &mut Random, k: usize) -> Given {
+    let k = k.max(6);
+    let mut a = plain(r, k);
+    a.increments.fill(0);
+    let mut paid = 1;
+    a.increments[0] = 1;
+    for j in 1..=k {
+        let increment = (r.between(45, 49) * paid).min(AMOUNT_MAX);
+        if paid + increment > 2 * AMOUNT_MAX {
+            break;
+        }
+        a.increments[j] = increment;
+        paid += increment;
+    }
+    a.exposures[0] = r.pick(&[1, 1_000, M, M, M]) as u64;
+    a.exposures[k] = r.pick(&[100, 100, M]) as u64;
+    a.increments[cell(k, k, 0)] = 10 + r.spread(20_000) as i64;
+    if r.one_in(4) {
+        a.ulae.fill(AMOUNT_MAX as u64);
+    }
+    a
+}
+
+/// The last factor is large, and so is what is paid of year 1; what is paid in the latest year stays.
+fn develop_late(a: &mut Given, k: usize) {
+    let late = 30 * base(a, k, k - 1);
+    a.increments[k] += late;
+    a.exposures[1] = EXPOSURE_MAX as u64;
+    a.increments[cell(k, 1, 0)] = AMOUNT_MAX;
+    a.increments[cell(k, 1, k - 1)] -= late;
 }
 
 /// The last year's first cumulative set so that the first factor, tenfold or a little more, carries it to 10^11 or near it.
@@ -453,6 +579,14 @@ fn set_ratio(r: &mut Random, a: &mut Given, ratio: i64) {
     a.ulae[year] = total.clamp(0, i128::from(AMOUNT_MAX)) as u64;
 }
 
+/// Of year 0 no more than 1 is paid, and taken back in the last year: its ultimate is 0 and its averages are, but no base of the chain ladder is.
+fn take_back(a: &mut Given, k: usize) {
+    a.exposures[0] = 1_000;
+    a.increments[..=k].fill(0);
+    a.increments[0] = 1;
+    a.increments[k] = -1;
+}
+
 /// What is paid in the latest year set to 1, to 0 or far below: one year takes it back, which has so many claims that its average is small.
 fn latest_paid_edge(r: &mut Random, a: &mut Given, k: usize, past: i64) {
     let far = -(r.spread(1_000_000) as i64);
@@ -471,7 +605,7 @@ fn latest_paid_edge(r: &mut Random, a: &mut Given, k: usize, past: i64) {
         report_late(a, k);
         a.weight = M as u64;
         a.tail = 0;
-        a.increments[..=k].fill(0);
+        take_back(a, k);
     }
     a.increments[cell(k, i, k - i)] += target - latest_paid(a, k);
     let ratio = r.pick(&[0, M / 10, M]);
@@ -485,7 +619,9 @@ fn divisor_edge(r: &mut Random, a: &mut Given, k: usize, past: i64) {
     a.tail = 0;
     a.increments[..=k].fill(0);
     a.exposures[k] = EXPOSURE_MAX as u64;
-    if !r.one_in(8) {
+    if r.one_in(8) {
+        take_back(a, k);
+    } else {
         let last = cell(k, k, 0);
         let others = latest_paid(a, k) - a.increments[last];
         let reported = others / M + r.pick(&[1, 1, 2, 3_000, 9_000]);
@@ -532,12 +668,12 @@ fn deep(r: &mut Random, k: usize) -> Given {
     a
 }
 
-/// An account at an edge of 15, 16 or 17, changed so that another question may say no too: 12, one about payments after the last year, or one about the
-/// chain ladder.
+/// An account at an edge of a question from 6 on, changed so that another may say no too: mostly 13, by the base of some development year or by its factor,
+/// else 14, 12 or one about payments after the last year.
 fn crossed(r: &mut Random, k: usize) -> Given {
-    let question = r.pick(&[15, 16, 17]);
+    let question = r.pick(&QUESTIONS[2..]);
     let mut a = set_to_edge(r, k, question);
-    match r.below(7) {
+    match r.below(14) {
         0 => a.ulae.fill(AMOUNT_MAX as u64),
         1 => a.tail = AMOUNT_MAX as u64,
         2 => {
@@ -547,14 +683,9 @@ fn crossed(r: &mut Random, k: usize) -> Given {
         }
         // A million claims at 10^8 hundredths.
         3 => a.tail = S as u64 * a.exposures[0] / 1_000,
-        4 => (0..k).for_each(|i| a.increments[cell(k, i, 0)] = 0),
-        5 => {
-            let before: i64 = a.increments[..k].iter().sum();
-            let (late, i) = (50 * before, r.below(k + 1));
-            a.increments[k] += late;
-            // What is paid in the latest year stays, where another year takes it back.
-            a.increments[cell(k, i, k - i)] -= late;
-        }
+        4..=6 => leave_unpaid(r, &mut a, k),
+        7..=9 => jump(r, &mut a, k),
+        10..=12 if k > 1 => develop_late(&mut a, k),
         _ => {
             (0..k).for_each(|i| a.increments[cell(k, i, 1)] += 20 * a.increments[cell(k, i, 0)]);
             a.exposures[k] = EXPOSURE_MAX as u64;
@@ -589,19 +720,39 @@ fn set_to_edge(r: &mut Random, k: usize, question: u64) -> Given {
             a.increments[cell(k, h, 0)] = 1 - past.max(0);
         }
         9 => {
-            // A_0 is about S × x / (x + late) × x / (x + early).
-            let x = r.between(1, 900);
-            let late = r.between(1_000_000, 450_000_000);
-            let early = (S as i128 * i128::from(x * x) / i128::from(late)) as i64;
-            let early = (early * r.between(50, 150) / 100).clamp(1, 450_000_000);
+            // A_0 is about S × x / (x + late) × x / (x + early). The years between pay so little a claim that their averages are 0; they are the base of the
+            // first development factor.
+            let (early, late, x);
+            if r.one_in(2) {
+                // No level is too large where x is 1: A_0 is 1, or it is 0.
+                early = r.between(5_000, 30_000);
+                late = (S / early * r.between(60, 140) / 100).min(49 * early);
+                x = 1;
+            } else {
+                early = r.between(6_000, 6_000 + 230_000 * (k as i64 - 1));
+                late = r.between(30, 49) * early;
+                let middle = ((early * late / S) as f64).sqrt();
+                x = (middle * r.between(50, 150) as f64 / 100.0).max(1.0) as i64;
+            }
             a.increments.fill(0);
             a.increments[cell(k, 0, k)] = late;
             a.increments[cell(k, 0, 1)] += early;
+            for i in 1..k {
+                a.exposures[i] = EXPOSURE_MAX as u64;
+                a.increments[cell(k, i, 0)] = r.between(4_800, 5_000);
+            }
             a.increments[cell(k, k, 0)] = x;
         }
         10 => {
             // A level is above S just where its diagonal is above its running share; cell 0, 0 is diagonal 0 and no part of A_0.
-            if let Some(list) = plain_list(&a) {
+            if r.one_in(3) {
+                // A small share: the first development factor is within its limit up to about 200,000 paid in the next year, and past it from there on.
+                let (last, early) = (r.between(1, 9), r.between(10_000, 500_000));
+                a.increments.fill(0);
+                a.increments[0] = S * last / (last + early) + past;
+                a.increments[1] = early;
+                a.increments[cell(k, k, 0)] = last;
+            } else if let Some(list) = plain_list(&a) {
                 let first_share = list[paper::cells(k)];
                 a.increments[0] = first_share + past;
             }
@@ -624,12 +775,7 @@ fn set_to_edge(r: &mut Random, k: usize, question: u64) -> Given {
                 a.ulae[0] = (paid + past - rest as i64).clamp(0, AMOUNT_MAX) as u64;
             }
         }
-        13 => {
-            let before = r.between(0, 60) * if r.one_in(2) { 1 } else { 1_000_000 };
-            a.increments[..k].fill(0);
-            a.increments[r.below(k)] = before;
-            a.increments[k] = 49 * before + past;
-        }
+        13 => development_edge(r, &mut a, k, past),
         _ => completed_edge(r, &mut a, k, past),
     }
     for paid in &mut a.increments {
@@ -669,6 +815,9 @@ fn ultimate_edge(r: &mut Random, k: usize, past: i64) -> Given {
         within
     }
 }
+
+/// The questions from 4 on, in their order.
+const QUESTIONS: [u64; 16] = [4, 5, 6, 13, 7, 8, 9, 10, 18, 19, 11, 12, 15, 16, 17, 14];
 
 /// A record at an edge of this question, from 4 on.
 fn edge(r: &mut Random, k: usize, question: u64) -> Vec<u8> {
@@ -764,9 +913,11 @@ pub fn record(r: &mut Random) -> Vec<u8> {
             pack(&edge_between(year, &from, &to)[side])
         }
         11 if r.one_in(4) => pack(&deep(r, k)),
-        11 => pack(&crossed(r, k)),
+        11 if r.one_in(4) => pack(&over_developed(r, k)),
+        11..=13 => pack(&crossed(r, k)),
+        14 if r.one_in(3) => edge(r, k, 13),
         _ => {
-            let question = r.pick(&[4, 5, 6, 7, 8, 9, 10, 18, 19, 11, 12, 15, 16, 17, 13, 14]);
+            let question = r.pick(&QUESTIONS);
             edge(r, k, question)
         }
     }

@@ -27,11 +27,14 @@ const GUARD: usize = 16;
 /// The questions that are asked only from 2027 on.
 const GROWTH: std::ops::RangeInclusive<usize> = 15..=17;
 
-/// How often each question said no (at 0: how often all said yes), by call; runs in valuation years before 2027 and from 2027 on apart.
+/// How often each question said no (at 0: how often all said yes), by call; runs in valuation years before 2027 and from 2027 on apart; and how often one that
+/// is asked between 13 and 14 says no in 2027 of what one of those refuses too.
 #[derive(Default)]
 struct Tally {
     plain: [u64; 20],
     corrected: [u64; 20],
+    with_13: [u64; 20],
+    with_14: [u64; 20],
     read: [u64; 20],
     write: [u64; 20],
     back: u64,
@@ -39,22 +42,27 @@ struct Tally {
 
 impl Tally {
     fn print(&self) {
-        println!("answer  run to 2026  run from 2027         read        write");
+        println!("answer  run to 2026  run from 2027  and 13  and 14         read        write");
         for number in 0..20 {
-            let tallies = [self.plain, self.corrected, self.read, self.write];
-            let [plain, corrected, read, write] = tallies.map(|tally| tally[number]);
-            println!("{number:6} {plain:12} {corrected:14} {read:12} {write:12}");
+            let runs = [self.plain, self.corrected, self.with_13, self.with_14];
+            let [plain, corrected, with_13, with_14] = runs.map(|tally| tally[number]);
+            let [read, write] = [self.read, self.write].map(|tally| tally[number]);
+            println!(
+                "{number:6} {plain:12} {corrected:14} {with_13:7} {with_14:7} {read:12} {write:12}"
+            );
         }
         println!("read, and written back to the same record: {}", self.back);
     }
 
-    /// Every number that a call can answer has been answered, and no other.
+    /// Every number that a call can answer has been answered, and no other; and every question between 13 and 14 has met each of the two.
     fn complete(&self) -> bool {
+        let mut between = (7..=12).chain(15..=19);
+        let met = between.all(|n| self.with_13[n] > 0 && self.with_14[n] > 0);
         let plain = (0..20).all(|n| (self.plain[n] > 0) != GROWTH.contains(&n));
         let corrected = self.corrected.iter().all(|&n| n > 0);
         let read = self.read[..6].iter().all(|&n| n > 0);
         let write = [0, 1, 2, 4, 5].iter().all(|&n| self.write[n] > 0);
-        plain && corrected && read && write && self.back > 0
+        plain && corrected && met && read && write && self.back > 0
     }
 }
 
@@ -224,6 +232,14 @@ fn case(r: &mut Random, tally: &mut Tally) -> Result<(), String> {
         };
         runs[answer as usize] += 1;
     }
+    if let Some([thirteen, between, fourteen]) = paper::apart(generate::FIRST_CORRECTED, &record) {
+        if thirteen != 0 {
+            tally.with_13[between as usize] += 1;
+        }
+        if fourteen != 0 {
+            tally.with_14[between as usize] += 1;
+        }
+    }
 
     let length = generate::buffer_length(r, paper::fields(k));
     let (answer, list) = both(
@@ -387,7 +403,7 @@ fn main() -> ExitCode {
     if done < FAIR {
         println!("fewer than {FAIR} cases: it was not asked whether every answer was reached");
     } else if !tally.complete() {
-        println!("an answer was never reached");
+        println!("an answer was never reached, or never two at once");
         return ExitCode::FAILURE;
     }
     ExitCode::SUCCESS

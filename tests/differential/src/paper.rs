@@ -1,5 +1,5 @@
-//! Document 01, with requests 1, 3 and 4 of document 02, in plain Rust, written from the paper alone: the reader, the writer and the run from a record to its
-//! result list.
+//! Document 01, with requests 1, 3, 4 and 6 of document 02, in plain Rust, written from the paper alone: the reader, the writer and the run from a record to
+//! its result list.
 //!
 //! The differential test holds the proved engine against it, and the benchmark measures the engine beside it.
 //! Each answer is `Ok`, or `Err` with the number of the first question that says no; an `Err` leaves the lent buffer as it was.
@@ -370,7 +370,7 @@ fn corrected(figures: &Record, ultimates: &[u64; YEARS], ratio: u64) -> Result<u
     Ok(corrected)
 }
 
-/// The result list as it grows; it is worked out in the order in which it is listed, but for the tail payments, which end it.
+/// The result list as it grows; it is worked out in the order in which it is listed, but for the development factors and for the tail payments, which end it.
 struct List<'a, const ROOM: usize> {
     entries: &'a mut [i64; ROOM],
     len: usize,
@@ -391,7 +391,7 @@ impl<const ROOM: usize> List<'_, ROOM> {
     }
 }
 
-/// Runs from a record to its result list for a valuation year: questions 1 to 14, with 18 and 19 before 11 and, from 2027 on, 15 to 17 after 12.
+/// Runs from a record to its result list for a valuation year: questions 1 to 14, with 13 after 6, 18 and 19 before 11 and, from 2027 on, 15 to 17 after 12.
 pub fn run(valuation_year: u64, record: &[u8], results: &mut [i64]) -> Result<(), u64> {
     let k = last_year(record)?;
     if results.len() < entries(k) {
@@ -415,13 +415,67 @@ fn fill<const ROOM: usize>(
     results: &mut [i64],
 ) -> Result<(), u64> {
     let mut list = [0; ROOM];
-    work_out(valuation_year, figures, &mut list)?;
+    work_out::<ROOM, true>(valuation_year, figures, &mut list)?;
     results.copy_from_slice(&list[..results.len()]);
     Ok(())
 }
 
-/// The questions from 6 on, and the list where all say yes.
-fn work_out<const ROOM: usize>(
+/// What questions say of a record by themselves, if 1 to 6 say yes: 13; the first of 7 to 12 and 15 to 19; and 14, if 13 says yes. A run answers with one of
+/// them; the differential test counts the records that two refuse.
+pub fn apart(valuation_year: u64, record: &[u8]) -> Option<[u64; 3]> {
+    let k = last_year(record).ok()?;
+    let figures = Record::unpack(k, record).ok()?;
+    let between = work_out::<LONGEST, false>(valuation_year, &figures, &mut [0; LONGEST]);
+    if between == Err(6) {
+        return None;
+    }
+    let ladder = ladder_alone(&figures);
+    let only = |number| if ladder == number { number } else { 0 };
+    Some([only(13), between.err().unwrap_or(0), only(14)])
+}
+
+/// What the chain ladder by itself says of a record that has passed question 6: 13, 14 or 0.
+fn ladder_alone(figures: &Record) -> u64 {
+    let k = figures.k;
+    let mut increments = figures.increments.iter();
+    let cumulatives: Vec<Vec<i64>> = (0..=k)
+        .map(|i| {
+            let row = increments.by_ref().take(k + 1 - i);
+            row.scan(0, |sum, x| {
+                *sum += x;
+                Some(*sum)
+            })
+            .collect()
+        })
+        .collect();
+    let total = |h: usize, years| {
+        cumulatives[..years]
+            .iter()
+            .map(|row| row[h] as u64)
+            .sum::<u64>()
+    };
+    let mut factors = Vec::new();
+    for h in 0..k {
+        let base = total(h, k - h);
+        if base < 1 || M * total(h + 1, k - h) / base > FACTOR_MAX {
+            return 13;
+        }
+        factors.push(M * total(h + 1, k - h) / base);
+    }
+    for i in 1..=k {
+        let mut cumulative = cumulatives[i][k - i] as u64;
+        for factor in &factors[k - i..] {
+            cumulative = cumulative * factor / M;
+            if cumulative > CUMULATIVE_MAX as u64 {
+                return 14;
+            }
+        }
+    }
+    0
+}
+
+/// The questions from 6 on, and the list where all say yes; without the chain ladder all but 13 and 14, and the list up to the ULAE ratio.
+fn work_out<const ROOM: usize, const LADDER: bool>(
     valuation_year: u64,
     figures: &Record,
     entries: &mut [i64; ROOM],
@@ -451,6 +505,19 @@ fn work_out<const ROOM: usize>(
             diagonals[i + j] += s;
         }
         latest[i] = cumulative as u64;
+    }
+    // Row k − h is the one whose latest cumulative stands in column h and has no next one.
+    let mut factors = [0; YEARS];
+    let developed = if LADDER { k } else { 0 };
+    for h in 0..developed {
+        let base = cumulative_columns[h] - latest[k - h];
+        if base < 1 {
+            return Err(13);
+        }
+        factors[h] = M * cumulative_columns[h + 1] / base;
+        if factors[h] > FACTOR_MAX {
+            return Err(13);
+        }
     }
     let negative = columns.iter().chain(&diagonals).any(|&total| total < 0);
     if negative || columns.iter().sum::<i64>() > S as i64 {
@@ -540,17 +607,8 @@ fn work_out<const ROOM: usize>(
     list.push(reserves.iter().sum::<u64>() as i64);
     list.push(ratio as i64);
 
-    // Row k − h is the one whose latest cumulative stands in column h and has no next one.
-    let mut factors = [0; YEARS];
-    for h in 0..k {
-        let base = cumulative_columns[h] - latest[k - h];
-        if base < 1 {
-            return Err(13);
-        }
-        factors[h] = M * cumulative_columns[h + 1] / base;
-        if factors[h] > FACTOR_MAX {
-            return Err(13);
-        }
+    if !LADDER {
+        return Ok(());
     }
     list.extend(&factors[..k]);
 

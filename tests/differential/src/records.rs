@@ -115,6 +115,8 @@ fn changed(k: usize, question: u64) -> Option<Vec<u8>> {
             return Some(record);
         }
         6 => a.increments[cell(k, k, 0)] = -1,
+        // The factor of the last development year alone is too large.
+        13 => a.increments[k] = 50 * a.increments[..k].iter().sum::<i64>(),
         // The total of the averages is asked after the columns and the diagonals.
         7 => a.exposures.fill(1),
         // T_1 - v_1 is the total of column 0 below its first cell.
@@ -123,6 +125,8 @@ fn changed(k: usize, question: u64) -> Option<Vec<u8>> {
             a.exposures.fill(100);
             (1..=k).for_each(|i| a.increments[cell(k, i, 0)] = 0);
             a.increments[cell(k, k, 0)] = 1;
+            // The first cell keeps the first development factor within its limit, and is no part of A_0.
+            a.increments[cell(k, 0, 0)] = 20_000_000;
             a.increments[cell(k, 0, 1)] = 400_000_000;
         }
         10 => {
@@ -174,7 +178,6 @@ fn changed(k: usize, question: u64) -> Option<Vec<u8>> {
             a.ulae.fill(0);
             a.ulae[0] = a.increments.iter().sum::<i64>() as u64;
         }
-        13 => a.increments[k] = 50 * a.increments[..k].iter().sum::<i64>(),
         14 => {
             (0..k).for_each(|i| a.increments[cell(k, i, 0)] /= 20);
             a.increments[cell(k, k, 0)] = 10_000_000_000;

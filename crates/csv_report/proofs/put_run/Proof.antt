@@ -9,7 +9,7 @@ use Rattle.rules.specs.Results.{mostEntries}
 use Rattle.rules.specs.Engine.{runAnswer}
 use Rattle.growth.specs.declared.Correction.{Correction}
 use Rattle.refusals.specs.Refusal.{refusalOf}
-use Rattle.refusals.proofs.Totals.{passed-to-six}
+use Rattle.refusals.proofs.Words.{refused-by}
 use Rattle.composing.proofs.Puts.{put-same}
 use Rattle.csv_text.specs.Csv.{csvOf}
 use Rattle.outcomes.specs.Outcome.{filledBy, correctionBy}
@@ -33,7 +33,7 @@ put-refused-requires : tie.Need-put-refused-requires
 put-refused-requires c κs =
     let run = c .before .before .before .doonamurk-run in
     let s = c .before .before .before .before .before .before .before .args in
-    passed-to-six (s .year) (s .packed .now) (run .result) (run .ensures .0)
+    refused-by (s .year) (s .packed .now) (run .result) (run .ensures .0)
 
 returns : tie.Need-returns
 returns c =

@@ -13,8 +13,8 @@ use Rattle.rules.specs.Record.{lastYearOf, figuresOf}
 use Rattle.rules.specs.Reading.{openingQuestions}
 use Rattle.rules.specs.Results.{resultCount}
 use Rattle.rules.specs.Engine.{holdsList, questions}
-use Rattle.reading.proofs.RowsRead.{years-known, opening-yes}
-use Rattle.engine.proofs.RunQuestions.{one-no, one-yes, first-refused, later}
+use Rattle.opening.proofs.Opened.{years-known, opening-yes}
+use Rattle.reserving.proofs.Answering.{one-no, one-yes, first-refused, later}
 use Rattle.engine.proofs.Run.{ran}
 use Rattle.engine.proofs.doonamurk_run.Statement.{statement}
 use Rattle.engine.proofs.doonamurk_run.Tie as tie

@@ -7,9 +7,9 @@ use Rattle.rules.specs.Packing.{Fit}
 use Rattle.rules.specs.Questions.{firstNo}
 use Rattle.rules.specs.Record.{figures, figuresOf}
 use Rattle.rules.specs.Reading.{fieldQuestions}
-use Rattle.reading.proofs.RowsRead.{years-known, opening-yes}
+use Rattle.opening.proofs.Opened.{years-known, opening-yes}
 use Rattle.reading.proofs.FiguresRead.{figures-filled, sound-figures}
-use Rattle.engine.proofs.RunQuestions.{first-refused, later}
+use Rattle.reserving.proofs.Answering.{first-refused, later}
 use Rattle.engine.proofs.Before.{figures-are}
 use Rattle.engine.proofs.run_record.Statement.{statement}
 use Rattle.engine.proofs.run_record.Tie as tie

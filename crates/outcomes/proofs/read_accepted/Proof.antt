@@ -26,14 +26,14 @@ run s = passed.accepted (s .args .year) (s .args .packed .now) (s .pre .0)
 
 read-again-requires : tie.Need-read-again-requires
 read-again-requires c κs =
-    let s = c .before .before .before .before .before .before .before in
+    let s = c .before .before .before .before .before .before .before .before in
     let year = s .args .year in
     let packed = s .args .packed .now in
-    (passed.opening year packed (run s), (passed.fields year packed (run s), (passed.cumulatives year packed (run s), (refl, (refl, (refl, s .pre .1 .1))))))
+    (passed.opening year packed (run s), (passed.fields year packed (run s), (passed.cumulatives year packed (run s), (refl, (refl, (refl, (s .pre .1 .1, refl)))))))
 
 -- the figures of the record, which are sound
 abbrev start : tie.After-read-again → tie.Start
-start c = c .before .before .before .before .before .before .before .before
+start c = c .before .before .before .before .before .before .before .before .before
 
 abbrev F : tie.After-read-again → Figures
 F c = figuresOf (start c .args .packed .now)
@@ -41,7 +41,7 @@ F c = figuresOf (start c .args .packed .now)
 good : (c : tie.After-read-again) → Sound (F c)
 good c =
     let s = start c in
-    passed.sound (s .args .year) (s .args .packed .now) (run s) (λ i. omega (arith, c .before .before .before .before .before .before .before .shared-slice-known .given i))
+    passed.sound (s .args .year) (s .args .packed .now) (run s) (λ i. omega (arith, c .before .before .before .before .before .before .before .before .shared-slice-known .given i))
 
 six : (c : tie.After-read-again) → cumulativesPass (F c .k) (F c .increments) ≡ true
 six c = let s = start c in passed.cumulatives (s .args .year) (s .args .packed .now) (run s)

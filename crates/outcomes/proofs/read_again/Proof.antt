@@ -1,5 +1,5 @@
--- The arrays that are read again are those of the record's figures (figures-filled), so the paid cumulatives and the totals are (paid-filled, totals-filled).
--- Assumes nothing.
+-- The arrays that are read again are those of the record's figures (figures-filled), so the paid cumulatives, the sums and the totals are (paid-filled, sums-filled,
+-- totals-filled). Assumes nothing.
 use native.Mathlib.Omega.{arith}
 use mathlib.Core.Path.{_≡_, refl, ap, _∙_}
 use mathlib.Core.List.{List, map}
@@ -10,8 +10,8 @@ use Rattle.rules.specs.Packing.{Fit}
 use Rattle.rules.specs.Record.{increment, valueOf, figuresOf}
 use Rattle.reading.specs.Reading.{Sound, rowRead}
 use Rattle.reading.proofs.FiguresRead.{Filled, figures-filled, sound-figures}
-use Rattle.reading.proofs.RowsRead.{years-known, opening-yes}
-use Rattle.outcomes.proofs.Again.{rows-ready, paid-filled, totals-filled}
+use Rattle.opening.proofs.Opened.{years-known, opening-yes}
+use Rattle.outcomes.proofs.Again.{rows-ready, paid-filled, sums-filled, totals-filled}
 use Rattle.outcomes.proofs.read_again.Statement.{statement}
 use Rattle.outcomes.proofs.read_again.Tie as tie
 
@@ -61,7 +61,7 @@ fill-rows-requires c κs =
     let at = year .before in
     let s = start at in
     let ready = rows-ready (figuresOf (s .args .packed .now)) _ _ _ (year-is year) (exposures-are at) (increments-are at) (sound at) in
-    (ready .0, (ready .1 .0, (ready .1 .1, (refl, (refl, s .pre .1 .1 .1 .1 .1 .1)))))
+    (ready .0, (ready .1 .0, (ready .1 .1, (refl, (s .pre .1 .1 .1 .1 .1 .1 .1, s .pre .1 .1 .1 .1 .1 .1 .0)))))
 
 returns : tie.Need-returns
 returns c =
@@ -79,7 +79,10 @@ returns c =
             ulae-are at,
             (
               paid-filled f _ _ _ (year-is year) (exposures-are at) (increments-are at) six _ (c .fill-rows .ensures .1 .1 .1 .0),
-              totals-filled f _ _ _ (year-is year) (exposures-are at) (increments-are at) (sound at) six _ _ (c .fill-rows .ensures .1 .1 .1 .1),
+              (
+                sums-filled f _ _ _ (year-is year) (exposures-are at) (increments-are at) six _ (c .fill-rows .ensures .1 .1 .0),
+                totals-filled f _ _ _ (year-is year) (exposures-are at) (increments-are at) (sound at) six _ _ (c .fill-rows .ensures .1 .1 .1 .1),
+              ),
             ),
           ),
         ),

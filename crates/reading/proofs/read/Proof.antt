@@ -15,7 +15,7 @@ use Rattle.rules.specs.Reading.{sharesSum}
 use Rattle.packing.specs.Field.{rowAt}
 use Rattle.layout.specs.declared.Places.{Places}
 use Rattle.reading.specs.Reading.{rowRead}
-use Rattle.reading.proofs.RowsRead.{WholeRecord, whole-record, opening-yes, years-known}
+use Rattle.opening.proofs.Opened.{WholeRecord, whole-record, opening-yes, years-known}
 use Rattle.reading.proofs.Ranges.{fits, Passed, passed-more, passed-first, not-read, in-ranges, out-of-range, RowsInside, within, PlacesFound, places-found}
 use Rattle.reading.proofs.ReadAnswers.{answer-4, answer-5, answer-0, one-in, one-out, row-stored, stored-most, sum-at}
 use Rattle.reading.proofs.read.Statement.{statement}

@@ -1,7 +1,7 @@
 -- A refusal in words (refusal-is), or the page of the list that the engine filled. Assumes nothing.
 use native.Mathlib.Omega.{arith}
 use Rattle.composing.proofs.Puts.{put-same}
-use Rattle.refusals.proofs.Totals.{passed-to-six}
+use Rattle.refusals.proofs.Words.{refused-by}
 use Rattle.reports.proofs.PagesAccepted.{refusal-is}
 use borrow.Author.Needs.{needs}
 use Rattle.reports.proofs.put_run.Statement.{statement}
@@ -11,7 +11,7 @@ put-refusal-form-requires : tie.Need-put-refusal-form-requires
 put-refusal-form-requires c κs =
     let run = c .before .before .before .doonamurk-run in
     let s = c .before .before .before .before .before .before .before .args in
-    passed-to-six (s .year) (s .packed .now) (run .result) (run .ensures .0)
+    refused-by (s .year) (s .packed .now) (run .result) (run .ensures .0)
 
 returns : tie.Need-returns
 returns c =

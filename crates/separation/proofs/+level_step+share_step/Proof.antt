@@ -13,8 +13,8 @@ use Rattle.separation.proofs.share_step.Reads as share-step
 use Rattle.separation.proofs.share_step.Kinds as share-step-kinds
 use Rattle.separation.proofs.+level_step+share_step.Lts-share_step as share-step-lts
 use Rattle.separation.proofs.first_year.Reads as first-year-reads
-use Rattle.separation.proofs.level_of.Reads as level-of-reads
-use Rattle.separation.proofs.running_below.Reads as running-below-reads
+use Rattle.factors.proofs.level_of.Reads as level-of-reads
+use Rattle.factors.proofs.running_below.Reads as running-below-reads
 use Rattle.separation.proofs.share_of.Reads as share-of-reads
 use Rattle.separation.proofs.+level_step+share_step.{statement}
 use Rattle.separation.proofs.+level_step+share_step.Tie.{close}

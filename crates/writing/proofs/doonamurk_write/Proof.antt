@@ -12,9 +12,9 @@ use lib.Seq.{take-length}
 use Rattle.rules.specs.Lists.{total}
 use Rattle.rules.specs.Record.{Figures, figures, layout, million}
 use Rattle.rules.specs.Writing.{givenLastYear, givenLengths, givenRanges, givenSum}
-use Rattle.writing.specs.Writing.{rangesOf, Writable}
+use Rattle.recording.specs.Writable.{rangesOf, Writable}
 use Rattle.laws.proofs.Lists.{at-most}
-use Rattle.writing.proofs.RowsGiven.{few-years, lengths-are, ranges-are, ranges-hold}
+use Rattle.recording.proofs.RowsGiven.{few-years, lengths-are, ranges-are, ranges-hold}
 use Rattle.writing.proofs.WriteAnswers.{answer-0, answer-1, answer-2, answer-4, answer-5, refused, accepted}
 use Rattle.writing.proofs.doonamurk_write.Statement.{statement}
 use Rattle.writing.proofs.doonamurk_write.Tie as tie

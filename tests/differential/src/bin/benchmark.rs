@@ -62,7 +62,7 @@ struct Times {
 
 /// The questions in the order in which they are asked.
 const QUESTIONS: [u64; 19] = [
-    1, 2, 3, 4, 5, 6, 7, 8, 9, 10, 18, 19, 11, 12, 15, 16, 17, 13, 14,
+    1, 2, 3, 4, 5, 6, 13, 7, 8, 9, 10, 18, 19, 11, 12, 15, 16, 17, 14,
 ];
 
 /// How many rows are accepted; they come first.
@@ -314,17 +314,20 @@ const STAGES: [(u64, &str); 8] = [
     (2, "opening, questions 1 and 2"),
     (5, "fields and ranges, questions 3 to 5"),
     (
-        8,
-        "cumulatives, averages, their totals and T, questions 6 to 8",
+        13,
+        "cumulatives, averages, their totals and development factors, questions 6 and 13",
     ),
+    (8, "T, questions 7 and 8"),
     (10, "shares and levels, questions 9 and 10"),
     (19, "payments after the last year, questions 18 and 19"),
     (
         17,
         "completed triangle and ULAE ratio, corrected, questions 11, 12 and 15 to 17",
     ),
-    (13, "ULAE reserve and development factors, question 13"),
-    (0, "completed cumulatives, question 14, and the list"),
+    (
+        0,
+        "ULAE reserve, completed cumulatives, question 14, and the list",
+    ),
 ];
 
 /// The time of a record that is refused after a stage, less that of one that is refused before it.

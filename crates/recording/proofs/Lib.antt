@@ -1,0 +1,3 @@
+pub mod RowsGiven
+pub mod WrittenSigns
+pub mod Recorded
