@@ -1,5 +1,5 @@
 -- The order of the questions, and what request 6 of document 02 changed, which put question 13 directly after 6: the answers that changed are just those of the records
--- that pass 1 to 6, fail 13 and fail one of 7 to 12 or 15 to 19, and they get 13; no list changed. The order of before stands here and nowhere else. Assumes nothing.
+-- that pass 1 to 6, fail 13 and fail one of 7 to 12 or 15 to 19, and they get 13; no list changed. Of the crates this one alone has the order of before. Assumes nothing.
 use Prim.Native.Nat.{ℕ}
 use mathlib.Core.Path.{_≡_, refl, ap, _∙_}
 use mathlib.Core.Bool.{Bool, cond, not, _&&_, Bool·not-not}
