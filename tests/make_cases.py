@@ -774,6 +774,15 @@ def of_year(year, rest):
     return year.to_bytes(2, "big") + rest
 
 
+# a title that tries to end its element, and a first year
+HEAD = ("Taylor's <motor> account & more</h1></title><script>\x01\t\x7f \u00e9".encode("utf-8"), 1967)
+
+
+def of_report(year, record, title=b"", first=0):
+    """What a report's program is given: the valuation year and the first origin year in two bytes each, the title behind its length, and then the record."""
+    return year.to_bytes(2, "big") + first.to_bytes(2, "big") + bytes([len(title)]) + title + record
+
+
 def main():
     given, wanted = b"", ""
     for room, record in read_cases():
@@ -805,10 +814,10 @@ def main():
     record = model.pack(model.TWO_YEARS)
     store("fields", record, "".join(f"{v}\n" for v in model.TWO_YEARS))
     record = model.pack(model.MOTOR_ACCOUNT)
-    for name in ("motor_account", "report_html"):
-        put(os.path.join(CRATES, name, "stdin"), of_year(2026, record))
+    put(os.path.join(CRATES, "motor_account", "stdin"), of_year(2026, record))
     store("reserve", of_year(2026, record), "".join(f"{v}\n" for v in model.run(2026, record, model.result_count(3))[1]))
-    store("report", of_year(2026, record), page.page(2026, record))
+    store("report", of_report(2026, record, *HEAD), page.page(2026, record, False, *HEAD).encode("latin-1"))
+    store("report_html", of_report(2026, record, *HEAD), page.page(2026, record, True, *HEAD).encode("latin-1"))
     # every record once; run_cases has most of them in 2026
     records = list(dict.fromkeys(record for *_, record in run_inputs()))
     stream = b"".join(len(record).to_bytes(2, "big") + record for record in records)
@@ -816,6 +825,8 @@ def main():
     gather(record)
     examples()
     refusals()
+    refused_pages()
+    lost_page()
     texts()
 
 
@@ -840,11 +851,11 @@ def examples():
         assert said is None, said
         record = model.pack(fields)
         put(os.path.splitext(path)[0] + ".rec", record)
-        put(os.path.join(HERE, "pages", name + ".txt"), page.page(2026, record))
-        put(os.path.join(HERE, "pages", name + ".csv"), page.csv(2026, record))
-        if name in ("two_years", "liability_tail"):
-            put(os.path.join(HERE, "pages", "2027", name + ".txt"), page.page(2027, record))
-            put(os.path.join(HERE, "pages", "2027", name + ".csv"), page.csv(2027, record))
+        for year, folder in ((2026, "pages"), (2027, os.path.join("pages", "2027"))):
+            if year == 2026 or name in ("two_years", "liability_tail"):
+                put(os.path.join(HERE, folder, name + ".txt"), page.page(year, record))
+                put(os.path.join(HERE, folder, name + ".html"), page.page(year, record, True))
+                put(os.path.join(HERE, folder, name + ".csv"), page.csv(year, record))
         if name == "liability_book":
             store("pack", given, record)
             store("unpack", record, page.sheet(fields))
@@ -886,6 +897,36 @@ def refusals():
         record = model.pack(fields)
         put(os.path.join(HERE, "refusals", name + ".rec"), record)
         put(os.path.join(HERE, "refusals", name + ".said"), page.refusal(record))
+
+
+def refused_pages():
+    """A record that each question refuses, behind its year, and the pages that say so (tests/pages/refused)."""
+    left = set(page.QUESTIONS) - {3}
+    for year, _, record in run_inputs():
+        number_ = model.run(year, record, 505)[0]
+        if number_ in left and year < 65536:
+            left.remove(number_)
+            name = os.path.join(HERE, "pages", "refused", f"{number_:02}")
+            put(name + ".given", of_report(year, record, b"", 2012))
+            put(name + ".txt", page.refused_page(year, record, False, b"", 2012))
+            put(name + ".html", page.refused_page(year, record, True, b"", 2012))
+    assert not left, left
+    # the payment year that 7 names is called by the first
+    record = model.pack(fields_of([1] * 3, [[60, -5, 5], [0, 5], [70]]))
+    name = os.path.join(HERE, "pages", "refused", "07_payment_year")
+    put(name + ".given", of_report(2026, record, b"", 2012))
+    put(name + ".txt", page.refused_page(2026, record, False, b"", 2012))
+    put(name + ".html", page.refused_page(2026, record, True, b"", 2012))
+
+
+def lost_page():
+    """A record whose averages lose payments and are below zero, with a title (tests/pages/given)."""
+    record = model.pack(fields_of([1000] * 4, [[90000, 9000, 3, 5], [95000, -800, 4], [99000, 9500], [99000]]))
+    given = (record, b"Averages that lose payments", 2024)
+    name = os.path.join(HERE, "pages", "given", "lost")
+    put(name + ".given", of_report(2026, *given))
+    put(name + ".txt", page.page(2026, record, False, *given[1:]))
+    put(name + ".html", page.page(2026, record, True, *given[1:]))
 
 
 def texts():

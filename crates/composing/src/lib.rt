@@ -62,7 +62,7 @@ pub fn put_decimal(out: &mut [u8], at: usize, n: u64) -> usize
 }
 
 // The minus sign of a number below zero.
-fn put_sign(out: &mut [u8], at: usize, z: i64) -> usize
+pub fn put_sign(out: &mut [u8], at: usize, z: i64) -> usize
     ensures { λ r. ⌜ Put (now (out .entry)) (now (out .exit)) at r (sign z) ⌝ }
 {
     if z < 0 { put_byte(out, at, 45) } else { at }
@@ -77,7 +77,7 @@ pub fn put_integer(out: &mut [u8], at: usize, z: i64) -> usize
 }
 
 // n without its last d digits.
-fn shortened(d: usize, n: u64) -> u64
+pub fn shortened(d: usize, n: u64) -> u64
     ensures { λ r. ⌜ r ≡ without d n ⌝ }
 {
     let mut rest = n;
@@ -88,7 +88,7 @@ fn shortened(d: usize, n: u64) -> u64
 }
 
 // The last m digits of n.
-fn put_last(out: &mut [u8], at: usize, m: usize, n: u64) -> usize
+pub fn put_last(out: &mut [u8], at: usize, m: usize, n: u64) -> usize
     ensures { λ r. ⌜ Put (now (out .entry)) (now (out .exit)) at r (lastDigits m n) ⌝ }
 {
     let mut end = at;
@@ -115,7 +115,7 @@ pub fn put_fixed(out: &mut [u8], at: usize, d: usize, z: i64) -> usize
 }
 
 // How many places n takes.
-fn decimal_length(n: u64) -> usize
+pub fn decimal_length(n: u64) -> usize
     ensures { λ r. ⌜ r ≡ length (decimal n) ⌝ }
 {
     if n < 10 {
@@ -149,7 +149,7 @@ pub fn fixed_length(d: usize, z: i64) -> usize
 }
 
 // How many of w places are left after n.
-fn left_of(w: usize, n: usize) -> usize
+pub fn left_of(w: usize, n: usize) -> usize
     ensures { λ r. ⌜ r ≡ w - n ⌝ }
 {
     if n < w { w - n } else { 0 }

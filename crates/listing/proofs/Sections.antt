@@ -23,7 +23,7 @@ pub small-total : (xs : List ℕ) → Addable xs → (n : ℕ) → n ≤ 16 → 
 small-total xs h n l = omega (arith, total-most mostUltimate xs h n)
 
 -- the first n entries of a list, one by one
-take-upTo : {A : Type 0} (xs : List A) (d : A) (n : ℕ) → n ≤ length xs → take n xs ≡ upTo (λ j. getD xs j d) n
+pub take-upTo : {A : Type 0} (xs : List A) (d : A) (n : ℕ) → n ≤ length xs → take n xs ≡ upTo (λ j. getD xs j d) n
 unfolding upTo
 take-upTo xs d zero h = refl
 take-upTo xs d (suc n) h = rw (take-suc xs n d (omega arith), take-upTo xs d n (omega arith))

@@ -1,5 +1,5 @@
 -- The plain ULAE ratio and what corrects it, of figures f that have passed question 6 and of arrays that hold them. Assumes nothing.
-use Prim.Native.Nat.{ℕ, _+_, _*_, _^_, _≤_, _<_}
+use Prim.Native.Nat.{ℕ, _+_, _*_, _≤_, _<_}
 use native.Mathlib.Nat.{mul-le-mul, div-le-self}
 use native.Mathlib.Omega.{arith}
 use borrow.Author.Tests.{leb-true}
@@ -24,7 +24,7 @@ use Rattle.reserving.proofs.PlainRatio as ratio
 use Rattle.results.proofs.Limits.{ultimates-most}
 use Rattle.results.proofs.Printed.{provision-entry}
 use Rattle.growth.specs.declared.Correction.{Correction}
-use Rattle.outcomes.specs.Outcome.{correctionIn}
+use Rattle.outcomes.specs.Outcome.{correctionIn, mostCorrection}
 
 abbrev pub made : ℕ → ℕ → ℕ → ℕ → Correction
 made p b y d = record { plain = p; reported = b; paid = y; divisor = d }
@@ -35,14 +35,14 @@ unfolding latestPaidPasses
 latest-least (pos n) q = leb-true 1 n q
 latest-least (negsuc n) q = omega arith
 
--- the plain ratio and the divisor are below 2^63
-pub plain-below : (n m : ℕ) → m ≤ 16 * mostAmount → plainRatio (pos n) m < 2 ^ 63
+-- the plain ratio and the divisor are at most 2 × 10^18
+pub plain-most : (n m : ℕ) → m ≤ 16 * mostAmount → plainRatio (pos n) m ≤ mostCorrection
 unfolding plainRatio
-plain-below n m h = omega (arith, div-le-self (million * m) n)
+plain-most n m h = omega (arith, div-le-self (million * m) n)
 
-pub divisor-below : (w b : ℕ) (y : ℤ) → w ≤ million → b ≤ mostUltimate → divisorOf w b y < 2 ^ 63
+pub divisor-most : (w b : ℕ) (y : ℤ) → w ≤ million → b ≤ mostUltimate → divisorOf w b y ≤ mostCorrection
 unfolding divisorOf
-divisor-below w b y h l = omega (arith, mul-le-mul h l, div-le-self (w * b) (natAbs y))
+divisor-most w b y h l = omega (arith, mul-le-mul h l, div-le-self (w * b) (natAbs y))
 
 -- no paid cumulative is above 10^11
 pub paid-small : (f : Figures) → cumulativesPass (f .k) (f .increments) ≡ true → Addable (paidIn f)

@@ -1,5 +1,5 @@
 -- What a run of the engine on the record s in a valuation year leaves, and what corrects its ULAE ratio. Assumes nothing.
-use Prim.Native.Nat.{ℕ}
+use Prim.Native.Nat.{ℕ, _≤_}
 use mathlib.Core.Bool.{cond}
 use mathlib.Core.List.{List}
 use lib.IntN.{ℤ, pos, natAbs}
@@ -25,3 +25,13 @@ correctionIn year f = record {
 
 abbrev pub correctionBy : ℕ → List ℕ → Correction
 correctionBy year s = correctionIn year (figuresOf s)
+
+-- the most of the four, 2 × 10^18, which a signed number holds
+abbrev pub mostCorrection : ℕ
+mostCorrection = 2000000000000000000
+
+pub record InRange (x : Correction) : Type 0 where
+  pub plain : x .plain ≤ mostCorrection
+  pub reported : x .reported ≤ mostCorrection
+  pub paid : x .paid ≤ mostCorrection
+  pub divisor : x .divisor ≤ mostCorrection

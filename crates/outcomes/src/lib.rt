@@ -15,7 +15,7 @@ use rules::MOST_ENTRIES;
 use triangle::fill_rows;
 ghost use mathlib.Core.Path.{_≡_};
 ghost use mathlib.Core.Bool.{true};
-ghost use Prim.Native.Nat.{_+_, _*_, _^_, _≤_, _<_};
+ghost use Prim.Native.Nat.{_+_, _*_, _≤_, _<_};
 ghost use lib.IntN.{pos, natAbs};
 ghost use lib.ListN.{getD, take, replicate};
 ghost use Rattle.rules.specs.Lists.{total, upTo, padded};
@@ -28,7 +28,7 @@ ghost use Rattle.rules.specs.Results.{mostEntries, squareOf, paidIn};
 ghost use Rattle.rules.specs.Engine.{runAnswer};
 ghost use Rattle.triangle.specs.Columns.{columnSum};
 ghost use Rattle.listing.specs.Starts.{Addable};
-ghost use Rattle.outcomes.specs.Outcome.{filledBy, correctionBy};
+ghost use Rattle.outcomes.specs.Outcome.{filledBy, correctionBy, InRange};
 
 // The increments, the reporting shares, the ULAE totals, the paid cumulatives and the sums of the cumulatives' columns of a record that has passed questions 1, 2, 4, 5 and 6, and
 // the totals of the columns and diagonals of its averages; answers the weight.
@@ -113,7 +113,7 @@ pub fn read_accepted(
 ) -> Correction
     requires { ⌜ (runAnswer year (now packed) mostEntries ≡ 0) × ((now list ≡ filledBy year (now packed)) × (now paid ≡ replicate 16 0)) ⌝ }
     ensures { λ r. ⌜ (r ≡ correctionBy year (now (packed .entry)))
-        × ((r .plain < 2 ^ 63) × ((r .divisor < 2 ^ 63) × (now (paid .exit) ≡ paidIn (figuresOf (now (packed .entry)))))) ⌝ }
+        × (InRange r × (now (paid .exit) ≡ paidIn (figuresOf (now (packed .entry))))) ⌝ }
 {
     let mut increments = [0i64; 136];
     let mut reporting = [0u64; 16];

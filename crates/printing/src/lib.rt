@@ -136,7 +136,7 @@ pub fn read_input(buf: &mut [u8]) -> Arrived
 }
 
 // Reads standard input and answers how many bytes arrived; 0 where none did or a read failed, after saying so.
-fn read_some(buf: &mut [u8]) -> usize
+pub fn read_some(buf: &mut [u8]) -> usize
     ensures { λ r. ⌜ Counts r (now (buf .exit)) ⌝ }
 {
     let arrived = read_input(buf);
@@ -152,7 +152,7 @@ fn read_some(buf: &mut [u8]) -> usize
 }
 
 // Says that a text arrived, and what to do first.
-fn say_text(first: &[u8]) {
+pub fn say_text(first: &[u8]) {
     say(b"this is a text, not a record: make a record of it with pack first");
     say(first);
 }

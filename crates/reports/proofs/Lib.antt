@@ -1,1 +1,2 @@
-pub mod PagesAccepted
+pub mod Asked
+pub mod Accepted

@@ -1,40 +1,34 @@
--- The report of the record s in a valuation year, as text and as HTML: the page of an accepted run, or the question that said no in words. Assumes nothing.
-use Prim.Native.Nat.{ℕ, _+_}
+-- The report of the record s in a valuation year, as a page of HTML or of text, with a title and a first origin year: of an accepted run its figures, of a refused one the
+-- question that said no. Assumes nothing.
+use Prim.Native.Nat.{ℕ}
 use mathlib.Core.Bool.{Bool, cond}
-use mathlib.Core.List.{List, _++_}
+use mathlib.Core.List.{List}
 use lib.Dec.{eqb}
-use Rattle.rules.specs.Lists.{upTo, padded}
+use lib.IntN.{ℤ}
 use Rattle.rules.specs.Record.{lastYearOf, figuresOf}
-use Rattle.rules.specs.Results.{mostEntries, paidIn}
+use Rattle.rules.specs.Results.{mostEntries}
 use Rattle.rules.specs.Engine.{runAnswer}
 use Rattle.outcomes.specs.Outcome.{filledBy, correctionBy}
-use Rattle.refusals.specs.Refusal.{refusalOf}
-use Rattle.page.specs.Page.{ladderUltimate, pageOf}
-use Rattle.web_page.specs.Web.{webStart, webText, webPageOf}
+use Rattle.valuation.specs.Valuation.{yearIn}
+use Rattle.titled_input.specs.Titled.{firstIn, titleIn, titledRecordIn}
+use Rattle.record_figures.specs.RecordFigures.{recordFigures}
+use Rattle.summary_figures.specs.Summary.{summaryOf}
+use Rattle.accepted_page.specs.AcceptedPage.{acceptedPage}
+use Rattle.refused_page.specs.RefusedPage.{refusedPage}
 
--- in arrays of sixteen, zero past year k, what is paid and the chain ladder's ultimates by origin year
-abbrev pub paidBy : List ℕ → List ℕ
-paidBy s = paidIn (figuresOf s)
+-- the figures of an accepted run, and its single figures
+abbrev pub figuresBy : ℕ → List ℕ → List ℤ
+figuresBy year s = recordFigures (filledBy year s) s
 
-abbrev pub ladderBy : ℕ → List ℕ → List ℕ
-ladderBy year s = padded 16 0 (upTo (ladderUltimate (lastYearOf s) (filledBy year s) (paidBy s)) (lastYearOf s + 1))
+abbrev pub singlesBy : ℕ → List ℕ → List ℤ
+singlesBy year s = summaryOf year (lastYearOf s) (figuresBy year s) (correctionBy year s) (figuresOf s .weight) (figuresOf s .tail)
 
 -- the report
-unfoldable pub reportOf : ℕ → List ℕ → List ℕ
-reportOf year s =
-    cond (eqb (runAnswer year s mostEntries) 0) (pageOf year (lastYearOf s) (filledBy year s) (paidBy s) (ladderBy year s) (correctionBy year s))
-    (refusalOf s (runAnswer year s mostEntries))
+unfoldable pub reportOf : Bool → List ℕ → ℕ → ℕ → List ℕ → List ℕ
+reportOf html title year first s =
+    cond (eqb (runAnswer year s mostEntries) 0) (acceptedPage html title year first (lastYearOf s) s (figuresBy year s) (singlesBy year s))
+    (refusedPage html title year first s (runAnswer year s mostEntries))
 
--- the words of question n's refusal of the record s on a page of HTML
-unfoldable pub webRefusal : List ℕ → ℕ → List ℕ
-webRefusal s n = webStart ++ webText (refusalOf s n)
-
--- the report as a page of HTML
-unfoldable pub htmlReportOf : ℕ → List ℕ → List ℕ
-htmlReportOf year s =
-    cond (eqb (runAnswer year s mostEntries) 0) (webPageOf year (lastYearOf s) (filledBy year s) (paidBy s) (ladderBy year s) (correctionBy year s))
-    (webRefusal s (runAnswer year s mostEntries))
-
--- the report as HTML, or as text
-unfoldable pub reportIn : Bool → ℕ → List ℕ → List ℕ
-reportIn html year s = cond html (htmlReportOf year s) (reportOf year s)
+-- of a program's input
+unfoldable pub reportIn : Bool → List ℕ → List ℕ
+reportIn html input = reportOf html (titleIn input) (yearIn input) (firstIn input) (titledRecordIn input)

@@ -71,7 +71,7 @@ module _ (k : ℕ) (p : List ℤ) where
     column-sum-most few = upTo-all (λ x. x ≤ 16 * mostCumulative) 0 zero-le _ 16 (λ j l. omega (arith, column-most k p (k + 1) j pass))
 
     -- the increments of row i sum to its paid cumulative
-    row-paid : (i : ℕ) → i ≤ k → sumTo (λ c. getD p (rowStart k i + c) (pos 0)) (k + 1 - i) ≡ pos (paidTo k p i)
+    pub row-paid : (i : ℕ) → i ≤ k → sumTo (λ c. getD p (rowStart k i + c) (pos 0)) (k + 1 - i) ≡ pos (paidTo k p i)
     unfolding paidOf cumulativeOf paidTo
     row-paid i h =
         let last : k + 1 - i ≡ suc (k - i) = omega arith in

@@ -22,7 +22,7 @@ pub fn pair_at(s: &[u8], p: usize) -> usize
 
 // The valuation year; 0 where the input ends before both of its bytes.
 pub fn year_of(input: &[u8]) -> u64
-    ensures { λ r. ⌜ r ≡ yearIn (now (input .entry)) ⌝ }
+    ensures { λ r. ⌜ (r ≡ yearIn (now (input .entry))) × (r < 65536) ⌝ }
 {
     if input.len() < 2 {
         return 0;

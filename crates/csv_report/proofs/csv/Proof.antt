@@ -8,7 +8,7 @@ returns : tie.Need-returns
 returns c =
     let from = c .before .before .before .before .before .before .record-start in
     let input = c .before .before .before .before .before .before .before .before .before .args .input .now in
-    rw (c .before .before .before .before .before .year-of .ensures, record-part input (from .result) (from .ensures .1)) at (c .before .before .put-run .ensures)
+    rw (c .before .before .before .before .before .year-of .ensures .0, record-part input (from .result) (from .ensures .1)) at (c .before .before .put-run .ensures)
 
 pub csv-spec : {M : Type 1} → statement M
 csv-spec =

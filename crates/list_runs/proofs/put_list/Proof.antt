@@ -12,7 +12,7 @@ returns c =
     let year = c .before .before .before .before .before in
     let start = year .before in
     let s = start .before .before .before .args .input .now in
-    put-same (ap₂ listText (year .year-of .ensures) (record-part s (start .record-start .result) (start .record-start .ensures .1))) (c .before .before .put-run .ensures)
+    put-same (ap₂ listText (year .year-of .ensures .0) (record-part s (start .record-start .result) (start .record-start .ensures .1))) (c .before .before .put-run .ensures)
 
 pub put-list-spec : {M : Type 1} → statement M
 put-list-spec =

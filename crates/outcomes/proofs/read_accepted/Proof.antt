@@ -4,7 +4,7 @@ use borrow.Author.Tests.{not-true, not-false}
 use native.Mathlib.Omega.{arith}
 use mir.Syntax.{w64}
 use mir.Facts.{toZ-ofZ}
-use Prim.Native.Nat.{ℕ, _^_, _<_}
+use Prim.Native.Nat.{ℕ, _≤_}
 use mathlib.Core.Path.{_≡_, refl, sym, ap, _∙_}
 use mathlib.Core.Bool.{true}
 use lib.IntN.{natAbs}
@@ -17,7 +17,8 @@ use Rattle.listing.proofs.Known.{known, at-starts}
 use Rattle.laws.proofs.TriangleRows.{cells-most}
 use Rattle.outcomes.proofs.Passed as passed
 use Rattle.outcomes.proofs.Accepted as accepted
-use Rattle.outcomes.proofs.Corrected.{latest-least, plain-below, divisor-below, ratio-ready, plain-is, provisions-are, ultimates-fit, shares-sum, reported-is, latest-is, divisor-is, plain-alone, corrected}
+use Rattle.outcomes.proofs.Corrected.{latest-least, plain-most, divisor-most, ratio-ready, plain-is, provisions-are, ultimates-fit, shares-sum, reported-is, latest-is, divisor-is, plain-alone, corrected}
+use Rattle.outcomes.specs.Outcome.{mostCorrection}
 use Rattle.outcomes.proofs.read_accepted.Statement.{statement}
 use Rattle.outcomes.proofs.read_accepted.Tie as tie
 
@@ -71,20 +72,20 @@ plain c =
     let read = at .read-again .ensures in
     c .plain-ratio-again .ensures ∙ plain-is (F at) (good at) (six at) _ _ _ (year-is (c .before .before .before)) (read .1 .1 .1 .1 .0) (read .1 .1 .1 .0)
 
-plain-fits : (c : tie.After-plain-ratio-again) → c .plain-ratio-again .result < 2 ^ 63
+plain-fits : (c : tie.After-plain-ratio-again) → c .plain-ratio-again .result ≤ mostCorrection
 plain-fits c =
     let at = again c in
     let s = start at in
     let read = at .read-again .ensures in
     let ready = ratio-ready (F at) (good at) (six at) _ _ _ (year-is (c .before .before .before)) (read .1 .1 .1 .1 .0) (read .1 .1 .1 .0) (accepted.ratio (s .args .year) (s .args .packed .now) (s .pre .0)) in
-    rw (c .plain-ratio-again .ensures) (plain-below _ _ (ready .1 .1 .1 .1))
+    rw (c .plain-ratio-again .ensures) (plain-most _ _ (ready .1 .1 .1 .1))
 
 -- a year whose ratio is not corrected
 returns : tie.Need-returns
 returns c =
     let ratio = c .before .before in
     let no = sym (c .before .corrects .ensures) ∙ not-true (c .before .corrects .result) (c .if1 .taken) in
-    (plain-alone (F (again ratio)) _ _ no (plain ratio), (plain-fits ratio, (omega arith, again ratio .read-again .ensures .1 .1 .1 .1 .0)))
+    (plain-alone (F (again ratio)) _ _ no (plain ratio), (record { plain = plain-fits ratio; reported = omega arith; paid = omega arith; divisor = omega arith }, again ratio .read-again .ensures .1 .1 .1 .1 .0))
 
 -- a year whose ratio is
 yes : (c : tie.Else1) → corrects (start (again (c .before .before)) .args .year) ≡ true
@@ -162,16 +163,26 @@ divisor c =
     let at = years (put (c .before)) .before in
     c .divisor-of .ensures ∙ divisor-is (F at) _ _ _ (at .read-again .ensures .0) (reported (found (c .before))) (latest (c .before))
 
-divisor-fits : (c : tie.After-divisor-of) → c .divisor-of .result < 2 ^ 63
+divisor-fits : (c : tie.After-divisor-of) → c .divisor-of .result ≤ mostCorrection
 divisor-fits c =
     let at = years (put (c .before)) .before in
-    rw (c .divisor-of .ensures) (divisor-below _ _ _ (rw (at .read-again .ensures .0) (good at .weight)) (found (c .before) .latest-reported .ensures .1))
+    rw (c .divisor-of .ensures) (divisor-most _ _ _ (rw (at .read-again .ensures .0) (good at .weight)) (found (c .before) .latest-reported .ensures .1))
+
+paid-fits : (c : tie.After-size-of) → c .size-of .result ≤ mostCorrection
+paid-fits c =
+    let whole = toZ-ofZ {w = w64} {z = c .before .latest-paid .result} (sfits-of (c .before .latest-paid .ok)) in
+    omega (arith, c .size-of .ensures ∙ ap natAbs whole, c .before .latest-paid .ensures .1)
 
 returns-2 : tie.Need-returns-2
 returns-2 c =
     let else1 = put (c .before) .before .before in
-    let ratio = else1 .before .before in
-    (corrected (F (again ratio)) _ _ _ _ _ (yes else1) (plain ratio) (reported (found (c .before))) (latest (c .before)) (divisor c), (plain-fits ratio, (divisor-fits c, again ratio .read-again .ensures .1 .1 .1 .1 .0)))
+    let ratio = else1 .before .before in (
+      corrected (F (again ratio)) _ _ _ _ _ (yes else1) (plain ratio) (reported (found (c .before))) (latest (c .before)) (divisor c),
+      (
+        record { plain = plain-fits ratio; reported = omega (arith, found (c .before) .latest-reported .ensures .1); paid = paid-fits (c .before); divisor = divisor-fits c },
+        again ratio .read-again .ensures .1 .1 .1 .1 .0,
+      ),
+    )
 
 pub read-accepted-spec : {M : Type 1} → statement M
 read-accepted-spec =

@@ -1,64 +1,82 @@
--- The page of the list, of what is paid and of what corrects the ULAE ratio is the report (page-is). Assumes nothing.
+-- The figures and the single figures of the list that the engine filled (Accepted). Assumes nothing.
+use native.Mathlib.Omega.{arith}
+use mathlib.Core.Path.{_≡_, refl, _∙_}
+use Rattle.rules.specs.Packing.{Fit}
+use Rattle.rules.specs.Record.{lastYearOf, figuresOf}
+use Rattle.outcomes.specs.Outcome.{filledBy}
+use Rattle.outcomes.proofs.Passed.{accepted, opening, fields, some}
+use Rattle.record_figures.specs.RecordFigures.{recordFigures}
+use Rattle.reports.specs.Report.{reportOf}
+use Rattle.reports.proofs.Accepted.{listed, figured-by, told-by}
 use borrow.Author.Needs.{needs}
-use Rattle.rules.specs.Record.{figuresOf}
-use Rattle.composing.proofs.Puts.{put-same}
-use Rattle.listing.proofs.Known.{at-starts}
-use Rattle.outcomes.proofs.Passed.{accepted, some}
-use Rattle.reports.proofs.PagesAccepted.{paid-fits, tails-fit, ladder-fits, page-is}
 use Rattle.reports.proofs.put_accepted.Statement.{statement}
 use Rattle.reports.proofs.put_accepted.Tie as tie
 
-last-year-of-requires : tie.Need-last-year-of-requires
-last-year-of-requires c κs =
-    let s = c .before .before in
-    let packed = s .args .packed .now in
-    some (s .args .year) packed (accepted (s .args .year) packed (s .pre .0))
+bytes : (c : tie.After-shared-slice-known2) → Fit 8 (c .before .before .before .args .packed .now)
+bytes c i = omega (arith, c .shared-slice-known2 .given i)
 
-ladder-of-requires : tie.Need-ladder-of-requires
-ladder-of-requires c κs =
-    let k = c .before .before .before .before .last-year-of in
-    (k .ensures .1, at-starts (c .starts-of .result) (k .result) (c .starts-of .ensures) .completed)
-
-put-form-requires : tie.Need-put-form-requires
+fill-record-figures-requires : tie.Need-fill-record-figures-requires
 unfolding figuresOf
-put-form-requires c κs =
-    let k = c .before .before .before .before .before .before .before .before .last-year-of in
-    let s = c .before .before .before .before .before .before .before .before .before .before .before in
+fill-record-figures-requires c κs =
+    let at = c .before in
+    let s = at .before .before .before in
     let year = s .args .year in
     let packed = s .args .packed .now in
-    let read = c .before .before .before .before .before .before .read-accepted .ensures in
-    let small = paid-fits year packed (s .pre .0) _ (read .1 .1 .1) in (
-      k .ensures .1,
+    let ok = s .pre .1 .1 .0 in
+    let run = accepted year packed ok in
+    (opening year packed run, (fields year packed run, (rw (s .pre .1 .1 .1) (listed year packed (bytes at) ok), refl)))
+
+last-year-of-requires : tie.Need-last-year-of-requires
+last-year-of-requires c κs =
+    let s = c .before .before .before .before .before .before .before in
+    some (s .args .year) (s .args .packed .now) (accepted (s .args .year) (s .args .packed .now) (s .pre .1 .1 .0))
+
+-- what is read, and the years of it
+figures-are : (c : tie.After-fill-record-figures)
+    → c .fill-record-figures .last .1 .1 .0 ≡ recordFigures (filledBy (c .before .before .before .before .before .args .year) (c .before .before .before .before .before .args .packed .now)) (c .before .before .before .before .before .args .packed .now)
+figures-are c = rw (c .before .before .before .before .before .pre .1 .1 .1) at (c .fill-record-figures .ensures .1 .1)
+
+years-are : (c : tie.After-last-year-of) → c .last-year-of .result ≡ figuresOf (c .before .before .before .before .before .before .before .before .args .packed .now) .k
+unfolding figuresOf
+years-are c = c .last-year-of .ensures .0
+
+fill-summary-requires : tie.Need-fill-summary-requires
+fill-summary-requires c κs =
+    let k = c .before .before in
+    let x = k .before in
+    let r = x .before .before in
+    let at = r .before .before in
+    let s = at .before .before .before in
+    let year = s .args .year in
+    let packed = s .args .packed .now in
+    let ok = s .pre .1 .1 .0 in (
+      k .last-year-of .ensures .1,
       (
-        tails-fit year packed (s .pre .0) (k .result) (s .args .list .now) (k .ensures .0) (s .pre .1),
-        (
-          small,
-          (
-            ladder-fits year packed (s .pre .0) (k .result) (s .args .list .now) _ _ (k .ensures .0) (s .pre .1) small (c .before .before .before .ladder-of .ensures),
-            (read .1 .0, read .1 .1 .0),
-          ),
-        ),
+        rw (years-are k, figures-are r) (figured-by year packed (bytes at) ok),
+        (rw (r .fill-record-figures .ensures .0, r .fill-record-figures .ensures .1 .0) (told-by year packed (bytes at) ok (s .pre .1 .0) _ (x .read-accepted .ensures .1 .0)), refl),
       ),
     )
 
+put-accepted-page-requires : tie.Need-put-accepted-page-requires
+put-accepted-page-requires c κs =
+    let k = c .before .before .before .before .before .before in
+    let r = k .before .before .before in
+    let at = r .before .before in
+    let s = at .before .before .before in
+    (k .last-year-of .ensures .1, (s .pre .0, rw (years-are k, figures-are r) (figured-by (s .args .year) (s .args .packed .now) (bytes at) (s .pre .1 .1 .0))))
+
 returns : tie.Need-returns
+unfolding reportOf
 returns c =
-    let k = c .before .before .before .before .before .before .before .before .before .before .before .last-year-of in
-    let s = c .before .before .before .before .before .before .before .before .before .before .before .before .before .before in
-    let read = c .before .before .before .before .before .before .before .before .before .read-accepted .ensures in
-    put-same
-    (page-is (s .args .year) (s .args .packed .now) (s .pre .0) (s .args .html) (k .result) (s .args .list .now) _ _ _ (k .ensures .0) (s .pre .1) (read .1 .1 .1)
-    (c .before .before .before .before .before .before .ladder-of .ensures) (read .0))
-    (c .before .before .put-form .ensures)
+    let f = c .before .before .before .before .before .before in
+    let k = f .before .before .before in
+    let x = k .before in
+    let r = x .before .before in
+    let s = r .before .before .before .before .before in
+    rw (s .pre .1 .1 .0)
+    (rw (f .fill-summary .ensures, r .fill-record-figures .ensures .0, r .fill-record-figures .ensures .1 .0, figures-are r, k .last-year-of .ensures .0, x .read-accepted .ensures .0) at (c .before .before .put-accepted-page .ensures))
 
 pub put-accepted-spec : {M : Type 1} → statement M
 put-accepted-spec =
     tie.close
-    (tie.spec
-    last-year-of-requires
-    (λ c κs. search needs)
-    (λ c κs. search needs)
-    ladder-of-requires
-    put-form-requires
-    (λ c. search needs)
-    returns)
+    (tie.spec fill-record-figures-requires (λ c κs. search needs) last-year-of-requires fill-summary-requires put-accepted-page-requires (λ c. search needs) returns)

@@ -1,28 +1,37 @@
--- A refusal in words (refusal-is), or the page of the list that the engine filled. Assumes nothing.
+-- The page of a refusal, or of the list that the engine filled. Assumes nothing.
 use native.Mathlib.Omega.{arith}
-use Rattle.composing.proofs.Puts.{put-same}
+use mathlib.Core.Path.{sym, _∙_}
+use borrow.Author.Tests.{ne-eqb}
+use Rattle.rules.specs.Results.{mostEntries}
+use Rattle.rules.specs.Engine.{runAnswer}
 use Rattle.refusals.proofs.Words.{refused-by}
-use Rattle.reports.proofs.PagesAccepted.{refusal-is}
+use Rattle.reports.specs.Report.{reportOf}
+use Rattle.reports.proofs.Asked.{some-known, inputs-passed}
 use borrow.Author.Needs.{needs}
 use Rattle.reports.proofs.put_run.Statement.{statement}
 use Rattle.reports.proofs.put_run.Tie as tie
 
-put-refusal-form-requires : tie.Need-put-refusal-form-requires
-put-refusal-form-requires c κs =
+put-refused-page-requires : tie.Need-put-refused-page-requires
+put-refused-page-requires c κs =
     let run = c .before .before .before .doonamurk-run in
-    let s = c .before .before .before .before .before .before .before .args in
-    refused-by (s .year) (s .packed .now) (run .result) (run .ensures .0)
+    let s = c .before .before .before .before .before .before .before .before in
+    let year = s .args .year in
+    let packed = s .args .packed .now in
+    (s .pre .0, (s .pre .1, (some-known year packed (run .result) (sym (run .ensures .0)), (inputs-passed year packed (run .result) (sym (run .ensures .0)), refused-by year packed (run .result) (run .ensures .0)))))
 
 returns : tie.Need-returns
+unfolding reportOf
 returns c =
-    let run = c .before .before .before .before .before .before .doonamurk-run in
-    let s = c .before .before .before .before .before .before .before .before .before .before .args in
-    put-same (refusal-is (s .html) (s .year) (s .packed .now) (run .result) (run .ensures .0) (c .before .before .before .before .if1 .taken)) (c .before .before .put-refusal-form .ensures)
+    let t = c .before .before .before .before in
+    let run = t .before .before .doonamurk-run in
+    let s = t .before .before .before .before .before .before .before in
+    rw (ne-eqb (runAnswer (s .args .year) (s .args .packed .now) mostEntries) 0 (λ z. t .if1 .taken (run .ensures .0 ∙ z))) (rw (run .ensures .0) at (c .before .before .put-refused-page .ensures))
 
 put-accepted-requires : tie.Need-put-accepted-requires
 put-accepted-requires c κs =
     let run = c .before .before .before .before .doonamurk-run in
-    (omega arith, run .ensures .1 .0)
+    let s = c .before .before .before .before .before .before .before .before .before in
+    (s .pre .0, (s .pre .1, (omega arith, run .ensures .1 .0)))
 
 pub put-run-spec : {M : Type 1} → statement M
 put-run-spec =
@@ -30,7 +39,7 @@ put-run-spec =
     (tie.spec
     (λ c. search needs)
     (λ c κs. search needs)
-    put-refusal-form-requires
+    put-refused-page-requires
     (λ c. search needs)
     returns
     put-accepted-requires

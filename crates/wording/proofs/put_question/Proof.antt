@@ -3,15 +3,15 @@ use mathlib.Core.Path.{refl}
 use Rattle.rules.specs.Lists.{every}
 use Rattle.entries.specs.Leading.{passing}
 use Rattle.composing.proofs.Puts.{put-same}
-use Rattle.wording.specs.Lines.{written, firstLine}
+use Rattle.lines.specs.Lines.{written, firstLine, lineOf}
 use Rattle.wording.specs.Wording.{questionTexts, questionText}
-use Rattle.wording.proofs.Lines.{line-is}
+use Rattle.lines.proofs.Lines.{line-is}
 use borrow.Author.Needs.{needs}
 use Rattle.wording.proofs.put_question.Statement.{statement}
 use Rattle.wording.proofs.put_question.Tie as tie
 
 returns : tie.Need-returns
-unfolding questionTexts questionText written firstLine every passing
+unfolding questionTexts questionText written firstLine lineOf every passing
 returns c = put-same (line-is questionTexts (written questionTexts) (c .before .before .before .before .before .before .args .n) refl) (c .before .before .put-line .ensures)
 
 pub put-question-spec : {M : Type 1} → statement M

@@ -1,0 +1,2 @@
+pub mod Axis
+pub mod Shown

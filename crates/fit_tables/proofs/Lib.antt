@@ -1,0 +1,2 @@
+pub mod Shaded
+pub mod Small

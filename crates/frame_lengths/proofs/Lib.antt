@@ -1,0 +1,4 @@
+pub mod Frame
+pub mod Opening
+pub mod Recorded
+pub mod Refused

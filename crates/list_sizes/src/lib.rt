@@ -1,0 +1,1 @@
+// How large the entries of an accepted run's list are; the laws stand in proofs/.

@@ -1,0 +1,38 @@
+-- How long the page of a refused record is at most. Assumes nothing.
+use mathlib.Core.Bool.{Bool, true, false, cond}
+use mathlib.Core.List.{List, []}
+use Prim.Native.Nat.{ℕ, _≤_, _<_}
+use native.Mathlib.Omega.{arith}
+use lib.ListN.{length, length-append}
+use Rattle.rules.specs.Record.{lastYearOf}
+use Rattle.section_lengths.proofs.Inputs.{input-section-most}
+use Rattle.section_lengths.proofs.Proved.{refused-proof-most}
+use Rattle.frame_lengths.proofs.Frame.{start-most, end-most}
+use Rattle.frame_lengths.proofs.Opening.{opening-most}
+use Rattle.frame_lengths.proofs.Recorded.{record-most}
+use Rattle.frame_lengths.proofs.Refused.{refused-most}
+use Rattle.page_opening.specs.Opening.{openingText}
+use Rattle.refused_page.specs.RefusedPage.{yearsKnown, inputsKnown, refusedOpening, refusedInputs, refusedPage}
+
+refused-opening-most : (html : Bool) (year first : ℕ) (s : List ℕ) (n : ℕ) → length (refusedOpening html year first s n) ≤ 480
+unfolding refusedOpening
+refused-opening-most html year first s n = go (yearsKnown n)
+  where
+    go : (known : Bool)
+        → length (cond known (openingText html true year first (lastYearOf s) (length s)) (openingText html false year first 0 (length s))) ≤ 480
+    go true = opening-most html true year first (lastYearOf s) (length s)
+    go false = opening-most html false year first 0 (length s)
+
+inputs-most : (html : Bool) (year first : ℕ) (s : List ℕ) (known : Bool) → lastYearOf s < 16 → length (cond known (refusedInputs html year first s) []) ≤ 46000
+unfolding refusedInputs
+inputs-most html year first s true few = input-section-most html first (lastYearOf s) _ _ few
+inputs-most html year first s false few = omega arith
+
+-- in any valuation year and for any question, with a title of at most 255 bytes, and of a record of at most 4096
+pub refused-page-most : (html : Bool) (title : List ℕ) (year first : ℕ) (s : List ℕ) (n : ℕ) → length title ≤ 255 → length s ≤ 4096 → lastYearOf s < 16
+    → length (refusedPage html title year first s n) ≤ 70000
+unfolding refusedPage
+refused-page-most html title year first s n short fits few =
+    simp length-append
+    (omega
+    (arith, start-most html title year, refused-opening-most html year first s n, refused-most html first s n, inputs-most html year first s (inputsKnown n) few, refused-proof-most html, record-most html s, end-most html))

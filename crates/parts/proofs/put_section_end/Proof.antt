@@ -1,0 +1,14 @@
+-- On the page of HTML alone. Assumes nothing.
+use Rattle.parts.specs.Parts.{sectionEnd}
+use borrow.Author.Needs.{needs}
+use Rattle.parts.proofs.put_section_end.Statement.{statement}
+use Rattle.parts.proofs.put_section_end.Tie as tie
+
+returns : tie.Need-returns
+unfolding sectionEnd
+returns c = c .before .before .put-only .ensures
+
+pub put-section-end-spec : {M : Type 1} → statement M
+put-section-end-spec =
+    tie.close
+    (tie.spec (λ c. search needs) (λ c κs. search needs) (λ c. search needs) returns)

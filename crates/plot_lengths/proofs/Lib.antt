@@ -1,0 +1,4 @@
+pub mod Drawn
+pub mod Framed
+pub mod Plots
+pub mod Worked

@@ -1,0 +1,52 @@
+-- The report of a record s that question n refuses: what is not so, the inputs where they can be read, and the record. Assumes nothing.
+use Prim.Native.Nat.{ℕ}
+use mathlib.Core.Bool.{Bool, true, false, not, _&&_, cond}
+use mathlib.Core.List.{List, [], _++_}
+use lib.Dec.{eqb}
+use lib.IntN.{ℤ, pos}
+use lib.ListN.{length, replicate}
+use Rattle.rules.specs.Record.{lastYearOf, figuresOf}
+use Rattle.rules.specs.Results.{mostEntries}
+use Rattle.growth.specs.declared.Correction.{Correction}
+use Rattle.record_figures.specs.RecordFigures.{recordFigures}
+use Rattle.summary_figures.specs.Summary.{summaryOf}
+use Rattle.page_frame.specs.Frame.{pageStart, pageEnd}
+use Rattle.page_opening.specs.Opening.{openingText}
+use Rattle.refused_section.specs.RefusedSection.{refusedSection}
+use Rattle.input_section.specs.InputSection.{inputSection}
+use Rattle.proof_section.specs.Proved.{refusedProof}
+use Rattle.record_section.specs.RecordSection.{recordSection}
+
+-- whether k is known, and to be trusted: questions 1, 2 and 4 have said yes
+unfoldable pub yearsKnown : ℕ → Bool
+yearsKnown n = not (eqb n 1) && (not (eqb n 2) && not (eqb n 4))
+
+-- whether the inputs can be read: question 5 has said yes too, and there was room for the list
+unfoldable pub inputsKnown : ℕ → Bool
+inputsKnown n = not (eqb n 3) && (not (eqb n 5) && yearsKnown n)
+
+-- the opening, without years where k is not known
+unfoldable pub refusedOpening : Bool → ℕ → ℕ → List ℕ → ℕ → List ℕ
+refusedOpening html year first s n =
+    cond (yearsKnown n) (openingText html true year first (lastYearOf s) (length s)) (openingText html false year first 0 (length s))
+
+-- the figures of the inputs: there is no result list
+unfoldable pub inputFigures : List ℕ → List ℤ
+inputFigures s = recordFigures (replicate mostEntries (pos 0)) s
+
+-- and nothing corrects the ULAE ratio
+abbrev pub noCorrection : Correction
+noCorrection = record { plain = 0; reported = 0; paid = 0; divisor = 0 }
+
+-- the inputs as given
+unfoldable pub refusedInputs : Bool → ℕ → ℕ → List ℕ → List ℕ
+refusedInputs html year first s =
+    inputSection html first (lastYearOf s) (inputFigures s)
+    (summaryOf year (lastYearOf s) (inputFigures s) noCorrection (figuresOf s .weight) (figuresOf s .tail))
+
+unfoldable pub refusedPage : Bool → List ℕ → ℕ → ℕ → List ℕ → ℕ → List ℕ
+refusedPage html title year first s n =
+    pageStart html title year
+    ++ (refusedOpening html year first s n
+    ++ (refusedSection html first s n
+    ++ (cond (inputsKnown n) (refusedInputs html year first s) [] ++ (refusedProof html ++ (recordSection html s ++ pageEnd html)))))

@@ -1,0 +1,11 @@
+pub mod Tables
+pub mod Opened
+pub mod Plots
+pub mod Provisions
+pub mod Keys
+pub mod Shares
+pub mod Fit
+pub mod Triangles
+pub mod Inputs
+pub mod Expense
+pub mod Proved

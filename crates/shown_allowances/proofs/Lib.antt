@@ -1,0 +1,9 @@
+pub mod Kept
+pub mod Standing
+pub mod Turned
+pub mod Entries
+pub mod Amounts
+pub mod Allowing
+pub mod Balancing
+pub mod Nearing
+pub mod Proved

@@ -1,0 +1,4 @@
+pub mod Sections
+pub mod Segments
+pub mod Most
+pub mod Standing

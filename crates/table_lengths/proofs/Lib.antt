@@ -1,0 +1,4 @@
+pub mod Most
+pub mod Web
+pub mod Plain
+pub mod Tables

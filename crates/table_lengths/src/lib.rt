@@ -1,0 +1,1 @@
+// How long a table of the report is at most: the laws stand in proofs/.
