@@ -927,6 +927,7 @@ def lost_page():
     put(name + ".given", of_report(2026, *given))
     put(name + ".txt", page.page(2026, record, False, *given[1:]))
     put(name + ".html", page.page(2026, record, True, *given[1:]))
+    put(name + ".csv", page.csv(2026, record))
 
 
 def texts():
