@@ -1,7 +1,8 @@
 """The report of a record as a page of HTML or of text, its result list as comma-separated values, and the figures of a record as text, in plain Python.
 
-Written from the design of the page, docs/SHEET.md and the definitions of the list's lines and of the sheet, and not from the Rattle
-code; the numbers come from model.py. make_cases.py makes of it what report, csv and unpack are expected to write.
+Written from the design of the page, docs/SHEET.md and the definitions of the list's lines and of the sheet, by a hand that had read the definitions of the
+report's tables, plots and figures too, and before any Rattle code made a page; the words of a refused record are those of crates/advice/specs and no check of them;
+the numbers come from model.py. make_cases.py makes of it what report, csv and unpack are expected to write.
 """
 
 import itertools
