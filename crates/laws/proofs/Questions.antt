@@ -97,6 +97,43 @@ other-answer n l (q ∷ qs) w h =
     go true here after e = after e
     go false here after e = here e
 
+-- whether one question alone has the number n, or none
+abbrev pub once : ℕ → List (ℕ × Bool) → Bool
+once n [] = true
+once n (q ∷ qs) = cond (eqb (q .0) n) (without n qs) (once n qs)
+
+-- then it says no where its number, from 1 on, is the answer
+pub no-said : (n : ℕ) → 1 ≤ n → (qs : List (ℕ × Bool)) → once n qs ≡ true → firstNo qs ≡ n → said n qs ≡ false
+unfolding firstNo
+no-said n l [] o h = absurd (omega arith)
+no-said n l (q ∷ qs) o h = go (eqb (q .0) n) refl (q .1) refl o h (no-said n l qs)
+  where
+    go : (x : Bool) → eqb (q .0) n ≡ x → (b : Bool) → q .1 ≡ b → cond x (without n qs) (once n qs) ≡ true → cond b (firstNo qs) (q .0) ≡ n
+        → (once n qs ≡ true → firstNo qs ≡ n → said n qs ≡ false) → cond x b (said n qs) ≡ false
+    go true e true f o h after = absurd (other-answer n l qs o h)
+    go true e false f o h after = refl
+    go false e true f o h after = after o h
+    go false e false f o h after = absurd (eqb-false (q .0) n e h)
+
+-- whether question m stands before question n
+abbrev pub precedes : ℕ → ℕ → List (ℕ × Bool) → Bool
+precedes m n [] = false
+precedes m n (q ∷ qs) = not (eqb (q .0) n) && cond (eqb (q .0) m) true (precedes m n qs)
+
+-- then it says yes where the answer is n
+pub yes-before : (m n : ℕ) (qs : List (ℕ × Bool)) → precedes m n qs ≡ true → firstNo qs ≡ n → said m qs ≡ true
+unfolding firstNo
+yes-before m n [] o h = refl
+yes-before m n (q ∷ qs) o h =
+    let here = eqb-false (q .0) n (not-true (eqb (q .0) n) (both-left (not (eqb (q .0) n)) (cond (eqb (q .0) m) true (precedes m n qs)) o)) in
+    go (eqb (q .0) m) (q .1) here (both-right (not (eqb (q .0) n)) (cond (eqb (q .0) m) true (precedes m n qs)) o) h (yes-before m n qs)
+  where
+    go : (x b : Bool) → (q .0 ≡ n → ⊥) → cond x true (precedes m n qs) ≡ true → cond b (firstNo qs) (q .0) ≡ n → (precedes m n qs ≡ true → firstNo qs ≡ n → said m qs ≡ true)
+        → cond x b (said m qs) ≡ true
+    go x false here o h after = absurd (here h)
+    go true true here o h after = refl
+    go false true here o h after = after o h
+
 -- whether a question q, asked directly after the first and no longer after those between, gives the answer that one of those between gave: the first say yes, q says no, and so
 -- does one of those between
 abbrev pub overtakes : List (ℕ × Bool) → ℕ × Bool → List (ℕ × Bool) → Bool

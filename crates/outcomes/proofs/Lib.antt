@@ -2,3 +2,4 @@ pub mod Passed
 pub mod Accepted
 pub mod Again
 pub mod Corrected
+pub mod Said

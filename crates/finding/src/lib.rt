@@ -1,0 +1,24 @@
+// Where a question says no, and the figures there.
+
+// The kind of place, its row and its column, and up to three figures, zeros past them. An origin, payment or future year is a row, a development year a column. A field of
+// the record has the kind FIELD and its row in the record's layout together.
+pub struct Finding {
+    pub place: u64,
+    pub row: usize,
+    pub column: usize,
+    pub one: i64,
+    pub two: i64,
+    pub three: i64,
+}
+
+pub const NOWHERE: u64 = 0;
+
+pub const ORIGIN_YEAR: u64 = 1;
+
+pub const DEVELOPMENT_YEAR: u64 = 2;
+
+pub const PAYMENT_YEAR: u64 = 3;
+
+pub const CELL: u64 = 4;
+
+pub const FIELD: u64 = 4;
