@@ -900,23 +900,127 @@ def refusals():
 
 
 def refused_pages():
-    """A record that each question refuses, behind its year, and the pages that say so (tests/pages/refused)."""
+    """A record that each question refuses, behind its year, and the pages that say so; then others, for the place and the figures of each (tests/pages/refused)."""
+    folder = os.path.join(HERE, "pages", "refused")
+    stored = set()
+
+    def store_page(name, year, record, first):
+        number_ = model.run(year, record, 505)[0]
+        assert name[:2] == f"{number_:02}" and name not in stored, (name, number_)
+        stored.add(name)
+        put(os.path.join(folder, name + ".given"), of_report(year, record, b"", first))
+        put(os.path.join(folder, name + ".txt"), page.refused_page(year, record, False, b"", first))
+        put(os.path.join(folder, name + ".html"), page.refused_page(year, record, True, b"", first))
+
     left = set(page.QUESTIONS) - {3}
     for year, _, record in run_inputs():
         number_ = model.run(year, record, 505)[0]
         if number_ in left and year < 65536:
             left.remove(number_)
-            name = os.path.join(HERE, "pages", "refused", f"{number_:02}")
-            put(name + ".given", of_report(year, record, b"", 2012))
-            put(name + ".txt", page.refused_page(year, record, False, b"", 2012))
-            put(name + ".html", page.refused_page(year, record, True, b"", 2012))
+            store_page(f"{number_:02}", year, record, 2012)
     assert not left, left
-    # the payment year that 7 names is called by the first
-    record = model.pack(fields_of([1] * 3, [[60, -5, 5], [0, 5], [70]]))
-    name = os.path.join(HERE, "pages", "refused", "07_payment_year")
-    put(name + ".given", of_report(2026, record, b"", 2012))
-    put(name + ".txt", page.refused_page(2026, record, False, b"", 2012))
-    put(name + ".html", page.refused_page(2026, record, True, b"", 2012))
+    for name, year, record, place, also in more_refused():
+        store_page(name, year, record, 2012)
+        assert page.why(int(name[:2]), record, 0)[0] == place, (name, page.why(int(name[:2]), record, 0))
+        if also is not None:
+            store_page(f"{name}_{also or 'no_first_year'}", year, record, also)
+    for name in sorted({os.path.splitext(file)[0] for file in os.listdir(folder)} - stored):
+        print(f"tests/pages/refused/{name} is not made here")
+
+
+def more_refused():
+    """Name, year and record, the place where the answer is no as it is without a first year, and another first year to store it with too or None."""
+    million, most = 10**6, 10**10
+    two, three = model.TWO_YEARS, [2, 1, 1, 1, 60, 40, 20, 66, 50, 70, 1100000, 1210000, 1331000, 800000, 150000, 50000, 500000, 6, 10, 9, 15]
+    at = places(2)
+    assert model.run(2026, model.pack(three), 505)[0] == model.run(2027, model.pack(three), 505)[0] == 0
+
+    def but(*changes, minus=()):
+        fields = list(three)
+        for name, place, value in changes:
+            fields[at[name] + place] = value
+        return model.pack(fields, negative_zeros=[at["P"] + place for place in minus])
+
+    # a first byte whose first bits are zero; a record that is longer, and one with filling bits set
+    yield "01_no_years", 2026, b"\x0f" + model.pack(two)[1:], None, None
+    yield "02_long", 2026, model.pack(two) + bytes(1000), None, None
+    yield "02_filling_bits", 2026, model.pack(two)[:-1] + b"\x07", None, 0
+    # each kind of field; the increments are of row 0 up to place 2, of row 1 up to 4, and of row 2
+    yield "04_exposure", 2026, but(("n", 1, million + 1)), "exposure of origin year 1", None
+    yield "04_exposure_most", 2026, but(("n", 2, 2**20 - 1)), "exposure of origin year 2", None
+    yield "04_exposure_zero", 2026, but(("n", 0, 0)), "exposure of origin year 0", 65535
+    yield "04_paid", 2026, but(("P", 2, most + 1)), "paid increment of origin year 0, development year 2", None
+    yield "04_paid_below", 2026, but(("P", 1, -most - 1)), "paid increment of origin year 0, development year 1", None
+    yield "04_paid_minus_zero", 2026, but(("P", 0, 0), minus=[0]), "paid increment of origin year 0, development year 0", None
+    yield "04_paid_later_row", 2026, but(("P", 4, 2**34 - 1)), "paid increment of origin year 1, development year 1", 0
+    yield "04_paid_later_row_minus_zero", 2026, but(("P", 3, 0), minus=[3]), "paid increment of origin year 1, development year 0", None
+    yield "04_paid_last_row_below", 2026, but(("P", 5, 1 - 2**34)), "paid increment of origin year 2, development year 0", None
+    yield "04_index", 2026, but(("e", 2, 5 * million + 1)), "index e_3", None
+    yield "04_index_zero", 2026, but(("e", 0, 0)), "index e_1", None
+    yield "04_reporting", 2026, but(("b", 1, million + 1)), "reporting share of development year 1", None
+    yield "04_weight", 2026, but(("w", 0, million + 1)), "reporting weight", None
+    yield "04_ulae", 2026, but(("U", 1, most + 1)), "ULAE total of payment year 1", 0
+    yield "04_tail", 2026, but(("a", 0, most + 1)), "amount after the last development year", None
+    # an increment, an index and the amount are out of range; and with 16 years the increment of row 1 in development year 14 and a later one of row 3
+    yield "04_three_fields", 2026, but(("P", 5, 0), ("e", 0, 0), ("a", 0, 2**34 - 1), minus=[5]), "paid increment of origin year 2, development year 0", None
+    longest, P = figures(15, smallest), places(15)["P"]
+    yield ("04_paid_of_16_years", 2026, model.pack(changed(longest, P + 30, most + 7), negative_zeros=[P + 46]),
+           "paid increment of origin year 1, development year 14", None)
+    # the shares sum to less than 1, to nothing, and to 3
+    yield "05_below", 2026, but(("b", 2, 49999)), None, None
+    yield "05_nothing", 2026, but(("b", 0, 0), ("b", 1, 0), ("b", 2, 0)), None, None
+    yield "05_three", 2026, but(("b", 0, million), ("b", 1, million), ("b", 2, million)), None, None
+    # a cumulative below zero, and too large by 1; one in a later row but an earlier development year is below zero too
+    yield "06_below_zero", 2026, but(("P", 4, -67)), "origin year 1, development year 1", 0
+    rows = [[1] * (13 - i) for i in range(13)]
+    rows[2] = [most] * 10 + [1]
+    yield "06_too_large", 2026, model.pack(fields_of([million] * 13, rows)), "origin year 2, development year 10", None
+    yield "06_two_cells", 2026, but(("P", 2, -101), ("P", 3, -7)), "origin year 0, development year 2", None
+    # nothing to develop from, in a later year and where all is paid back; a factor of 50.000001; a base of 0 and in the next year a factor, and the other way round
+    yield "13_base", 2026, model.pack(fields_of([1] * 4, [[0, 0, 5, 1], [0, 0, 7], [9, 9], [9]])), "development year 1", 0
+    yield "13_base_paid_back", 2026, model.pack(fields_of([1] * 4, [[4, 0, -4, 5], [5, 3, 3], [9, 9], [9]])), "development year 2", None
+    yield "13_factor", 2026, model.pack(fields_of([million] * 3, [[9, 1, 5], [999991, 49000000], [66]])), "development year 0", None
+    yield ("13_last_factor", 2026, model.pack(fields_of([million] * 4, [[1000000, 49000000, 0, 2450000050], [1000000, 49000000, 0], [1000000, 49000000], [66]])),
+           "development year 2", None)
+    yield "13_base_and_then_factor", 2026, model.pack(fields_of([1] * 3, [[0, 1, 100], [0, 1], [9]])), "development year 0", None
+    yield "13_factor_and_then_base", 2026, model.pack(fields_of([1] * 3, [[1, -1, 5], [1, 200], [9]])), "development year 0", None
+    # a column, a payment year, both, and all together; with all together a column too
+    yield "07_column", 2026, model.pack(fields_of([1] * 4, [[60, 5, -9, 1], [70, 5, 8], [80, 5], [90]])), "development year 2", None
+    yield "07_payment_year", 2026, model.pack(fields_of([1] * 3, [[60, -5, 5], [0, 5], [70]])), "payment year 1", 0
+    yield "07_both", 2026, model.pack(fields_of([1] * 4, [[60, -5, -9, 1], [0, 5, 8], [80, 5], [90]])), "development year 2", None
+    yield "07_whole", 2026, model.pack(fields_of([100, 8], [[500000000, 199999963], [24000003]])), None, 0
+    yield "07_whole_and_column", 2026, model.pack(fields_of([1, 1], [[most, -1], [most]])), "development year 1", None
+    # T_h less v_h is 0 in two years, and below 0 in one
+    yield "08_two_years", 2026, model.pack(fields_of([1] * 4, [[5, 5, 5, 1], [5, 0, 0], [0, 0], [0]])), "development year 2", 0
+    yield "08_below", 2026, model.pack(fields_of([1] * 4, [[50, 5, 5, 1], [9, -4, 5], [0, 3], [0]])), "development year 2", None
+    # the first running share is 0, and the first two
+    yield "09_one", 2026, model.pack(RUNNING_OUT), "development year 0", None
+    yield "09_two", 2026, model.pack(fields_of([100] * 4, [[5000, 45000, 2000000, 50000000], [0, 0, 0], [0, 0], [1]])), "development year 0", None
+    # the level of a later payment year, and of two
+    yield "10_later", 2026, model.pack(fields_of([100, million, 100], [[50, 60000, 2000000], [4000, 0], [100]])), "payment year 1", 0
+    yield "10_two_years", 2026, model.pack(fields_of([100] * 3, [[5000, 60000, 2000000], [0, 0], [100]])), "payment year 0", None
+    # the amount's average is above the limit by one and a half, which is two, and by far
+    yield "18_half", 2026, model.pack(tailed(1, None, 2 * model.S + 3, {0: 200})), "origin year 0", 0
+    yield "18_largest", 2026, model.pack(tailed(2, None, most, {0: 1})), "origin year 0", None
+    # the average of a later year, and of two
+    yield "19_later", 2026, model.pack(tailed(3, [999999, million, 5 * million, million], model.S)), "origin year 2", 65535
+    yield "19_two_years", 2026, model.pack(tailed(3, [1, 1, 6, 5 * million], model.S)), "origin year 2", None
+    # the ultimate of a later year by its tail payment, by its payments, and those of two years
+    n, rows = plain(3, 100, 0, 100)
+    yield "11_later", 2026, model.pack(fields_of(changed(n, 2, million), changed(rows, 2, [10**9 + 1, 0]), a=99900000)), "origin year 2", 0
+    yield "11_payments", 2026, model.pack(fields_of([100, million], [[10**7, 19800002], [9999900001]], [5 * million, million])), "origin year 1", None
+    yield "11_two_years", 2026, model.pack(tailed(3, [million, 4 * million, 5 * million, 5 * million], model.S, {2: 20000, 3: 999999})), "origin year 2", None
+    # what is paid in the latest payment year is below 0; the weight is 1 and 1 is reported, which is less than a millionth of what is paid, or nothing is
+    yield "15_below", 2027, model.pack(model.PAID_BACK), "payment year 2", 0
+    yield "16_reported", 2027, model.pack(fields_of([1, 1], [[1, 0], [2000000]], b=[0, million], w=million)), None, None
+    yield "16_nothing_reported", 2027, model.pack(fields_of([300, 1], [[1, -1], [2000000]], b=[0, million], w=million)), None, None
+    # a divisor of a millionth
+    yield "17_largest", 2027, model.pack(fields_of([1, 1], [[1, 0], [million]], b=[0, million], w=million, U=[million + 1, 0])), None, None
+    # a later row and development year; a later row passes the limit in an earlier development year
+    rows = [[1000, 0, 9000, 190000], [1000, 0, 9000], [10**9, 0], [10**9]]
+    yield "14_later", 2026, model.pack(fields_of([million] * 4, rows)), "origin year 2, development year 3", 0
+    rows = [[1000, 0, 9000, 190000], [10**9, 0, 9 * 10**9], [most, most], [10**9]]
+    yield "14_two_rows", 2026, model.pack(fields_of([million] * 4, rows)), "origin year 1, development year 3", None
 
 
 def lost_page():

@@ -1,8 +1,9 @@
 """The report of a record as a page of HTML or of text, its result list as comma-separated values, and the figures of a record as text, in plain Python.
 
 Written from the design of the page, docs/SHEET.md and the definitions of the list's lines and of the sheet, by a hand that had read the definitions of the
-report's tables, plots and figures too, and before any Rattle code made a page; the words of a refused record are those of crates/advice/specs and no check of them;
-the numbers come from model.py. make_cases.py makes of it what report, csv and unpack are expected to write.
+report's tables, plots and figures too, and before any Rattle code made a page. The words of a refused record are those of the design's table of refused records, six
+of them changed on purpose; the place where the answer is no and the figures there are worked out from documents 01 and 02, without the Rattle code. The numbers come
+from model.py. make_cases.py makes of it what report, csv and unpack are expected to write.
 """
 
 import itertools
@@ -472,7 +473,8 @@ def page(year, record, html=False, title=b"", first=0):
     return "".join(made.parts)
 
 
-# of each question its words as it is put, what is not so where the answer is no, and where to look
+# of each question its words as it is put, what is not so where the answer is no, and where to look: the design's, but for what is not so of 4 and 12 and where to
+# look of 8, 10, 17 and 18. Those of 3 are not in the design: the list of a report is never too short.
 QUESTIONS = {
     1: ("Is there a record, and is k at least 1?",
         "Nothing arrived, or the first four bits are zero.",
@@ -484,43 +486,43 @@ QUESTIONS = {
         "The lent list is too short.",
         "Lend a longer list."),
     4: ("Is every field in its range?",
-        "A field is below or above what it may be.",
+        "This field is below or above what it may be, or it is a zero with a minus sign.",
         "A zero paid amount with a minus sign is out of range too."),
     5: ("Do the reporting shares sum to 1?",
         "They sum to another number.",
         "Shares are given in millionths."),
     6: ("Is every cumulative payment from 0 to 100 000 000 000?",
-        "What was paid for some origin year up to some development year is below zero or too large.",
+        "What was paid up to there is below zero or too large.",
         "A recovery larger than all payments before it, or a misplaced sign."),
     7: ("Does every column and every diagonal of averages add up to at least 0, and do all to at most 10 000 000.00?",
-        "A column, a diagonal or the whole triangle adds up to a number outside.",
+        "This column, this diagonal, or the whole triangle adds up to a number outside.",
         "Recoveries above payments; or exposures in a smaller unit than claims."),
     8: ("Is T_h less v_h at least 0.01 for every development year h from 1 to k?",
-        "Beside some development year the separation finds nothing left once its own column is taken off.",
+        "Beside this development year the separation finds nothing left: of all that was paid in development years up to it, by payment years from it on, nothing remains once its own column is taken off.",
         "Look first whether the latest payment year is missing or was entered as zeros."),
     9: ("Is every running share at least a billionth?",
-        "The shares up to some development year together round to nothing.",
+        "The shares up to this development year together round to nothing.",
         "Almost everything is paid late. Begin at a later development year."),
     10: ("Is every level at most 10 000 000.00?",
-        "The level of some payment year is too large.",
+        "The level of this payment year is too large.",
         "Almost everything is paid late. Begin at a later development year."),
     11: ("Is every ultimate at most 1 000 000 000 000?",
-        "The ultimate of some origin year is larger.",
+        "It is larger.",
         "Indices are cumulative: each is against the latest year, not the year before."),
     12: ("Are the payments at least 1 in total, and the ULAE totals at most that?",
         "ULAE paid is more than the payments, or nothing is paid.",
         "Units of the two may differ."),
     13: ("Has the chain ladder something to develop from in every year, and is no factor above 50?",
-        "In some development year there is nothing to develop from, or the factor is above 50.",
+        "The cumulatives at this development year add up to nothing, or those of the next are more than 50 times as large.",
         "A first development year without payments. Take two years together, or begin a year later."),
     14: ("Is every completed cumulative at most 100 000 000 000?",
-        "A cumulative that the chain ladder completes is larger.",
+        "The chain ladder's cumulative there is larger.",
         "A large factor from a small base."),
     15: ("Is the paid total of the latest payment year at least 1?",
         "It is less, and the growth of the book cannot be measured.",
         "Recoveries in the latest year."),
     16: ("Is the divisor above 0?",
-        "It is 0: the weight is 1, and nothing is reported in the latest year.",
+        "It is 0: the weight is 1, and what is reported in the latest year is less than a millionth of what is paid.",
         "The reporting shares, and a weight of 1."),
     17: ("Is the corrected ratio at most 1?",
         "It is larger.",
@@ -529,29 +531,171 @@ QUESTIONS = {
         "It is larger.",
         "The amount is for the first origin year alone."),
     19: ("Is every average tail amount at most 50 000 000.00?",
-        "Raised by the indices the average of some origin year is larger.",
+        "Raised by the indices it is larger.",
         "The first index may be very small."),
 }
+
+
+def found(paid_rows, claims):
+    """Of increments by row and exposures: the averages by row, the totals of their columns and of their diagonals, and T_0 to T_k."""
+    k = len(paid_rows) - 1
+    years = range(k + 1)
+    cells_ = [(i, j) for i in years for j in range(k + 1 - i)]
+    s = [[model.average(paid, claims[i]) for paid in row] for i, row in enumerate(paid_rows)]
+    columns = [sum(s[i][j] for i, j in cells_ if j == column) for column in years]
+    diagonals = [sum(s[i][j] for i, j in cells_ if i + j == diagonal) for diagonal in years]
+    T = [sum(s[i][j] for i, j in cells_ if j <= h and i + j >= h) for h in years]
+    return s, columns, diagonals, T
+
+
+def bit_fields(record):
+    """The fields of a record of the right length in their order, no question asked: the row's name, the place in the row, the number, whether it is a zero with a
+    minus sign, and the least and the largest that the number may be."""
+    text, at = "".join(format(byte, "08b") for byte in record), 0
+    for name, count, sign, size, least, most in model.rows(record[0] >> 4):
+        for place in range(count):
+            negative = bool(sign) and text[at] == "1"
+            number = int(text[at + sign:at + sign + size], 2)
+            at += sign + size
+            yield name, place, -number if negative else number, negative and number == 0, -most if sign else least, most
+
+
+def field_refusal(record, first):
+    """Of a record that question 4 refuses: what the first field out of its range is, and the figures."""
+    k = record[0] >> 4
+    places = [(i, j) for i in range(k + 1) for j in range(k + 1 - i)]
+    name, place, number, _, least, most = next(field for field in bit_fields(record) if field[3] or not field[4] <= field[2] <= field[5])
+    words = {
+        "n": f"exposure of origin year {first + place}",
+        "P": "paid increment of origin year {}, development year {}".format(first + places[place][0], places[place][1]),
+        "e": f"index e_{place + 1}",
+        "b": f"reporting share of development year {place}",
+        "w": "reporting weight",
+        "U": f"ULAE total of payment year {first + place}",
+        "a": "amount after the last development year",
+    }
+    decimals = 6 if name in ("e", "b", "w") else 0
+    return words[name], [("The field", Cell(number, decimals)), ("The least it may be", Cell(least, decimals)), ("The largest it may be", Cell(most, decimals))]
+
+
+def why(number, record, first):
+    """Of a record that this question refuses: the place where the answer is no, None where there is none, and the figures there, each a label and a cell."""
+    def origin(i):
+        return f"origin year {first + i}"
+
+    def development(j):
+        return f"development year {j}"
+
+    def payment(h):
+        return f"payment year {first + h}"
+
+    if number == 1:
+        return None, [("Bytes given", Cell(len(record)))]
+    k = record[0] >> 4
+    years = range(k + 1)
+    if number == 2:
+        return None, [("Bytes given", Cell(len(record))), ("Bytes due for this k", Cell(model.byte_count(k)))]
+    if number == 4:
+        return field_refusal(record, first)
+    if number == 5:
+        return None, [("Sum of the reporting shares", Cell(sum(value for name, _, value, *_ in bit_fields(record) if name == "b"), 6)), ("What it should be", Cell(model.M, 6))]
+    given = model.lists(model.read(record, model.field_count(k)))
+    n, e, b, w, U, a = given["n"], given["e"], given["b"], given["w"][0], given["U"], given["a"][0]
+    P = model.by_row(k, given["P"])
+    C = [list(itertools.accumulate(row)) for row in P]
+    if number == 6:
+        i, j = next((i, j) for i in years for j in range(k + 1 - i) if not 0 <= C[i][j] <= 10**11)
+        return f"{origin(i)}, {development(j)}", [("Cumulative payment", Cell(C[i][j]))]
+    if number == 13:
+        for h in range(k):
+            here, after = (sum(C[i][j] for i in range(k - h)) for j in (h, h + 1))
+            if here < 1 or model.M * after // here > 50 * model.M:
+                factor = [("Development factor", Cell(model.M * after // here, 6))] if here > 0 else []
+                return development(h), [("Sum at this development year, origin years with a next one", Cell(here)), ("Sum at the next development year", Cell(after))] + factor
+    s, v, d, T = found(P, n)
+    if number == 7:
+        below = [(development(j), v[j]) for j in years if v[j] < 0] + [(payment(h), d[h]) for h in years if d[h] < 0]
+        place, total = below[0] if below else (None, sum(map(sum, s)))
+        assert total < 0 or total > S
+        return place, [("Sum of averages", Cell(total, 2))]
+    if number == 8:
+        h = next(h for h in years if h > 0 and T[h] - v[h] < 1)
+        return development(h), [("T_h: averages in columns 0 to h, payment years from h on", Cell(T[h], 2)), ("v_h: averages in column h", Cell(v[h], 2)),
+                                ("T_h less v_h", Cell(T[h] - v[h], 2))]
+    A = [S]
+    for h in range(k, 0, -1):
+        A.insert(0, A[0] * (T[h] - v[h]) // T[h])
+    if number == 9:
+        h = A.index(0)
+        return development(h), [("Running share", Cell(A[h], 9))]
+    levels = [d[h] * S // A[h] for h in years]
+    if number == 10:
+        h = next(h for h in years if levels[h] > S)
+        return payment(h), [("Diagonal, a claim", Cell(d[h], 2)), ("Running share", Cell(A[h], 9)), ("Level, a claim", Cell(levels[h], 2))]
+    # e[t - 1] is e_t
+    t = [model.average(a, n[0])]
+    if number == 18:
+        assert t[0] > S
+        return origin(0), [("Amount after the last development year", Cell(a)), ("Claims", Cell(n[0])), ("Average, a claim", Cell(t[0], 2))]
+    t = [t[0] * e[i] // e[0] for i in years]
+    if number == 19:
+        i = next(i for i in years if t[i] > 5 * S)
+        return origin(i), [("Average tail amount, a claim", Cell(t[i], 2)), ("Index of its tail payment", Cell(e[i], 6)), ("Index of the first future year", Cell(e[0], 6))]
+    r = [A[0]] + [A[h] - A[h - 1] for h in years if h > 0]
+    R = []
+    for i in years:
+        units = [r[j] * (d[k] * e[i + j - k - 1] // model.M) // S for j in range(k + 1 - i, k + 1)]
+        R.append(sum(n[i] * unit // 100 for unit in units) + n[i] * t[i] // 100)
+    X = [C[i][-1] + R[i] for i in years]
+    if number == 11:
+        i = next(i for i in years if X[i] > 10**12)
+        return origin(i), [("Paid", Cell(C[i][-1])), ("Provision", Cell(R[i])), ("Ultimate", Cell(X[i]))]
+    paid = sum(given["P"])
+    if number == 12:
+        assert paid < 1 or sum(U) > paid
+        return None, [("Payments in total", Cell(paid)), ("ULAE paid in total", Cell(sum(U)))]
+    if number == 14:
+        m = model.development_factors(C)
+        for i in years:
+            for j in range(k + 1 - i, k + 1):
+                C[i].append(C[i][j - 1] * m[j - 1] // model.M)
+                if C[i][j] > 10**11:
+                    return f"{origin(i)}, {development(j)}", [("Cumulative before it", Cell(C[i][j - 1])), ("Development factor", Cell(m[j - 1], 6)),
+                                                              ("Cumulative", Cell(C[i][j]))]
+    Y = sum(P[i][k - i] for i in years)
+    if number == 15:
+        assert Y < 1
+        return payment(k), [("Y: paid in this payment year", Cell(Y))]
+    B = sum(b[j] * X[k - j] for j in years) // model.M
+    divisor = model.M - w + w * B // Y
+    if number == 16:
+        assert divisor == 0
+        return None, [("Reporting weight", Cell(w, 6)), ("B: reported in the latest year, at its ultimate cost", Cell(B)), ("Y: paid in the latest payment year", Cell(Y))]
+    plain = model.M * sum(U) // paid
+    corrected = plain * model.M // divisor
+    assert number == 17 and corrected > model.M
+    return None, [("Plain ULAE ratio", Cell(plain, 4, "%")), ("Divisor", Cell(divisor, 6)), ("Corrected ULAE ratio", Cell(corrected, 4, "%"))]
 
 
 def refused_page(year, record, html=False, title=b"", first=0):
     """The page of a record that the engine refuses in a valuation year."""
     number = model.run(year, record, 505)[0]
     asked, said, advice = QUESTIONS[number]
-    if number in (7, 13):
-        reason = totals_refusal(record, first) if number == 7 else development_refusal(record)
-        said = "Here " + reason.split(": ", 1)[1].rstrip("\n") + "."
+    place, figures = why(number, record, first)
     made = Page(html)
     k = None if number in (1, 2, 4) else record[0] >> 4
     opening(made, year, title, first, k, len(record))
     made.start(f"Refused: question {number}")
     if html:
-        made.paragraph(f"<b>No figures are given for this record.</b> Question {number} was answered no:")
+        at = f" at <b>{place}</b>" if place else ""
+        made.paragraph(f"<b>No figures are given for this record.</b> Question {number} was answered no{at}:")
         made.paragraph(f"<b>{asked}</b>")
         made.paragraph(said)
-        made.paragraph(advice)
     else:
-        made.put(f"\nNo figures are given for this record. Question {number} was answered no:\n{asked}\n{said}\n{advice}\n")
+        at = f" at {place}" if place else ""
+        made.put(f"\nNo figures are given for this record. Question {number} was answered no{at}:\n{asked}\n{said}\n")
+    made.table("The figures", ["figure", "a claim" if number in (7, 8) else "value"], [label for label, _ in figures], [[cell] for _, cell in figures])
+    made.put(f"<p>{advice}</p>\n" if html else f"\n{advice}\n")
     made.end()
     if number > 5:
         inputs(made, year, model.lists(model.read(record, model.field_count(k))), k, first)
@@ -626,18 +770,15 @@ def development_refusal(record):
     return None
 
 
-def totals_refusal(record, first=0):
+def totals_refusal(record):
     """The line that tells why question 7 refuses a record: the first column, else the first diagonal, that adds up to less than 0, else the whole."""
     k = record[0] >> 4
     given = model.lists(model.read(record, model.field_count(k)))
-    averages = [[model.average(paid, given["n"][i]) for paid in row] for i, row in enumerate(model.by_row(k, given["P"]))]
-    years = range(k + 1)
-    columns = [sum(row[j] for row in averages if j < len(row)) for j in years]
-    diagonals = [sum(averages[i][h - i] for i in range(h + 1)) for h in years]
+    _, columns, diagonals, _ = found(model.by_row(k, given["P"]), given["n"])
     for kind, totals in (("development", columns), ("payment", diagonals)):
         for year, total in enumerate(totals):
             if total < 0:
-                return f"refused 7: the averages of {kind} year {year + first * (kind == 'payment')} add up to less than 0\n"
+                return f"refused 7: the averages of {kind} year {year} add up to less than 0\n"
     return "refused 7: the averages add up to more than 1,000,000,000 hundredths\n"
 
 

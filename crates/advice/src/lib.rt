@@ -46,22 +46,22 @@ pub fn put_said(out: &mut [u8], at: usize, n: u64) -> usize
 Nothing arrived, or the first four bits are zero.
 The record is shorter or longer than its k calls for, or bits after its last field are set.
 The lent list is too short.
-A field is below or above what it may be.
+This field is below or above what it may be, or it is a zero with a minus sign.
 They sum to another number.
-What was paid for some origin year up to some development year is below zero or too large.
-A column, a diagonal or the whole triangle adds up to a number outside.
-Beside some development year the separation finds nothing left once its own column is taken off.
-The shares up to some development year together round to nothing.
-The level of some payment year is too large.
-The ultimate of some origin year is larger.
+What was paid up to there is below zero or too large.
+This column, this diagonal, or the whole triangle adds up to a number outside.
+Beside this development year the separation finds nothing left: of all that was paid in development years up to it, by payment years from it on, nothing remains once its own column is taken off.
+The shares up to this development year together round to nothing.
+The level of this payment year is too large.
+It is larger.
 ULAE paid is more than the payments, or nothing is paid.
-In some development year there is nothing to develop from, or the factor is above 50.
-A cumulative that the chain ladder completes is larger.
+The cumulatives at this development year add up to nothing, or those of the next are more than 50 times as large.
+The chain ladder's cumulative there is larger.
 It is less, and the growth of the book cannot be measured.
-It is 0: the weight is 1, and nothing is reported in the latest year.
+It is 0: the weight is 1, and what is reported in the latest year is less than a millionth of what is paid.
 It is larger.
 It is larger.
-Raised by the indices the average of some origin year is larger.
+Raised by the indices it is larger.
 ",
         n,
     )

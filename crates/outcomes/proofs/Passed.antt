@@ -1,4 +1,4 @@
--- What a run in a valuation year has passed that none of the first six questions refuses: questions 1 to 6; and what question 13 says where its number is the answer. Assumes nothing.
+-- What a run in a valuation year has passed that none of the first six questions refuses: questions 1 to 6. Assumes nothing.
 use Prim.Native.Nat.{ℕ, _≤_}
 use native.Mathlib.Omega.{arith}
 use borrow.Author.Tests.{leb-true}
@@ -14,12 +14,10 @@ use Rattle.rules.specs.Record.{lastYearOf, figuresOf}
 use Rattle.rules.specs.Reading.{openingQuestions, fieldQuestions}
 use Rattle.rules.specs.Triangle.{cumulativesPass}
 use Rattle.rules.specs.Separation.{separationQuestions}
-use Rattle.rules.specs.Tail.{tailQuestions}
-use Rattle.rules.specs.Growth.{growthQuestions}
 use Rattle.rules.specs.Results.{squareOf, resultCount, mostEntries}
-use Rattle.rules.specs.Engine.{developmentPasses, developmentQuestions, completionQuestions, ratioQuestions, correctionQuestions, completedLadderQuestions, lastQuestions, laterQuestions, figureQuestions, holdsList, questions, runAnswer}
+use Rattle.rules.specs.Engine.{developmentQuestions, laterQuestions, figureQuestions, holdsList, questions, runAnswer}
 use Rattle.laws.proofs.Lists.{both-left, both-right}
-use Rattle.laws.proofs.Questions.{yes-said, other-answer}
+use Rattle.laws.proofs.Questions.{yes-said}
 use Rattle.reading.specs.Reading.{Sound}
 use Rattle.reading.proofs.FiguresRead.{sound-figures}
 use Rattle.opening.proofs.Opened.{years-known, opening-yes}
@@ -33,11 +31,8 @@ pub record Late (year : ℕ) (s : List ℕ) : Type 0 where
 abbrev pub accepted : (year : ℕ) (s : List ℕ) → runAnswer year s mostEntries ≡ 0 → Late year s
 accepted year s h = record { number = 0; apart = λ q l m e. omega arith; answer = h }
 
-abbrev pub answered-7 : (year : ℕ) (s : List ℕ) → runAnswer year s mostEntries ≡ 7 → Late year s
-answered-7 year s h = record { number = 7; apart = λ q l m e. omega arith; answer = h }
-
-abbrev pub answered-13 : (year : ℕ) (s : List ℕ) → runAnswer year s mostEntries ≡ 13 → Late year s
-answered-13 year s h = record { number = 13; apart = λ q l m e. omega arith; answer = h }
+abbrev pub answered : (year : ℕ) (s : List ℕ) (n : ℕ) → 7 ≤ n → runAnswer year s mostEntries ≡ n → Late year s
+answered year s n l h = record { number = n; apart = λ q a b e. omega arith; answer = h }
 
 -- whether questions are among the first six
 abbrev early : List (ℕ × Bool) → Bool
@@ -101,15 +96,3 @@ module _ (year : ℕ) (s : List ℕ) (run : Late year s) where
   -- the questions about the figures give the answer
   pub figures-answer : firstNo (figureQuestions year (figuresOf s)) ≡ run .number
   figures-answer = later .1
-
--- question 13 says no where the answer is 13: no question after it has its number
-pub thirteen-no : (year : ℕ) (s : List ℕ) → runAnswer year s mostEntries ≡ 13 → developmentPasses (figuresOf s) ≡ false
-unfolding developmentQuestions separationQuestions laterQuestions tailQuestions lastQuestions completionQuestions ratioQuestions correctionQuestions growthQuestions completedLadderQuestions firstNo every
-thirteen-no year s h =
-    let f = figuresOf s in
-    let rest = separationQuestions (squareOf f) (f .k) ++ laterQuestions year f in
-    go (developmentPasses f) (firstNo rest) (other-answer 13 (omega arith) rest refl) (six year s (answered-13 year s h) .1)
-  where
-    go : (b : Bool) (m : ℕ) → (m ≡ 13 → ⊥) → cond b m 13 ≡ 13 → b ≡ false
-    go true m other e = absurd (other e)
-    go false m other e = refl

@@ -95,7 +95,7 @@ fn provisions_of(list: &[i64; MOST_ENTRIES], k: usize, p: usize) -> [u64; 16]
 }
 
 // The plain ULAE ratio, from the paid cumulatives and the ULAE totals of the years 0 to k.
-fn plain_ratio_again(paid: &[u64; 16], ulae: &[u64; 16], k: usize) -> u64
+pub fn plain_ratio_again(paid: &[u64; 16], ulae: &[u64; 16], k: usize) -> u64
     requires { ⌜ (k < 16)
         × (Addable (now paid) × (Addable (now ulae) × ((1 ≤ total (take (k + 1) (now paid))) × (total (take (k + 1) (now ulae)) ≤ 16 * mostAmount)))) ⌝ }
     ensures { λ r. ⌜ r ≡ plainRatio (pos (total (take (k + 1) (now (paid .entry))))) (total (take (k + 1) (now (ulae .entry)))) ⌝ }

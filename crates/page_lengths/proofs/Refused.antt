@@ -12,6 +12,7 @@ use Rattle.frame_lengths.proofs.Opening.{opening-most}
 use Rattle.frame_lengths.proofs.Recorded.{record-most}
 use Rattle.frame_lengths.proofs.Refused.{refused-most}
 use Rattle.page_opening.specs.Opening.{openingText}
+use Rattle.findings.specs.Findings.{findingOf}
 use Rattle.refused_page.specs.RefusedPage.{yearsKnown, inputsKnown, refusedOpening, refusedInputs, refusedPage}
 
 refused-opening-most : (html : Bool) (year first : ℕ) (s : List ℕ) (n : ℕ) → length (refusedOpening html year first s n) ≤ 480
@@ -30,9 +31,9 @@ inputs-most html year first s false few = omega arith
 
 -- in any valuation year and for any question, with a title of at most 255 bytes, and of a record of at most 4096
 pub refused-page-most : (html : Bool) (title : List ℕ) (year first : ℕ) (s : List ℕ) (n : ℕ) → length title ≤ 255 → length s ≤ 4096 → lastYearOf s < 16
-    → length (refusedPage html title year first s n) ≤ 70000
+    → length (refusedPage html title year first s n) ≤ 72000
 unfolding refusedPage
 refused-page-most html title year first s n short fits few =
     simp length-append
     (omega
-    (arith, start-most html title year, refused-opening-most html year first s n, refused-most html first s n, inputs-most html year first s (inputsKnown n) few, refused-proof-most html, record-most html s, end-most html))
+    (arith, start-most html title year, refused-opening-most html year first s n, refused-most html first n (findingOf s n), inputs-most html year first s (inputsKnown n) few, refused-proof-most html, record-most html s, end-most html))

@@ -56,7 +56,7 @@ fn fill_row(
 }
 
 // The increment with these bits.
-fn amount(code: u64) -> i64
+pub fn amount(code: u64) -> i64
     requires { ⌜ code < 2 ^ 35 ⌝ }
     ensures { λ r. ⌜ r ≡ valueOf increment code ⌝ }
 {
@@ -68,7 +68,7 @@ fn amount(code: u64) -> i64
 }
 
 // Whether these bits are an increment in its range: a size up to the most, and no zero with sign 1.
-fn sound(code: u64) -> bool
+pub fn sound(code: u64) -> bool
     requires { ⌜ code < 2 ^ 35 ⌝ }
     ensures { λ r. ⌜ r ≡ bitsInRange increment code ⌝ }
 {

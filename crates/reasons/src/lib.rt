@@ -16,7 +16,7 @@ ghost use Rattle.ladder.specs.Columns.{developedIn, baseIn, Ladderable};
 ghost use Rattle.reasons.specs.Reasons.{firstBelow, yearReason, totalsReason, firstRefused, baseReason, factorReason, developmentReason};
 
 // The first of the years 0 to k whose total is below 0, or k + 1.
-fn first_below(totals: &[i64; 16], k: usize) -> usize
+pub fn first_below(totals: &[i64; 16], k: usize) -> usize
     requires { ⌜ k < 16 ⌝ }
     ensures { λ r. ⌜ r ≡ firstBelow (λ i. getD (now (totals .entry)) i (pos 0)) k ⌝ }
 {
@@ -116,7 +116,7 @@ fn put_factor_reason(out: &mut [u8], at: usize, h: usize) -> usize
 
 // The first development year of which question 13 says no, from the column sums of the given cumulatives and the paid cumulatives of the years 0 to k. The ladder stores the
 // factors before it and no other.
-fn first_refused(columns: &[u64; 16], paid: &[u64; 16], k: usize) -> usize
+pub fn first_refused(columns: &[u64; 16], paid: &[u64; 16], k: usize) -> usize
     requires { ⌜ Ladderable k (now columns) (now paid) × (factorsPass k (developedIn (now columns)) (baseIn k (now columns) (now paid)) ≡ false) ⌝ }
     ensures { λ r. ⌜ (r ≡ firstRefused (developedIn (now (columns .entry))) (baseIn k (now (columns .entry)) (now (paid .entry))) k) × (r < k) ⌝ }
 {

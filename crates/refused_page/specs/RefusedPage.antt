@@ -1,4 +1,4 @@
--- The report of a record s that question n refuses: what is not so, the inputs where they can be read, and the record. Assumes nothing.
+-- The report of a record s that question n refuses: where it says no and what is not so, the inputs where they can be read, and the record. Assumes nothing.
 use Prim.Native.Nat.{ℕ}
 use mathlib.Core.Bool.{Bool, true, false, not, _&&_, cond}
 use mathlib.Core.List.{List, [], _++_}
@@ -12,6 +12,7 @@ use Rattle.record_figures.specs.RecordFigures.{recordFigures}
 use Rattle.summary_figures.specs.Summary.{summaryOf}
 use Rattle.page_frame.specs.Frame.{pageStart, pageEnd}
 use Rattle.page_opening.specs.Opening.{openingText}
+use Rattle.findings.specs.Findings.{findingOf}
 use Rattle.refused_section.specs.RefusedSection.{refusedSection}
 use Rattle.input_section.specs.InputSection.{inputSection}
 use Rattle.proof_section.specs.Proved.{refusedProof}
@@ -48,5 +49,5 @@ unfoldable pub refusedPage : Bool → List ℕ → ℕ → ℕ → List ℕ → 
 refusedPage html title year first s n =
     pageStart html title year
     ++ (refusedOpening html year first s n
-    ++ (refusedSection html first s n
+    ++ (refusedSection html first n (findingOf s n)
     ++ (cond (inputsKnown n) (refusedInputs html year first s) [] ++ (refusedProof html ++ (recordSection html s ++ pageEnd html)))))

@@ -1,4 +1,5 @@
 // The report of a refused record, in a lent buffer.
+use findings::find;
 use growth::Correction;
 use input_section::put_input_section;
 use opening::last_year_of;
@@ -20,8 +21,9 @@ ghost use Prim.Native.Nat.{_≤_};
 ghost use lib.ListN.{length};
 ghost use Rattle.rules.specs.Questions.{firstNo};
 ghost use Rattle.rules.specs.Reading.{openingQuestions, fieldQuestions};
+ghost use Rattle.rules.specs.Results.{mostEntries};
+ghost use Rattle.rules.specs.Engine.{runAnswer};
 ghost use Rattle.composing.specs.Text.{Put};
-ghost use Rattle.refusals.specs.Refusal.{Refused};
 ghost use Rattle.refused_page.specs.RefusedPage.{yearsKnown, inputsKnown, refusedOpening, refusedInputs, refusedPage};
 
 // Whether k is known where question n refuses.
@@ -140,12 +142,14 @@ pub fn put_refused_page(
     requires { ⌜ (first ≤ 65535)
         × ((year ≤ 65535)
         × ((yearsKnown n ≡ true → 1 ≤ length (now packed))
-        × ((inputsKnown n ≡ true → (firstNo (openingQuestions (now packed)) ≡ 0) × (firstNo (fieldQuestions (now packed)) ≡ 0)) × Refused (now packed) n))) ⌝ }
+        × ((inputsKnown n ≡ true → (firstNo (openingQuestions (now packed)) ≡ 0) × (firstNo (fieldQuestions (now packed)) ≡ 0))
+        × (runAnswer year (now packed) mostEntries ≡ n)))) ⌝ }
     ensures { λ r. ⌜ Put (now (out .entry)) (now (out .exit)) 0 r (refusedPage html (now (title .entry)) year first (now (packed .entry)) n) ⌝ }
 {
     let a = put_page_start(out, 0, html, title, year);
     let b = put_refused_opening(out, a, html, year, first, packed, n);
-    let c = put_refused_section(out, b, html, first, packed, n);
+    let found = find(year, packed, n);
+    let c = put_refused_section(out, b, html, first, n, found);
     let d = put_known_inputs(out, c, html, year, first, packed, n);
     let e = put_refused_proof(out, d, html);
     let f = put_record_section(out, e, html, packed);

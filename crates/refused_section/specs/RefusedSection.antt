@@ -1,33 +1,40 @@
--- The section of a refused record: the question, what is not so, and where to look. Assumes nothing.
+-- The section of a refused record: the question, where it is answered no, what is not so, the figures there, and where to look. Assumes nothing.
 use Prim.Native.Nat.{ℕ}
 use mathlib.Core.Bool.{Bool, cond}
-use mathlib.Core.List.{List, _++_}
+use mathlib.Core.List.{List, [], _++_}
 use lib.Dec.{eqb}
 use Rattle.composing.specs.Text.{ascii, decimal}
 use Rattle.parts.specs.Parts.{either, sectionEnd}
-use Rattle.refusals.specs.Refusal.{totalsOf, developmentOf}
 use Rattle.advice.specs.Advice.{askedText, saidText, adviceText}
+use Rattle.finding.specs.declared.Finding.{Finding}
+use Rattle.finding.specs.Places.{nowhere}
+use Rattle.place_words.specs.PlaceWords.{placeText}
+use Rattle.finding_table.specs.FindingTable.{findingTable}
 
--- the number of the question, in the heading and below it
-unfoldable pub refusedHeading : Bool → ℕ → List ℕ
-refusedHeading html n =
+-- the place, where there is one
+unfoldable pub placeWords : Bool → ℕ → Finding → List ℕ
+placeWords html first f =
+    either html (ascii " at <b>") (ascii " at ") ++ (placeText first (f .place) (f .row) (f .column) ++ either html (ascii "</b>") (ascii ""))
+
+unfoldable pub atPlace : Bool → ℕ → Finding → List ℕ
+atPlace html first f = cond (eqb (f .place) nowhere) [] (placeWords html first f)
+
+-- the number of the question, in the heading and below it, and the place
+unfoldable pub refusedHeading : Bool → ℕ → ℕ → Finding → List ℕ
+refusedHeading html first n f =
     either html (ascii "<section>\n<h2>Refused: question ") (ascii "\nRefused: question ")
     ++ (decimal n
     ++ (either html (ascii "</h2>\n<p><b>No figures are given for this record.</b> Question ") (ascii "\n\nNo figures are given for this record. Question ")
-    ++ (decimal n ++ either html (ascii " was answered no:</p>\n<p><b>") (ascii " was answered no:\n"))))
+    ++ (decimal n
+    ++ (ascii " was answered no" ++ (atPlace html first f ++ either html (ascii ":</p>\n<p><b>") (ascii ":\n"))))))
 
--- why question n of the record s is answered no: of 7 and 13 with the year, payment years called by the first
-unfoldable pub hereText : List ℕ → List ℕ
-hereText reason = ascii "Here " ++ (reason ++ ascii ".")
-
-unfoldable pub whyText : ℕ → List ℕ → ℕ → List ℕ
-whyText first s n = cond (eqb n 7) (hereText (totalsOf first s)) (cond (eqb n 13) (hereText (developmentOf s)) (saidText n))
-
--- the question as it is put, why it is answered no, and where to look
-unfoldable pub refusedSection : Bool → ℕ → List ℕ → ℕ → List ℕ
-refusedSection html first s n =
-    refusedHeading html n
+-- the question as it is put, what is not so, the figures and where to look
+unfoldable pub refusedSection : Bool → ℕ → ℕ → Finding → List ℕ
+refusedSection html first n f =
+    refusedHeading html first n f
     ++ (askedText n
     ++ (either html (ascii "</b></p>\n<p>") (ascii "\n")
-    ++ (whyText first s n
-    ++ (either html (ascii "</p>\n<p>") (ascii "\n") ++ (adviceText n ++ (either html (ascii "</p>\n") (ascii "\n") ++ sectionEnd html))))))
+    ++ (saidText n
+    ++ (either html (ascii "</p>\n") (ascii "\n")
+    ++ (findingTable html n f
+    ++ (either html (ascii "<p>") (ascii "\n") ++ (adviceText n ++ (either html (ascii "</p>\n") (ascii "\n") ++ sectionEnd html))))))))

@@ -4,19 +4,48 @@ use advice::put_asked;
 use advice::put_said;
 use composing::put_bytes;
 use composing::put_decimal;
+use finding::Finding;
+use finding::NOWHERE;
+use finding_table::put_finding_table;
 use parts::put_either;
 use parts::put_section_end;
-use refusals::put_reason;
-ghost use mathlib.Core.Path.{_≡_};
-ghost use mathlib.Core.Bool.{true, cond};
-ghost use Prim.Native.Nat.{_≤_};
+use place_words::put_place;
+ghost use Prim.Native.Nat.{_≤_, _<_};
 ghost use Rattle.composing.specs.Text.{Put};
-ghost use Rattle.refusals.specs.Refusal.{PassedToSix, NoDevelopment, Refused, totalsOf, developmentOf};
-ghost use Rattle.refused_section.specs.RefusedSection.{refusedHeading, hereText, whyText, refusedSection};
+ghost use Rattle.refused_section.specs.RefusedSection.{placeWords, atPlace, refusedHeading, refusedSection};
 
-// The number of the question.
-fn put_refused_heading(out: &mut [u8], at: usize, html: bool, n: u64) -> usize
-    ensures { λ r. ⌜ Put (now (out .entry)) (now (out .exit)) at r (refusedHeading html n) ⌝ }
+// The words of the place.
+fn put_place_words(out: &mut [u8], at: usize, html: bool, first: usize, f: Finding) -> usize
+    requires { ⌜ (first ≤ 65535) × (f .row < 16) ⌝ }
+    ensures { λ r. ⌜ Put (now (out .entry)) (now (out .exit)) at r (placeWords html first f) ⌝ }
+{
+    let a = put_either(out, at, html, b" at <b>", b" at ");
+    let b = put_place(out, a, first, f.place, f.row, f.column);
+    put_either(out, b, html, b"</b>", b"")
+}
+
+// The same where there is a place.
+fn put_at_place(out: &mut [u8], at: usize, html: bool, first: usize, f: Finding) -> usize
+    requires { ⌜ (first ≤ 65535) × (f .row < 16) ⌝ }
+    ensures { λ r. ⌜ Put (now (out .entry)) (now (out .exit)) at r (atPlace html first f) ⌝ }
+{
+    if f.place == NOWHERE {
+        return at;
+    }
+    put_place_words(out, at, html, first, f)
+}
+
+// The number of the question and the place.
+fn put_refused_heading(
+    out: &mut [u8],
+    at: usize,
+    html: bool,
+    first: usize,
+    n: u64,
+    f: Finding,
+) -> usize
+    requires { ⌜ (first ≤ 65535) × (f .row < 16) ⌝ }
+    ensures { λ r. ⌜ Put (now (out .entry)) (now (out .exit)) at r (refusedHeading html first n f) ⌝ }
 {
     let a = put_either(
         out,
@@ -34,58 +63,31 @@ fn put_refused_heading(out: &mut [u8], at: usize, html: bool, n: u64) -> usize
         b"\n\nNo figures are given for this record. Question ",
     );
     let d = put_decimal(out, c, n);
-    put_either(
-        out,
-        d,
-        html,
-        b" was answered no:</p>\n<p><b>",
-        b" was answered no:\n",
-    )
+    let e = put_bytes(out, d, b" was answered no");
+    let g = put_at_place(out, e, html, first, f);
+    put_either(out, g, html, b":</p>\n<p><b>", b":\n")
 }
 
-// Why question 13, or 7, is answered no.
-fn put_here(out: &mut [u8], at: usize, first: usize, packed: &[u8], development: bool) -> usize
-    requires { ⌜ (first ≤ 65535) × (PassedToSix (now packed) × (development ≡ true → NoDevelopment (now packed))) ⌝ }
-    ensures { λ r. ⌜ Put (now (out .entry)) (now (out .exit)) at r
-        (hereText (cond development (developmentOf (now (packed .entry))) (totalsOf first (now (packed .entry))))) ⌝ }
-{
-    let a = put_bytes(out, at, b"Here ");
-    let b = put_reason(out, a, first, packed, development);
-    put_bytes(out, b, b".")
-}
-
-// Why question n is.
-fn put_why(out: &mut [u8], at: usize, first: usize, packed: &[u8], n: u64) -> usize
-    requires { ⌜ (first ≤ 65535) × Refused (now packed) n ⌝ }
-    ensures { λ r. ⌜ Put (now (out .entry)) (now (out .exit)) at r (whyText first (now (packed .entry)) n) ⌝ }
-{
-    if n == 7 {
-        return put_here(out, at, first, packed, false);
-    }
-    if n == 13 {
-        return put_here(out, at, first, packed, true);
-    }
-    put_said(out, at, n)
-}
-
-// The section of a record that question n refuses.
+// The section of a record that question n refuses, with what it found.
 pub fn put_refused_section(
     out: &mut [u8],
     at: usize,
     html: bool,
     first: usize,
-    packed: &[u8],
     n: u64,
+    f: Finding,
 ) -> usize
-    requires { ⌜ (first ≤ 65535) × Refused (now packed) n ⌝ }
-    ensures { λ r. ⌜ Put (now (out .entry)) (now (out .exit)) at r (refusedSection html first (now (packed .entry)) n) ⌝ }
+    requires { ⌜ (first ≤ 65535) × (f .row < 16) ⌝ }
+    ensures { λ r. ⌜ Put (now (out .entry)) (now (out .exit)) at r (refusedSection html first n f) ⌝ }
 {
-    let a = put_refused_heading(out, at, html, n);
+    let a = put_refused_heading(out, at, html, first, n, f);
     let b = put_asked(out, a, n);
     let c = put_either(out, b, html, b"</b></p>\n<p>", b"\n");
-    let d = put_why(out, c, first, packed, n);
-    let e = put_either(out, d, html, b"</p>\n<p>", b"\n");
-    let f = put_advice(out, e, n);
-    let g = put_either(out, f, html, b"</p>\n", b"\n");
-    put_section_end(out, g, html)
+    let d = put_said(out, c, n);
+    let e = put_either(out, d, html, b"</p>\n", b"\n");
+    let g = put_finding_table(out, e, html, n, f);
+    let h = put_either(out, g, html, b"<p>", b"\n");
+    let i = put_advice(out, h, n);
+    let j = put_either(out, i, html, b"</p>\n", b"\n");
+    put_section_end(out, j, html)
 }

@@ -16,7 +16,7 @@ ghost use Rattle.rules.specs.Questions.{firstNo};
 ghost use Rattle.tail.specs.Tailable.{Carriable, Tailable, yearsCarried, tailsCarried};
 
 // t_0, the average of the amount still to be paid, over the claims of year 0 and rounded as any other.
-fn first_tail_average(tail: u64, exposures: &[u64; 16]) -> u64
+pub fn first_tail_average(tail: u64, exposures: &[u64; 16]) -> u64
     requires { ⌜ (tail ≤ mostAmount) × ((1 ≤ getD (now exposures) 0 0) × (getD (now exposures) 0 0 ≤ million)) ⌝ }
     ensures { λ r. ⌜ r ≡ firstTailAverage tail (now (exposures .entry)) ⌝ }
 {

@@ -1,5 +1,5 @@
--- The parts follow one another. Assumes nothing.
-use Rattle.composing.proofs.Puts.{put-append, put-five}
+-- The parts follow one another; the section is that of what was found. Assumes nothing.
+use Rattle.composing.proofs.Puts.{put-length, put-append, put-five}
 use Rattle.refused_page.specs.RefusedPage.{refusedPage}
 use borrow.Author.Needs.{needs}
 use Rattle.refused_page.proofs.put_refused_page.Statement.{statement}
@@ -8,11 +8,29 @@ use Rattle.refused_page.proofs.put_refused_page.Tie as tie
 returns : tie.Need-returns
 unfolding refusedPage
 returns c =
-    put-append (c .before .before .before .before .before .before .before .before .before .before .before .before .before .before .before .before .before .before .before .before .before .before .before .before .before .before .put-page-start .ensures)
-    (put-append (c .before .before .before .before .before .before .before .before .before .before .before .before .before .before .before .before .before .before .before .before .before .before .put-refused-opening .ensures)
-    (put-five (c .before .before .before .before .before .before .before .before .before .before .before .before .before .before .before .before .before .before .put-refused-section .ensures) (c .before .before .before .before .before .before .before .before .before .before .before .before .before .before .put-known-inputs .ensures) (c .before .before .before .before .before .before .before .before .before .before .put-refused-proof .ensures) (c .before .before .before .before .before .before .put-record-section .ensures) (c .before .before .put-page-end .ensures)))
+    put-append (c .before .before .before .before .before .before .before .before .before .before .before .before .before .before .before .before .before .before .before .before .before .before .before .before .before .before .before .put-page-start .ensures)
+    (put-append (c .before .before .before .before .before .before .before .before .before .before .before .before .before .before .before .before .before .before .before .before .before .before .before .put-refused-opening .ensures)
+    (put-five (rw (c .before .before .before .before .before .before .before .before .before .before .before .before .before .before .before .before .before .before .before .before .find .ensures .0) at (c .before .before .before .before .before .before .before .before .before .before .before .before .before .before .before .before .before .before .put-refused-section .ensures)) (c .before .before .before .before .before .before .before .before .before .before .before .before .before .before .put-known-inputs .ensures) (c .before .before .before .before .before .before .before .before .before .before .put-refused-proof .ensures) (c .before .before .before .before .before .before .put-record-section .ensures) (c .before .before .put-page-end .ensures)))
+
+same-length : tie.Need-same-length
+same-length c = put-length (returns c)
+
+put-known-inputs-requires : tie.Need-put-known-inputs-requires
+put-known-inputs-requires c κs =
+    let s = c .before .before .before .before .before .before .before .before .before .before .before .before .before .before .before .before .before in
+    (s .pre .0, (s .pre .1 .0, s .pre .1 .1 .1 .0))
 
 pub put-refused-page-spec : {M : Type 1} → statement M
 put-refused-page-spec =
     tie.close
-    (tie.spec (λ c κs. search needs) (λ c κs. search needs) (λ c κs. search needs) (λ c κs. search needs) (λ c κs. search needs) (λ c κs. search needs) (λ c κs. search needs) (λ c. search needs) returns)
+    (tie.spec
+    (λ c κs. search needs)
+    (λ c κs. search needs)
+    (λ c κs. search needs)
+    (λ c κs. search needs)
+    put-known-inputs-requires
+    (λ c κs. search needs)
+    (λ c κs. search needs)
+    (λ c κs. search needs)
+    same-length
+    returns)

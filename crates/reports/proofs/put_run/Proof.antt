@@ -4,7 +4,6 @@ use mathlib.Core.Path.{sym, _∙_}
 use borrow.Author.Tests.{ne-eqb}
 use Rattle.rules.specs.Results.{mostEntries}
 use Rattle.rules.specs.Engine.{runAnswer}
-use Rattle.refusals.proofs.Words.{refused-by}
 use Rattle.reports.specs.Report.{reportOf}
 use Rattle.reports.proofs.Asked.{some-known, inputs-passed}
 use borrow.Author.Needs.{needs}
@@ -17,7 +16,7 @@ put-refused-page-requires c κs =
     let s = c .before .before .before .before .before .before .before .before in
     let year = s .args .year in
     let packed = s .args .packed .now in
-    (s .pre .0, (s .pre .1, (some-known year packed (run .result) (sym (run .ensures .0)), (inputs-passed year packed (run .result) (sym (run .ensures .0)), refused-by year packed (run .result) (run .ensures .0)))))
+    (s .pre .0, (s .pre .1, (some-known year packed (run .result) (sym (run .ensures .0)), (inputs-passed year packed (run .result) (sym (run .ensures .0)), sym (run .ensures .0)))))
 
 returns : tie.Need-returns
 unfolding reportOf

@@ -1,0 +1,4 @@
+pub mod Placed
+pub mod Cells
+pub mod Named
+pub mod Limits

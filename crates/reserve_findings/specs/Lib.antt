@@ -1,0 +1,2 @@
+pub mod ReserveFindings
+pub mod Provided

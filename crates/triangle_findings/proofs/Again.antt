@@ -1,0 +1,41 @@
+-- What a record has passed whose run answers 6, 13, 7 or 8, and the totals of the square of its averages. Assumes nothing.
+use Prim.Native.Nat.{ℕ, _≤_}
+use native.Mathlib.Omega.{arith}
+use mathlib.Core.Path.{_≡_, refl}
+use mathlib.Core.List.{List}
+use mathlib.Core.Bool.{true}
+use lib.IntN.{ℤ}
+use Rattle.rules.specs.Questions.{firstNo}
+use Rattle.rules.specs.Record.{Figures, figuresOf}
+use Rattle.rules.specs.Reading.{openingQuestions, fieldQuestions}
+use Rattle.rules.specs.Triangle.{cumulativesPass, TotalsIn}
+use Rattle.rules.specs.Results.{mostEntries, squareOf}
+use Rattle.rules.specs.Engine.{runAnswer}
+use Rattle.separation.specs.Walk.{Summed}
+use Rattle.totals.proofs.Square.{zero-outside}
+use Rattle.triangle.proofs.Square.{cells-bounded}
+use Rattle.reading.specs.Reading.{Sound}
+use Rattle.outcomes.proofs.Passed.{answered, opening, fields, cumulatives}
+use Rattle.outcomes.proofs.Said.{first-byte-yes, length-yes, ranges-yes, shares-yes}
+
+-- questions 1, 2, 4, 5 and 6
+pub late : (year : ℕ) (s : List ℕ) (n : ℕ) → 7 ≤ n → runAnswer year s mostEntries ≡ n
+    → (firstNo (openingQuestions s) ≡ 0) × ((firstNo (fieldQuestions s) ≡ 0) × (cumulativesPass (figuresOf s .k) (figuresOf s .increments) ≡ true))
+late year s n l h =
+    let run = answered year s n l h in
+    (opening year s run, (fields year s run, cumulatives year s run))
+
+-- questions 1, 2, 4 and 5
+pub read-passed : (year : ℕ) (s : List ℕ) → runAnswer year s mostEntries ≡ 6 → (firstNo (openingQuestions s) ≡ 0) × (firstNo (fieldQuestions s) ≡ 0)
+unfolding openingQuestions fieldQuestions firstNo
+read-passed year s h =
+    (rw (first-byte-yes year s 6 refl h, length-yes year s 6 refl h), rw (ranges-yes year s 6 refl h, shares-yes year s 6 refl h))
+
+-- totals of the square of sound figures
+pub summed : (f : Figures) → Sound f → (v d : List ℤ) → TotalsIn (squareOf f) v d → Summed (squareOf f) (f .k) v d
+unfolding squareOf
+summed f good v d e = record {
+  cells = cells-bounded (f .k) (f .exposures) (f .increments) (good .few) (good .exposures) (good .increments);
+  outside = zero-outside (f .k) (f .exposures) (f .increments) (good .few);
+  totals = e;
+}
