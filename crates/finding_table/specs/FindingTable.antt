@@ -1,7 +1,7 @@
 -- The table of the figures where a question says no. Assumes nothing.
 use Prim.Native.Nat.{ℕ, _+_}
 use mathlib.Core.Bool.{Bool, true, false, cond}
-use mathlib.Core.List.{List, [], _∷_}
+use mathlib.Core.List.{List, [], _∷_, _++_}
 use lib.Dec.{eqb}
 use lib.IntN.{pos}
 use lib.Signed.{ltZ}
@@ -125,24 +125,36 @@ correctedTable html f = figureTable html valueWords (ascii "Plain ULAE ratio\nDi
 unfoldable pub completedTable : Bool → Finding → List ℕ
 completedTable html f = figureTable html valueWords (ascii "Cumulative before it\nDevelopment factor\nCumulative\n") 3 amount millionths amount f
 
--- the figures of question n
-unfoldable pub findingTable : Bool → ℕ → Finding → List ℕ
-findingTable html n f =
-    cond (eqb n 4) (fieldTable html f)
-    (cond (eqb n 13) (developmentTable html f)
-    (cond (eqb n 1) (givenTable html f)
+-- the figures of question n about the record, none of another
+unfoldable pub recordTable : Bool → ℕ → Finding → List ℕ
+recordTable html n f =
+    cond (eqb n 1) (givenTable html f)
     (cond (eqb n 2) (lengthTable html f)
-    (cond (eqb n 5) (sharesTable html f)
-    (cond (eqb n 6) (cumulativeTable html f)
+    (cond (eqb n 4) (fieldTable html f)
+    (cond (eqb n 5) (sharesTable html f) [])))
+
+-- about the triangle and its separation
+unfoldable pub triangleTable : Bool → ℕ → Finding → List ℕ
+triangleTable html n f =
+    cond (eqb n 6) (cumulativeTable html f)
+    (cond (eqb n 13) (developmentTable html f)
     (cond (eqb n 7) (totalsTable html f)
     (cond (eqb n 8) (restTable html f)
     (cond (eqb n 9) (runningTable html f)
-    (cond (eqb n 10) (levelTable html f)
-    (cond (eqb n 18) (tailTable html f)
+    (cond (eqb n 10) (levelTable html f) [])))))
+
+-- about the reserves
+unfoldable pub reserveTable : Bool → ℕ → Finding → List ℕ
+reserveTable html n f =
+    cond (eqb n 18) (tailTable html f)
     (cond (eqb n 19) (tailAverageTable html f)
     (cond (eqb n 11) (ultimateTable html f)
     (cond (eqb n 12) (totalTable html f)
     (cond (eqb n 15) (latestTable html f)
     (cond (eqb n 16) (divisorTable html f)
     (cond (eqb n 17) (correctedTable html f)
-    (cond (eqb n 14) (completedTable html f) [])))))))))))))))))
+    (cond (eqb n 14) (completedTable html f) [])))))))
+
+-- the figures of question n, which is one of these
+unfoldable pub findingTable : Bool → ℕ → Finding → List ℕ
+findingTable html n f = recordTable html n f ++ (triangleTable html n f ++ reserveTable html n f)

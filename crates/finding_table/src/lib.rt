@@ -10,7 +10,7 @@ use table_heads::Shape;
 ghost use mathlib.Core.Path.{_≡_};
 ghost use Prim.Native.Nat.{_≤_};
 ghost use Rattle.composing.specs.Text.{Put};
-ghost use Rattle.finding_table.specs.FindingTable.{figureTable, fieldStyle, fieldTable, sumsTable, developmentTable, findingTable};
+ghost use Rattle.finding_table.specs.FindingTable.{figureTable, fieldStyle, fieldTable, sumsTable, developmentTable, recordTable, triangleTable, reserveTable, findingTable};
 
 // The style of shares.
 const BILLIONTHS: u8 = 10;
@@ -127,16 +127,10 @@ fn put_development_table(out: &mut [u8], at: usize, html: bool, f: Finding) -> u
     put_sums(out, at, html, 3, f)
 }
 
-// The figures of question n.
-pub fn put_finding_table(out: &mut [u8], at: usize, html: bool, n: u64, f: Finding) -> usize
-    ensures { λ r. ⌜ Put (now (out .entry)) (now (out .exit)) at r (findingTable html n f) ⌝ }
+// The figures of a question about the record.
+fn put_record_table(out: &mut [u8], at: usize, html: bool, n: u64, f: Finding) -> usize
+    ensures { λ r. ⌜ Put (now (out .entry)) (now (out .exit)) at r (recordTable html n f) ⌝ }
 {
-    if n == 4 {
-        return put_field_table(out, at, html, f);
-    }
-    if n == 13 {
-        return put_development_table(out, at, html, f);
-    }
     if n == 1 {
         return put_figures(
             out,
@@ -165,6 +159,9 @@ pub fn put_finding_table(out: &mut [u8], at: usize, html: bool, n: u64, f: Findi
             f,
         );
     }
+    if n == 4 {
+        return put_field_table(out, at, html, f);
+    }
     if n == 5 {
         return put_figures(
             out,
@@ -179,6 +176,13 @@ pub fn put_finding_table(out: &mut [u8], at: usize, html: bool, n: u64, f: Findi
             f,
         );
     }
+    at
+}
+
+// Of one about the triangle and its separation.
+fn put_triangle_table(out: &mut [u8], at: usize, html: bool, n: u64, f: Finding) -> usize
+    ensures { λ r. ⌜ Put (now (out .entry)) (now (out .exit)) at r (triangleTable html n f) ⌝ }
+{
     if n == 6 {
         return put_figures(
             out,
@@ -192,6 +196,9 @@ pub fn put_finding_table(out: &mut [u8], at: usize, html: bool, n: u64, f: Findi
             0,
             f,
         );
+    }
+    if n == 13 {
+        return put_development_table(out, at, html, f);
     }
     if n == 7 {
         return put_figures(
@@ -249,6 +256,13 @@ pub fn put_finding_table(out: &mut [u8], at: usize, html: bool, n: u64, f: Findi
             f,
         );
     }
+    at
+}
+
+// Of one about the reserves.
+fn put_reserve_table(out: &mut [u8], at: usize, html: bool, n: u64, f: Finding) -> usize
+    ensures { λ r. ⌜ Put (now (out .entry)) (now (out .exit)) at r (reserveTable html n f) ⌝ }
+{
     if n == 18 {
         return put_figures(
             out,
@@ -362,4 +376,13 @@ pub fn put_finding_table(out: &mut [u8], at: usize, html: bool, n: u64, f: Findi
         );
     }
     at
+}
+
+// The figures of question n, which is one of these.
+pub fn put_finding_table(out: &mut [u8], at: usize, html: bool, n: u64, f: Finding) -> usize
+    ensures { λ r. ⌜ Put (now (out .entry)) (now (out .exit)) at r (findingTable html n f) ⌝ }
+{
+    let a = put_record_table(out, at, html, n, f);
+    let b = put_triangle_table(out, a, html, n, f);
+    put_reserve_table(out, b, html, n, f)
 }

@@ -18,7 +18,7 @@ use Rattle.table_lengths.proofs.Tables.{table-most}
 use Rattle.finding.specs.declared.Finding.{Finding}
 use Rattle.finding.specs.Places.{originYear, developmentYear, paymentYear, cell, field}
 use Rattle.place_words.specs.PlaceWords.{originText, developmentText, paymentText, cellText, indexText, fieldTexts, fieldText, yearsText, placeText}
-use Rattle.finding_table.specs.FindingTable.{figureShape, figureTable, fieldStyle, sumsTable, fieldTable, developmentTable, givenTable, lengthTable, sharesTable, cumulativeTable, totalsTable, restTable, runningTable, levelTable, tailTable, tailAverageTable, ultimateTable, totalTable, latestTable, divisorTable, correctedTable, completedTable, findingTable}
+use Rattle.finding_table.specs.FindingTable.{figureShape, figureTable, fieldStyle, sumsTable, fieldTable, developmentTable, givenTable, lengthTable, sharesTable, cumulativeTable, totalsTable, restTable, runningTable, levelTable, tailTable, tailAverageTable, ultimateTable, totalTable, latestTable, divisorTable, correctedTable, completedTable, recordTable, triangleTable, reserveTable, findingTable}
 use Rattle.frame_lengths.proofs.Texts.{each-most}
 
 -- one of two texts
@@ -155,24 +155,36 @@ completedTable-most : (html : Bool) (f : Finding) → length (completedTable htm
 unfolding completedTable tableMost longestFrom
 completedTable-most html f = figure-most html _ _ _ _ _ _ f 1100 (omega arith) (omega arith)
 
-pub table-of-most : (html : Bool) (n : ℕ) (f : Finding) → length (findingTable html n f) ≤ 1100
-unfolding findingTable
-table-of-most html n f =
-    cond-most 1100 (eqb n 4) (fieldTable html f) _ (fieldTable-most html f)
-    (cond-most 1100 (eqb n 13) (developmentTable html f) _ (developmentTable-most html f)
-    (cond-most 1100 (eqb n 1) (givenTable html f) _ (givenTable-most html f)
+record-most : (html : Bool) (n : ℕ) (f : Finding) → length (recordTable html n f) ≤ 1100
+unfolding recordTable
+record-most html n f =
+    cond-most 1100 (eqb n 1) (givenTable html f) _ (givenTable-most html f)
     (cond-most 1100 (eqb n 2) (lengthTable html f) _ (lengthTable-most html f)
-    (cond-most 1100 (eqb n 5) (sharesTable html f) _ (sharesTable-most html f)
-    (cond-most 1100 (eqb n 6) (cumulativeTable html f) _ (cumulativeTable-most html f)
+    (cond-most 1100 (eqb n 4) (fieldTable html f) _ (fieldTable-most html f)
+    (cond-most 1100 (eqb n 5) (sharesTable html f) [] (sharesTable-most html f) (omega arith))))
+
+triangle-most : (html : Bool) (n : ℕ) (f : Finding) → length (triangleTable html n f) ≤ 1100
+unfolding triangleTable
+triangle-most html n f =
+    cond-most 1100 (eqb n 6) (cumulativeTable html f) _ (cumulativeTable-most html f)
+    (cond-most 1100 (eqb n 13) (developmentTable html f) _ (developmentTable-most html f)
     (cond-most 1100 (eqb n 7) (totalsTable html f) _ (totalsTable-most html f)
     (cond-most 1100 (eqb n 8) (restTable html f) _ (restTable-most html f)
     (cond-most 1100 (eqb n 9) (runningTable html f) _ (runningTable-most html f)
-    (cond-most 1100 (eqb n 10) (levelTable html f) _ (levelTable-most html f)
-    (cond-most 1100 (eqb n 18) (tailTable html f) _ (tailTable-most html f)
+    (cond-most 1100 (eqb n 10) (levelTable html f) [] (levelTable-most html f) (omega arith))))))
+
+reserve-most : (html : Bool) (n : ℕ) (f : Finding) → length (reserveTable html n f) ≤ 1100
+unfolding reserveTable
+reserve-most html n f =
+    cond-most 1100 (eqb n 18) (tailTable html f) _ (tailTable-most html f)
     (cond-most 1100 (eqb n 19) (tailAverageTable html f) _ (tailAverageTable-most html f)
     (cond-most 1100 (eqb n 11) (ultimateTable html f) _ (ultimateTable-most html f)
     (cond-most 1100 (eqb n 12) (totalTable html f) _ (totalTable-most html f)
     (cond-most 1100 (eqb n 15) (latestTable html f) _ (latestTable-most html f)
     (cond-most 1100 (eqb n 16) (divisorTable html f) _ (divisorTable-most html f)
     (cond-most 1100 (eqb n 17) (correctedTable html f) _ (correctedTable-most html f)
-    (cond-most 1100 (eqb n 14) (completedTable html f) _ (completedTable-most html f) (omega arith))))))))))))))))))
+    (cond-most 1100 (eqb n 14) (completedTable html f) [] (completedTable-most html f) (omega arith))))))))
+
+pub table-of-most : (html : Bool) (n : ℕ) (f : Finding) → length (findingTable html n f) ≤ 3300
+unfolding findingTable
+table-of-most html n f = simp length-append (omega (arith, record-most html n f, triangle-most html n f, reserve-most html n f))

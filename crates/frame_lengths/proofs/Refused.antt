@@ -48,7 +48,7 @@ unfolding refusedHeading either
 heading-most true first n f = simp length-append (omega (arith, length-most n, at-most true first f))
 heading-most false first n f = simp length-append (omega (arith, length-most n, at-most false first f))
 
-pub refused-most : (html : Bool) (first n : ℕ) (f : Finding) → length (refusedSection html first n f) ≤ 2100
+pub refused-most : (html : Bool) (first n : ℕ) (f : Finding) → length (refusedSection html first n f) ≤ 4300
 unfolding refusedSection either
 refused-most true first n f =
     simp length-append (omega (arith, heading-most true first n f, asked-most n, said-most n, table-of-most true n f, advice-most n, section-end-most true))

@@ -31,7 +31,7 @@ inputs-most html year first s false few = omega arith
 
 -- in any valuation year and for any question, with a title of at most 255 bytes, and of a record of at most 4096
 pub refused-page-most : (html : Bool) (title : List ℕ) (year first : ℕ) (s : List ℕ) (n : ℕ) → length title ≤ 255 → length s ≤ 4096 → lastYearOf s < 16
-    → length (refusedPage html title year first s n) ≤ 72000
+    → length (refusedPage html title year first s n) ≤ 74000
 unfolding refusedPage
 refused-page-most html title year first s n short fits few =
     simp length-append

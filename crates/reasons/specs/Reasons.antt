@@ -17,11 +17,11 @@ firstBelow v k = leading (λ i. leZ (pos 0) (v i)) (k + 1)
 unfoldable pub yearReason : List ℕ → ℕ → List ℕ
 yearReason kind y = ascii "the averages of " ++ (kind ++ (decimal y ++ ascii " add up to less than 0"))
 
--- v are the totals of the columns, d those of the diagonals; payment years are called by the first
-unfoldable pub totalsReason : ℕ → (ℕ → ℤ) → (ℕ → ℤ) → ℕ → List ℕ
-totalsReason first v d k =
+-- v are the totals of the columns, d those of the diagonals
+unfoldable pub totalsReason : (ℕ → ℤ) → (ℕ → ℤ) → ℕ → List ℕ
+totalsReason v d k =
     cond (ltb (firstBelow v k) (k + 1)) (yearReason (ascii "development year ") (firstBelow v k))
-    (cond (ltb (firstBelow d k) (k + 1)) (yearReason (ascii "payment year ") (first + firstBelow d k))
+    (cond (ltb (firstBelow d k) (k + 1)) (yearReason (ascii "payment year ") (firstBelow d k))
     (ascii "the averages add up to more than 1,000,000,000 hundredths"))
 
 -- the first of the development years 0 to k − 1 of which question 13 says no, k where there is none; a and b are the sums A and B of each

@@ -5,7 +5,7 @@ use ladder::development_factors;
 use rules::MOST_FACTOR;
 ghost use mathlib.Core.Path.{_≡_};
 ghost use mathlib.Core.Bool.{false};
-ghost use Prim.Native.Nat.{_≤_, _<_};
+ghost use Prim.Native.Nat.{_<_};
 ghost use lib.Dec.{leb};
 ghost use lib.IntN.{pos};
 ghost use lib.ListN.{getD};
@@ -39,18 +39,17 @@ fn put_year_reason(out: &mut [u8], at: usize, kind: &[u8], y: usize) -> usize
     put_bytes(out, c, b" add up to less than 0")
 }
 
-// The reason of question 7, from the totals of the columns and of the diagonals of the years 0 to k; payment years are called by the first.
+// The reason of question 7, from the totals of the columns and of the diagonals of the years 0 to k.
 pub fn put_totals_reason(
     out: &mut [u8],
     at: usize,
-    first: usize,
     columns: &[i64; 16],
     diagonals: &[i64; 16],
     k: usize,
 ) -> usize
-    requires { ⌜ (k < 16) × (first ≤ 65535) ⌝ }
+    requires { ⌜ k < 16 ⌝ }
     ensures { λ r. ⌜ Put (now (out .entry)) (now (out .exit)) at r
-        (totalsReason first (λ j. getD (now (columns .entry)) j (pos 0)) (λ h. getD (now (diagonals .entry)) h (pos 0)) k) ⌝ }
+        (totalsReason (λ j. getD (now (columns .entry)) j (pos 0)) (λ h. getD (now (diagonals .entry)) h (pos 0)) k) ⌝ }
 {
     let n = k + 1;
     let j = first_below(columns, k);
@@ -59,7 +58,7 @@ pub fn put_totals_reason(
     }
     let h = first_below(diagonals, k);
     if h < n {
-        return put_year_reason(out, at, b"payment year ", first + h);
+        return put_year_reason(out, at, b"payment year ", h);
     }
     put_bytes(
         out,

@@ -12,10 +12,10 @@ use Rattle.reasons.specs.Reasons.{totalsReason}
 use Rattle.reasons.proofs.Below.{reason-same}
 
 -- the reason by the totals in the arrays is that by the totals of the square
-pub reason-is : (first : ℕ) (q : List (List ℤ)) (k m : ℕ) (c d : List ℤ) → k ≡ m → k < 16
+pub reason-is : (q : List (List ℤ)) (k m : ℕ) (c d : List ℤ) → k ≡ m → k < 16
     → c ≡ upTo (columnTotal q) 16 → d ≡ upTo (diagonalTotal q) 16
-    → totalsReason first (λ j. getD c j (pos 0)) (λ h. getD d h (pos 0)) k ≡ totalsReason first (columnTotal q) (diagonalTotal q) m
-reason-is first q k m c d e h ec ed =
+    → totalsReason (λ j. getD c j (pos 0)) (λ h. getD d h (pos 0)) k ≡ totalsReason (columnTotal q) (diagonalTotal q) m
+reason-is q k m c d e h ec ed =
     rw (ec, ed, e)
-    (reason-same first (λ j. getD (upTo (columnTotal q) 16) j (pos 0)) (columnTotal q) (λ h. getD (upTo (diagonalTotal q) 16) h (pos 0)) (diagonalTotal q) m
+    (reason-same (λ j. getD (upTo (columnTotal q) 16) j (pos 0)) (columnTotal q) (λ h. getD (upTo (diagonalTotal q) 16) h (pos 0)) (diagonalTotal q) m
     (λ i l. getD-upTo (columnTotal q) 16 i (pos 0) (omega arith)) (λ i l. getD-upTo (diagonalTotal q) 16 i (pos 0) (omega arith)))

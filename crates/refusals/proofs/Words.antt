@@ -21,7 +21,7 @@ refused-by year s n e =
 
 -- the words of question 7, of 13 and of any other
 module _ (s : List ℕ) (n : ℕ) where
-  pub words-7 : n ≡ 7 → totalsOf 0 s ≡ wordsOf s n
+  pub words-7 : n ≡ 7 → totalsOf s ≡ wordsOf s n
   unfolding wordsOf
   words-7 e = rw (eq-eqb n 7 e)
 

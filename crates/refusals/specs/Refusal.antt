@@ -28,20 +28,20 @@ NoDevelopment s = developmentPasses (figuresOf s) ≡ false
 abbrev pub Refused : List ℕ → ℕ → Type 0
 Refused s n = (n ≡ 7 → PassedToSix s) × (n ≡ 13 → PassedToSix s × NoDevelopment s)
 
--- the reasons of 7, where payment years are called by the first, and of 13
-unfoldable pub totalsOf : ℕ → List ℕ → List ℕ
-totalsOf first s =
+-- the reasons of 7 and of 13
+unfoldable pub totalsOf : List ℕ → List ℕ
+totalsOf s =
     let q = squareOf (figuresOf s) in
-    totalsReason first (columnTotal q) (diagonalTotal q) (figuresOf s .k)
+    totalsReason (columnTotal q) (diagonalTotal q) (figuresOf s .k)
 
 unfoldable pub developmentOf : List ℕ → List ℕ
 developmentOf s =
     let f = figuresOf s in
     developmentReason (developed (f .k) (f .increments)) (base (f .k) (f .increments)) (f .k)
 
--- the words of question n, payment years from 0 on
+-- the words of question n
 unfoldable pub wordsOf : List ℕ → ℕ → List ℕ
-wordsOf s n = cond (eqb n 7) (totalsOf 0 s) (cond (eqb n 13) (developmentOf s) (questionText n))
+wordsOf s n = cond (eqb n 7) (totalsOf s) (cond (eqb n 13) (developmentOf s) (questionText n))
 
 -- its line
 unfoldable pub refusalOf : List ℕ → ℕ → List ℕ

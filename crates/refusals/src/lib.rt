@@ -8,20 +8,13 @@ use reasons::put_totals_reason;
 use wording::put_question;
 ghost use mathlib.Core.Path.{_≡_};
 ghost use mathlib.Core.Bool.{true, cond};
-ghost use Prim.Native.Nat.{_≤_};
 ghost use Rattle.composing.specs.Text.{Put};
 ghost use Rattle.refusals.specs.Refusal.{PassedToSix, NoDevelopment, Refused, totalsOf, developmentOf, wordsOf, refusalOf};
 
-// The reason of question 13, or of 7, where payment years are called by the first.
-pub fn put_reason(
-    out: &mut [u8],
-    at: usize,
-    first: usize,
-    packed: &[u8],
-    development: bool,
-) -> usize
-    requires { ⌜ (first ≤ 65535) × (PassedToSix (now packed) × (development ≡ true → NoDevelopment (now packed))) ⌝ }
-    ensures { λ r. ⌜ Put (now (out .entry)) (now (out .exit)) at r (cond development (developmentOf (now (packed .entry))) (totalsOf first (now (packed .entry)))) ⌝ }
+// The reason of question 13, or of 7.
+fn put_reason(out: &mut [u8], at: usize, packed: &[u8], development: bool) -> usize
+    requires { ⌜ PassedToSix (now packed) × (development ≡ true → NoDevelopment (now packed)) ⌝ }
+    ensures { λ r. ⌜ Put (now (out .entry)) (now (out .exit)) at r (cond development (developmentOf (now (packed .entry))) (totalsOf (now (packed .entry)))) ⌝ }
 {
     let mut increments = [0i64; 136];
     let mut reporting = [0u64; 16];
@@ -44,7 +37,7 @@ pub fn put_reason(
     if development {
         return put_development_reason(out, at, &sums, &paid, k);
     }
-    put_totals_reason(out, at, first, &columns, &diagonals, k)
+    put_totals_reason(out, at, &columns, &diagonals, k)
 }
 
 // The words of a question.
@@ -53,10 +46,10 @@ fn put_words(out: &mut [u8], at: usize, packed: &[u8], answer: u64) -> usize
     ensures { λ r. ⌜ Put (now (out .entry)) (now (out .exit)) at r (wordsOf (now (packed .entry)) answer) ⌝ }
 {
     if answer == 7 {
-        return put_reason(out, at, 0, packed, false);
+        return put_reason(out, at, packed, false);
     }
     if answer == 13 {
-        return put_reason(out, at, 0, packed, true);
+        return put_reason(out, at, packed, true);
     }
     put_question(out, at, answer)
 }

@@ -1,1 +1,2 @@
 pub mod NoList
+pub mod Asked

@@ -139,11 +139,7 @@ pub fn put_refused_page(
     packed: &[u8],
     n: u64,
 ) -> usize
-    requires { ⌜ (first ≤ 65535)
-        × ((year ≤ 65535)
-        × ((yearsKnown n ≡ true → 1 ≤ length (now packed))
-        × ((inputsKnown n ≡ true → (firstNo (openingQuestions (now packed)) ≡ 0) × (firstNo (fieldQuestions (now packed)) ≡ 0))
-        × (runAnswer year (now packed) mostEntries ≡ n)))) ⌝ }
+    requires { ⌜ (first ≤ 65535) × ((year ≤ 65535) × (runAnswer year (now packed) mostEntries ≡ n)) ⌝ }
     ensures { λ r. ⌜ Put (now (out .entry)) (now (out .exit)) 0 r (refusedPage html (now (title .entry)) year first (now (packed .entry)) n) ⌝ }
 {
     let a = put_page_start(out, 0, html, title, year);

@@ -1,5 +1,4 @@
 -- By the first column, and then the first diagonal, that is below zero. Assumes nothing.
-use native.Mathlib.Omega.{arith}
 use lib.IntN.{pos}
 use lib.ListN.{getD}
 use Rattle.composing.proofs.Puts.{put-same}
@@ -11,24 +10,19 @@ use Rattle.reasons.proofs.put_totals_reason.Tie as tie
 returns : tie.Need-returns
 returns c =
     let j = c .before .before .before .before .before .before .first-below in
-    put-same (column-reason (c .before .before .before .before .before .before .before .before .args .first) (λ j. getD (c .before .before .before .before .before .before .before .before .args .columns .now) j (pos 0)) (λ h. getD (c .before .before .before .before .before .before .before .before .args .diagonals .now) h (pos 0)) (c .before .before .before .before .before .before .before .before .args .k) (j .result) (j .ensures) (c .before .before .before .before .before .if1 .taken)) (c .before .before .put-year-reason .ensures)
-
-add-put-year-reason : tie.Need-add-put-year-reason
-add-put-year-reason c =
-    let s = c .before .before .before .before .before .before .before in
-    omega (arith, s .pre .0, s .pre .1, c .before .before .if2 .taken)
+    put-same (column-reason (λ j. getD (c .before .before .before .before .before .before .before .before .args .columns .now) j (pos 0)) (λ h. getD (c .before .before .before .before .before .before .before .before .args .diagonals .now) h (pos 0)) (c .before .before .before .before .before .before .before .before .args .k) (j .result) (j .ensures) (c .before .before .before .before .before .if1 .taken)) (c .before .before .put-year-reason .ensures)
 
 returns-2 : tie.Need-returns-2
 returns-2 c =
     let j = c .before .before .before .before .before .before .before .before .first-below in
     let h = c .before .before .before .before .before .before .first-below2 in
-    put-same (diagonal-reason (c .before .before .before .before .before .before .before .before .before .before .args .first) (λ j. getD (c .before .before .before .before .before .before .before .before .before .before .args .columns .now) j (pos 0)) (λ h. getD (c .before .before .before .before .before .before .before .before .before .before .args .diagonals .now) h (pos 0)) (c .before .before .before .before .before .before .before .before .before .before .args .k) (j .result) (h .result) (j .ensures) (c .before .before .before .before .before .before .before .if1 .left) (h .ensures) (c .before .before .before .before .before .if2 .taken)) (c .before .before .put-year-reason2 .ensures)
+    put-same (diagonal-reason (λ j. getD (c .before .before .before .before .before .before .before .before .before .before .args .columns .now) j (pos 0)) (λ h. getD (c .before .before .before .before .before .before .before .before .before .before .args .diagonals .now) h (pos 0)) (c .before .before .before .before .before .before .before .before .before .before .args .k) (j .result) (h .result) (j .ensures) (c .before .before .before .before .before .before .before .if1 .left) (h .ensures) (c .before .before .before .before .before .if2 .taken)) (c .before .before .put-year-reason2 .ensures)
 
 returns-3 : tie.Need-returns-3
 returns-3 c =
     let j = c .before .before .before .before .before .before .before .before .first-below in
     let h = c .before .before .before .before .before .before .first-below2 in
-    put-same (sum-reason (c .before .before .before .before .before .before .before .before .before .before .args .first) (λ j. getD (c .before .before .before .before .before .before .before .before .before .before .args .columns .now) j (pos 0)) (λ h. getD (c .before .before .before .before .before .before .before .before .before .before .args .diagonals .now) h (pos 0)) (c .before .before .before .before .before .before .before .before .before .before .args .k) (j .result) (h .result) (j .ensures) (c .before .before .before .before .before .before .before .if1 .left) (h .ensures) (c .before .before .before .before .before .if2 .left)) (c .before .before .put-bytes .ensures)
+    put-same (sum-reason (λ j. getD (c .before .before .before .before .before .before .before .before .before .before .args .columns .now) j (pos 0)) (λ h. getD (c .before .before .before .before .before .before .before .before .before .before .args .diagonals .now) h (pos 0)) (c .before .before .before .before .before .before .before .before .before .before .args .k) (j .result) (h .result) (j .ensures) (c .before .before .before .before .before .before .before .if1 .left) (h .ensures) (c .before .before .before .before .before .if2 .left)) (c .before .before .put-bytes .ensures)
 
 pub put-totals-reason-spec : {M : Type 1} → statement M
 put-totals-reason-spec =
@@ -42,7 +36,6 @@ put-totals-reason-spec =
     returns
     (λ c κs. search needs)
     (λ c. search needs)
-    add-put-year-reason
     (λ c κs. search needs)
     (λ c. search needs)
     returns-2

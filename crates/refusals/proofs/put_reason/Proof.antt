@@ -13,14 +13,14 @@ use Rattle.refusals.proofs.put_reason.Tie as tie
 
 read-again-requires : tie.Need-read-again-requires
 read-again-requires c κs =
-    let passed = c .before .before .before .before .before .before .before .before .before .pre .1 .0 in
+    let passed = c .before .before .before .before .before .before .before .before .before .pre .0 in
     (passed .0, (passed .1 .0, (passed .1 .1, (refl, (refl, (refl, (refl, refl)))))))
 
 abbrev start : tie.After-read-again → tie.Start
 start c = c .before .before .before .before .before .before .before .before .before .before
 
 last-year-of-requires : tie.Need-last-year-of-requires
-last-year-of-requires c κs = let s = start c in years-known (s .args .packed .now) (opening-yes (s .args .packed .now) (s .pre .1 .0 .0) .0) .0
+last-year-of-requires c κs = let s = start c in years-known (s .args .packed .now) (opening-yes (s .args .packed .now) (s .pre .0 .0) .0) .0
 
 year-is : (c : tie.After-last-year-of) → c .last-year-of .result ≡ figuresOf (start (c .before) .args .packed .now) .k
 unfolding figuresOf
@@ -32,12 +32,7 @@ put-development-reason-requires c κs =
     let year = then .before in
     let s = start (year .before) in
     let read = year .before .read-again .ensures in
-    ready (figuresOf (s .args .packed .now)) (s .pre .1 .1 (then .if1 .taken)) _ _ _ (year-is year) (year .last-year-of .ensures .1) (read .1 .1 .1 .1 .1 .0) (read .1 .1 .1 .1 .0) (s .pre .1 .0 .1 .1)
-
-put-totals-reason-requires : tie.Need-put-totals-reason-requires
-put-totals-reason-requires c κs =
-    let year = c .before .before .before .before in
-    (year .last-year-of .ensures .1, start (year .before) .pre .0)
+    ready (figuresOf (s .args .packed .now)) (s .pre .1 (then .if1 .taken)) _ _ _ (year-is year) (year .last-year-of .ensures .1) (read .1 .1 .1 .1 .1 .0) (read .1 .1 .1 .1 .0) (s .pre .0 .1 .1)
 
 returns : tie.Need-returns
 unfolding developmentOf
@@ -46,7 +41,7 @@ returns c =
     let year = then .before in
     let s = start (year .before) in
     let read = year .before .read-again .ensures in
-    let same = development-is (figuresOf (s .args .packed .now)) (s .pre .1 .1 (then .if1 .taken)) _ _ _ (year-is year) (year .last-year-of .ensures .1) (read .1 .1 .1 .1 .1 .0) (read .1 .1 .1 .1 .0) in
+    let same = development-is (figuresOf (s .args .packed .now)) (s .pre .1 (then .if1 .taken)) _ _ _ (year-is year) (year .last-year-of .ensures .1) (read .1 .1 .1 .1 .1 .0) (read .1 .1 .1 .1 .0) in
     rw (then .if1 .taken) (put-same same (c .before .before .put-development-reason .ensures))
 
 returns-2 : tie.Need-returns-2
@@ -56,7 +51,7 @@ returns-2 c =
     let year = else .before in
     let s = start (year .before) in
     let totals = year .before .read-again .ensures .1 .1 .1 .1 .1 .1 in
-    let same = reason-is (s .args .first) (squareOf (figuresOf (s .args .packed .now))) _ _ _ _ (year-is year) (year .last-year-of .ensures .1) (totals .0) (totals .1) in
+    let same = reason-is (squareOf (figuresOf (s .args .packed .now))) _ _ _ _ (year-is year) (year .last-year-of .ensures .1) (totals .0) (totals .1) in
     rw (else .if1 .left) (put-same same (c .before .before .put-totals-reason .ensures))
 
 pub put-reason-spec : {M : Type 1} → statement M
@@ -68,6 +63,6 @@ put-reason-spec =
     put-development-reason-requires
     (λ c. search needs)
     returns
-    put-totals-reason-requires
+    (λ c κs. search needs)
     (λ c. search needs)
     returns-2)

@@ -5,7 +5,6 @@ use borrow.Author.Tests.{ne-eqb}
 use Rattle.rules.specs.Results.{mostEntries}
 use Rattle.rules.specs.Engine.{runAnswer}
 use Rattle.reports.specs.Report.{reportOf}
-use Rattle.reports.proofs.Asked.{some-known, inputs-passed}
 use borrow.Author.Needs.{needs}
 use Rattle.reports.proofs.put_run.Statement.{statement}
 use Rattle.reports.proofs.put_run.Tie as tie
@@ -14,9 +13,7 @@ put-refused-page-requires : tie.Need-put-refused-page-requires
 put-refused-page-requires c κs =
     let run = c .before .before .before .doonamurk-run in
     let s = c .before .before .before .before .before .before .before .before in
-    let year = s .args .year in
-    let packed = s .args .packed .now in
-    (s .pre .0, (s .pre .1, (some-known year packed (run .result) (sym (run .ensures .0)), (inputs-passed year packed (run .result) (sym (run .ensures .0)), sym (run .ensures .0)))))
+    (s .pre .0, (s .pre .1, sym (run .ensures .0)))
 
 returns : tie.Need-returns
 unfolding reportOf
