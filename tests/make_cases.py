@@ -960,7 +960,7 @@ def more_refused():
     yield "04_reporting", 2026, but(("b", 1, million + 1)), "reporting share of development year 1", None
     yield "04_weight", 2026, but(("w", 0, million + 1)), "reporting weight", None
     yield "04_ulae", 2026, but(("U", 1, most + 1)), "ULAE total of payment year 1", 0
-    yield "04_tail", 2026, but(("a", 0, most + 1)), "amount after the last development year", None
+    yield "04_tail", 2026, but(("a", 0, most + 1)), "amount still to be paid for the first origin year", None
     # an increment, an index and the amount are out of range; and with 16 years the increment of row 1 in development year 14 and a later one of row 3
     yield "04_three_fields", 2026, but(("P", 5, 0), ("e", 0, 0), ("a", 0, 2**34 - 1), minus=[5]), "paid increment of origin year 2, development year 0", None
     longest, P = figures(15, smallest), places(15)["P"]

@@ -493,40 +493,40 @@ QUESTIONS = {
         "Shares are given in millionths."),
     6: ("Is every cumulative payment from 0 to 100 000 000 000?",
         "What was paid up to there is below zero or too large.",
-        "A recovery larger than all payments before it, or a misplaced sign."),
+        "A recovery larger than all payments before it, a misplaced sign, or amounts in too small a unit."),
     7: ("Does every column and every diagonal of averages add up to at least 0, and do all to at most 10 000 000.00?",
         "This column, this diagonal, or the whole triangle adds up to a number outside.",
-        "Recoveries above payments; or exposures in a smaller unit than claims."),
+        "Recoveries above payments; or exposures in a larger unit than claims."),
     8: ("Is T_h less v_h at least 0.01 for every development year h from 1 to k?",
-        "Beside this development year the separation finds nothing left: of all that was paid in development years up to it, by payment years from it on, nothing remains once its own column is taken off.",
+        "Beside this development year the separation finds nothing left: of all averages in development years up to it, in payment years from it on, nothing above zero remains once its own column is taken off.",
         "Look first whether the latest payment year is missing or was entered as zeros."),
     9: ("Is every running share at least a billionth?",
         "The shares up to this development year together round to nothing.",
-        "Almost everything is paid late. Begin at a later development year."),
+        "Beside later ones the averages of the first development year are very small, those of the first origin year aside. Begin at a later development year."),
     10: ("Is every level at most 10 000 000.00?",
         "The level of this payment year is too large.",
-        "Almost everything is paid late. Begin at a later development year."),
+        "Large payments for the claims of this payment year, or a small running share: look at the exposures, and whether almost everything is paid late."),
     11: ("Is every ultimate at most 1 000 000 000 000?",
         "It is larger.",
         "Indices are cumulative: each is against the latest year, not the year before."),
     12: ("Are the payments at least 1 in total, and the ULAE totals at most that?",
-        "ULAE paid is more than the payments, or nothing is paid.",
+        "ULAE paid is more than the payments.",
         "Units of the two may differ."),
     13: ("Has the chain ladder something to develop from in every year, and is no factor above 50?",
-        "The cumulatives at this development year add up to nothing, or those of the next are more than 50 times as large.",
-        "A first development year without payments. Take two years together, or begin a year later."),
+        "Over the origin years that have the next development year, the cumulatives at this one add up to nothing, or those at the next are more than 50 times as large.",
+        "A development year without payments, or with very small ones. Take two years together, or begin a year later."),
     14: ("Is every completed cumulative at most 100 000 000 000?",
         "The chain ladder's cumulative there is larger.",
-        "A large factor from a small base."),
+        "A large factor, or large payments."),
     15: ("Is the paid total of the latest payment year at least 1?",
         "It is less, and the growth of the book cannot be measured.",
         "Recoveries in the latest year."),
     16: ("Is the divisor above 0?",
-        "It is 0: the weight is 1, and what is reported in the latest year is less than a millionth of what is paid.",
+        "It is 0: the weight is 1, and what is reported in the latest year, rounded down, is less than a millionth of what is paid in it.",
         "The reporting shares, and a weight of 1."),
     17: ("Is the corrected ratio at most 1?",
         "It is larger.",
-        "The reporting shares, a weight near 1, and ULAE totals near the payments."),
+        "The reporting shares, the weight, and ULAE totals near the payments."),
     18: ("Is the average amount after the last year at most 10 000 000.00?",
         "It is larger.",
         "The amount is for the first origin year alone."),
@@ -572,7 +572,7 @@ def field_refusal(record, first):
         "b": f"reporting share of development year {place}",
         "w": "reporting weight",
         "U": f"ULAE total of payment year {first + place}",
-        "a": "amount after the last development year",
+        "a": "amount still to be paid for the first origin year",
     }
     decimals = 6 if name in ("e", "b", "w") else 0
     return words[name], [("The field", Cell(number, decimals)), ("The least it may be", Cell(least, decimals)), ("The largest it may be", Cell(most, decimals))]
@@ -611,7 +611,7 @@ def why(number, record, first):
             here, after = (sum(C[i][j] for i in range(k - h)) for j in (h, h + 1))
             if here < 1 or model.M * after // here > 50 * model.M:
                 factor = [("Development factor", Cell(model.M * after // here, 6))] if here > 0 else []
-                return development(h), [("Sum at this development year, origin years with a next one", Cell(here)), ("Sum at the next development year", Cell(after))] + factor
+                return development(h), [("Sum at this development year, over origin years that have the next", Cell(here)), ("Sum at the next, over the same origin years", Cell(after))] + factor
     s, v, d, T = found(P, n)
     if number == 7:
         below = [(development(j), v[j]) for j in years if v[j] < 0] + [(payment(h), d[h]) for h in years if d[h] < 0]
@@ -620,7 +620,7 @@ def why(number, record, first):
         return place, [("Sum of averages", Cell(total, 2))]
     if number == 8:
         h = next(h for h in years if h > 0 and T[h] - v[h] < 1)
-        return development(h), [("T_h: averages in columns 0 to h, payment years from h on", Cell(T[h], 2)), ("v_h: averages in column h", Cell(v[h], 2)),
+        return development(h), [("T_h: averages in columns 0 to h, without the h earliest payment years", Cell(T[h], 2)), ("v_h: averages in column h", Cell(v[h], 2)),
                                 ("T_h less v_h", Cell(T[h] - v[h], 2))]
     A = [S]
     for h in range(k, 0, -1):
@@ -636,7 +636,7 @@ def why(number, record, first):
     t = [model.average(a, n[0])]
     if number == 18:
         assert t[0] > S
-        return origin(0), [("Amount after the last development year", Cell(a)), ("Claims", Cell(n[0])), ("Average, a claim", Cell(t[0], 2))]
+        return origin(0), [("Still to be paid after the last development year", Cell(a)), ("Claims", Cell(n[0])), ("Average, a claim", Cell(t[0], 2))]
     t = [t[0] * e[i] // e[0] for i in years]
     if number == 19:
         i = next(i for i in years if t[i] > 5 * S)
@@ -694,7 +694,7 @@ def refused_page(year, record, html=False, title=b"", first=0):
     else:
         at = f" at {place}" if place else ""
         made.put(f"\nNo figures are given for this record. Question {number} was answered no{at}:\n{asked}\n{said}\n")
-    made.table("The figures", ["figure", "a claim" if number in (7, 8) else "value"], [label for label, _ in figures], [[cell] for _, cell in figures])
+    made.table("The question's figures", ["figure", "a claim" if number in (7, 8) else "value"], [label for label, _ in figures], [[cell] for _, cell in figures])
     made.put(f"<p>{advice}</p>\n" if html else f"\n{advice}\n")
     made.end()
     if number > 5:

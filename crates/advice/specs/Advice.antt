@@ -14,7 +14,7 @@ otherSaid = ascii "No question has this number."
 abbrev pub otherAdvice : List ℕ
 otherAdvice = ascii "Look at the record."
 
--- the questions by their numbers
+-- the questions by their numbers, in the units of the report
 unfoldable pub askedTexts : List (List ℕ)
 askedTexts =
     otherAsked
@@ -42,7 +42,7 @@ askedTexts =
 unfoldable pub askedText : ℕ → List ℕ
 askedText n = getD askedTexts n otherAsked
 
--- what is not so, in the units of the report
+-- what is not so
 unfoldable pub saidTexts : List (List ℕ)
 saidTexts =
     otherSaid
@@ -53,15 +53,15 @@ saidTexts =
     ∷ ascii "They sum to another number."
     ∷ ascii "What was paid up to there is below zero or too large."
     ∷ ascii "This column, this diagonal, or the whole triangle adds up to a number outside."
-    ∷ ascii "Beside this development year the separation finds nothing left: of all that was paid in development years up to it, by payment years from it on, nothing remains once its own column is taken off."
+    ∷ ascii "Beside this development year the separation finds nothing left: of all averages in development years up to it, in payment years from it on, nothing above zero remains once its own column is taken off."
     ∷ ascii "The shares up to this development year together round to nothing."
     ∷ ascii "The level of this payment year is too large."
     ∷ ascii "It is larger."
-    ∷ ascii "ULAE paid is more than the payments, or nothing is paid."
-    ∷ ascii "The cumulatives at this development year add up to nothing, or those of the next are more than 50 times as large."
+    ∷ ascii "ULAE paid is more than the payments."
+    ∷ ascii "Over the origin years that have the next development year, the cumulatives at this one add up to nothing, or those at the next are more than 50 times as large."
     ∷ ascii "The chain ladder's cumulative there is larger."
     ∷ ascii "It is less, and the growth of the book cannot be measured."
-    ∷ ascii "It is 0: the weight is 1, and what is reported in the latest year is less than a millionth of what is paid."
+    ∷ ascii "It is 0: the weight is 1, and what is reported in the latest year, rounded down, is less than a millionth of what is paid in it."
     ∷ ascii "It is larger."
     ∷ ascii "It is larger."
     ∷ ascii "Raised by the indices it is larger."
@@ -79,18 +79,18 @@ adviceTexts =
     ∷ ascii "Lend a longer list."
     ∷ ascii "A zero paid amount with a minus sign is out of range too."
     ∷ ascii "Shares are given in millionths."
-    ∷ ascii "A recovery larger than all payments before it, or a misplaced sign."
-    ∷ ascii "Recoveries above payments; or exposures in a smaller unit than claims."
+    ∷ ascii "A recovery larger than all payments before it, a misplaced sign, or amounts in too small a unit."
+    ∷ ascii "Recoveries above payments; or exposures in a larger unit than claims."
     ∷ ascii "Look first whether the latest payment year is missing or was entered as zeros."
-    ∷ ascii "Almost everything is paid late. Begin at a later development year."
-    ∷ ascii "Almost everything is paid late. Begin at a later development year."
+    ∷ ascii "Beside later ones the averages of the first development year are very small, those of the first origin year aside. Begin at a later development year."
+    ∷ ascii "Large payments for the claims of this payment year, or a small running share: look at the exposures, and whether almost everything is paid late."
     ∷ ascii "Indices are cumulative: each is against the latest year, not the year before."
     ∷ ascii "Units of the two may differ."
-    ∷ ascii "A first development year without payments. Take two years together, or begin a year later."
-    ∷ ascii "A large factor from a small base."
+    ∷ ascii "A development year without payments, or with very small ones. Take two years together, or begin a year later."
+    ∷ ascii "A large factor, or large payments."
     ∷ ascii "Recoveries in the latest year."
     ∷ ascii "The reporting shares, and a weight of 1."
-    ∷ ascii "The reporting shares, a weight near 1, and ULAE totals near the payments."
+    ∷ ascii "The reporting shares, the weight, and ULAE totals near the payments."
     ∷ ascii "The amount is for the first origin year alone."
     ∷ ascii "The first index may be very small."
     ∷ []

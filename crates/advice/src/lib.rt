@@ -50,15 +50,15 @@ This field is below or above what it may be, or it is a zero with a minus sign.
 They sum to another number.
 What was paid up to there is below zero or too large.
 This column, this diagonal, or the whole triangle adds up to a number outside.
-Beside this development year the separation finds nothing left: of all that was paid in development years up to it, by payment years from it on, nothing remains once its own column is taken off.
+Beside this development year the separation finds nothing left: of all averages in development years up to it, in payment years from it on, nothing above zero remains once its own column is taken off.
 The shares up to this development year together round to nothing.
 The level of this payment year is too large.
 It is larger.
-ULAE paid is more than the payments, or nothing is paid.
-The cumulatives at this development year add up to nothing, or those of the next are more than 50 times as large.
+ULAE paid is more than the payments.
+Over the origin years that have the next development year, the cumulatives at this one add up to nothing, or those at the next are more than 50 times as large.
 The chain ladder's cumulative there is larger.
 It is less, and the growth of the book cannot be measured.
-It is 0: the weight is 1, and what is reported in the latest year is less than a millionth of what is paid.
+It is 0: the weight is 1, and what is reported in the latest year, rounded down, is less than a millionth of what is paid in it.
 It is larger.
 It is larger.
 Raised by the indices it is larger.
@@ -80,18 +80,18 @@ The file may be cut, or be of an older layout.
 Lend a longer list.
 A zero paid amount with a minus sign is out of range too.
 Shares are given in millionths.
-A recovery larger than all payments before it, or a misplaced sign.
-Recoveries above payments; or exposures in a smaller unit than claims.
+A recovery larger than all payments before it, a misplaced sign, or amounts in too small a unit.
+Recoveries above payments; or exposures in a larger unit than claims.
 Look first whether the latest payment year is missing or was entered as zeros.
-Almost everything is paid late. Begin at a later development year.
-Almost everything is paid late. Begin at a later development year.
+Beside later ones the averages of the first development year are very small, those of the first origin year aside. Begin at a later development year.
+Large payments for the claims of this payment year, or a small running share: look at the exposures, and whether almost everything is paid late.
 Indices are cumulative: each is against the latest year, not the year before.
 Units of the two may differ.
-A first development year without payments. Take two years together, or begin a year later.
-A large factor from a small base.
+A development year without payments, or with very small ones. Take two years together, or begin a year later.
+A large factor, or large payments.
 Recoveries in the latest year.
 The reporting shares, and a weight of 1.
-The reporting shares, a weight near 1, and ULAE totals near the payments.
+The reporting shares, the weight, and ULAE totals near the payments.
 The amount is for the first origin year alone.
 The first index may be very small.
 ",

@@ -29,7 +29,7 @@ use Rattle.separation.proofs.FactorQuestions.{answer-none}
 use Rattle.reasons.proofs.Counted.{leading-same, counted, stops-below}
 use Rattle.finding.specs.Places.{paymentYear, found}
 use Rattle.triangle_findings.proofs.Totals.{diagonal-at}
-use Rattle.factor_findings.specs.Findings.{refusedLevel, levelFound, levelFinding}
+use Rattle.factor_findings.specs.FactorFindings.{refusedLevel, levelFound, levelFinding}
 use Rattle.factor_findings.proofs.Running.{shares-sum}
 
 -- the year that question 10 says no of, of any levels

@@ -15,7 +15,7 @@ use Rattle.separation.proofs.Steps.{running-below, running-least}
 use Rattle.entries.proofs.Leading.{leading-stop}
 use Rattle.reasons.proofs.Counted.{counted, stops-below}
 use Rattle.finding.specs.Places.{developmentYear, found}
-use Rattle.factor_findings.specs.Findings.{refusedRunning, runningFinding}
+use Rattle.factor_findings.specs.FactorFindings.{refusedRunning, runningFinding}
 
 module _ (q : List (List ℤ)) (k : ℕ) where
   -- no running share is above that of the next year

@@ -17,7 +17,7 @@ ghost use Rattle.rules.specs.Record.{figuresOf};
 ghost use Rattle.rules.specs.Separation.{billion};
 ghost use Rattle.rules.specs.Results.{mostEntries, squareOf};
 ghost use Rattle.rules.specs.Engine.{runAnswer};
-ghost use Rattle.factor_findings.specs.Findings.{runningFinding, refusedLevel, levelFound, levelFinding};
+ghost use Rattle.factor_findings.specs.FactorFindings.{runningFinding, refusedLevel, levelFound, levelFinding};
 
 // The finding of question 9. The running shares are the less the earlier the year, so where one is below 1 that of year 0 is, and it is 0.
 pub fn running_finding(year: u64, packed: &[u8]) -> Finding

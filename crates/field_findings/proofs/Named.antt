@@ -23,7 +23,7 @@ use Rattle.layout.proofs.RecordSizes.{years-lt}
 use Rattle.opening.proofs.Opened.{WholeRecord, whole-record, years-known}
 use Rattle.reading.proofs.Ranges.{in-ranges, passed-first}
 use Rattle.outcomes.proofs.Said.{order, first-byte-no, first-byte-yes, length-no, length-yes, ranges-no, shares-no}
-use Rattle.field_findings.specs.Fields.{fieldPasses, rowPasses, firstRow, firstField, spotOf, findingAt, fieldFinding}
+use Rattle.field_findings.specs.Fields.{fieldPasses, rowInRange, firstRow, firstField, spotOf, findingAt, fieldFinding}
 use Rattle.field_findings.proofs.Placed.{by-row, row-is}
 use Rattle.field_findings.proofs.Cells.{CellAt, cell-at}
 
@@ -33,28 +33,28 @@ pub record FieldFound (s : List ℕ) (r m : ℕ) : Type 0 where
   pub few : r < 8
   pub inside : m < countOf (lastYearOf s) r
   pub no : fieldPasses s r m ≡ false
-  pub rows-before : every (rowPasses s) (below r) ≡ true
+  pub rows-before : every (rowInRange s) (below r) ≡ true
   pub fields-before : every (fieldPasses s r) (below m) ≡ true
 
 module _ (s : List ℕ) (h : WholeRecord s) where
   -- the row of k itself is in range
-  pub years-pass : rowPasses s 0 ≡ true
+  pub years-pass : rowInRange s 0 ≡ true
   years-pass = row-is s h 0 (omega arith) ∙ passed-first s h 0 (omega arith)
 
   -- where question 4 says no, one of the eight rows is not
-  rows-no : inRanges s ≡ false → every (rowPasses s) (below 8) ≡ false
-  rows-no e = go (every (rowPasses s) (below 8)) refl
+  rows-no : inRanges s ≡ false → every (rowInRange s) (below 8) ≡ false
+  rows-no e = go (every (rowInRange s) (below 8)) refl
     where
-      go : (b : Bool) → every (rowPasses s) (below 8) ≡ b → every (rowPasses s) (below 8) ≡ false
+      go : (b : Bool) → every (rowInRange s) (below 8) ≡ b → every (rowInRange s) (below 8) ≡ false
       go false f = f
-      go true f = absurd (no-both (inRanges s) (in-ranges s h (λ j l. sym (row-is s h j l) ∙ every-upTo (rowPasses s) (λ r. r) 8 j f l)) e)
+      go true f = absurd (no-both (inRanges s) (in-ranges s h (λ j l. sym (row-is s h j l) ∙ every-upTo (rowInRange s) (λ r. r) 8 j f l)) e)
 
   pub field-found : inRanges s ≡ false → FieldFound s (firstRow s) (firstField s (firstRow s))
-  unfolding firstRow firstField rowPasses
+  unfolding firstRow firstField rowInRange
   field-found e =
       let r = firstRow s in
-      let rows = counted (rowPasses s) 8 in
-      let few = stops-below (rowPasses s) 8 (rows-no e) in
+      let rows = counted (rowInRange s) 8 in
+      let few = stops-below (rowInRange s) 8 (rows-no e) in
       let fields = counted (fieldPasses s r) (countOf (lastYearOf s) r) in
       let inside = stops-below (fieldPasses s r) (countOf (lastYearOf s) r) (rows .stop few) in
       record {
@@ -67,7 +67,7 @@ module _ (s : List ℕ) (h : WholeRecord s) where
       }
     where
       from-one : Dec (firstRow s ≡ 0) → 1 ≤ firstRow s
-      from-one (yes z) = absurd (no-both (rowPasses s 0) years-pass (rw z at (counted (rowPasses s) 8 .stop (stops-below (rowPasses s) 8 (rows-no e)))))
+      from-one (yes z) = absurd (no-both (rowInRange s 0) years-pass (rw z at (counted (rowInRange s) 8 .stop (stops-below (rowInRange s) 8 (rows-no e)))))
       from-one (no z) = omega arith
 
 -- the row and the column of a field are below 16

@@ -19,7 +19,7 @@ use Rattle.reading.proofs.Reached.{rowFits}
 use Rattle.reading.proofs.ListsRead.{codes}
 use Rattle.reading.proofs.Ranges.{fits, within}
 use Rattle.field_findings.specs.declared.Row.{Row}
-use Rattle.field_findings.specs.Fields.{kindOf, codeAt, fieldPasses, rowPasses, leastOf}
+use Rattle.field_findings.specs.Fields.{kindOf, codeAt, fieldPasses, rowInRange, leastOf}
 use Rattle.field_findings.specs.Rows.{rowOf, passesIn, valueIn, leastIn}
 
 -- what holds of each of the rows 0 to 7
@@ -107,8 +107,8 @@ module _ (s : List ℕ) (h : WholeRecord s) where
   field-is r l m i = rw (code-is r l m i) (sym (passes-is k _ r l))
 
   -- every field of a row
-  pub row-is : (r : ℕ) → r < 8 → rowPasses s r ≡ fits s r
-  unfolding rowPasses fieldPasses rowFits rowAt rowOf
+  pub row-is : (r : ℕ) → r < 8 → rowInRange s r ≡ fits s r
+  unfolding rowInRange fieldPasses rowFits rowAt rowOf
   row-is r l =
       let w = rowOf k r .bits in
       let f : ℕ → ℕ = λ i. fieldAt s (rowOf k r .at + w * i) w in

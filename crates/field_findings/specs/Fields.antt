@@ -38,12 +38,12 @@ unfoldable pub fieldPasses : List ℕ → ℕ → ℕ → Bool
 fieldPasses s r m = bitsInRange (kindOf (lastYearOf s) r) (codeAt s r m)
 
 -- whether every field of row r is
-unfoldable pub rowPasses : List ℕ → ℕ → Bool
-rowPasses s r = every (fieldPasses s r) (below (countOf (lastYearOf s) r))
+unfoldable pub rowInRange : List ℕ → ℕ → Bool
+rowInRange s r = every (fieldPasses s r) (below (countOf (lastYearOf s) r))
 
 -- the first row with a field that is not, and the first such field of row r; how many there are where all are in range
 unfoldable pub firstRow : List ℕ → ℕ
-firstRow s = leading (rowPasses s) 8
+firstRow s = leading (rowInRange s) 8
 
 unfoldable pub firstField : List ℕ → ℕ → ℕ
 firstField s r = leading (fieldPasses s r) (countOf (lastYearOf s) r)
@@ -55,7 +55,7 @@ cellRow k m = leading (λ i. leb (rowStart k (i + 1)) m) k
 abbrev pub spot : ℕ → ℕ → Spot
 spot row column = record { row = row; column = column }
 
--- the year or years of field m of row r: an increment is that of cell i, j and a reporting share that of development year m; the others are in a column, or alone and first
+-- the year or years of field m of row r: an increment is that of cell i, j and a reporting share that of development year m; of the others the row is m, which is 0 where there is one alone
 unfoldable pub spotOf : ℕ → ℕ → ℕ → Spot
 spotOf k r m =
     cond (eqb r 2) (spot (cellRow k m) (m - rowStart k (cellRow k m)))

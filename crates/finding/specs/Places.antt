@@ -19,7 +19,7 @@ paymentYear = 3
 abbrev pub cell : ℕ
 cell = 4
 
--- a field of the record: this and its row in the record's layout, from 1 for the exposures to 7 for the amount still to be paid, together
+-- a field of the record: this plus its row in the record's layout, from 1 for the exposures to 7 for the amount still to be paid; so no field is the number of a cell
 abbrev pub field : ℕ
 field = 4
 

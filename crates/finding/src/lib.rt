@@ -4,8 +4,8 @@ ghost use Prim.Native.Nat.{_<_, _^_};
 ghost use lib.IntN.{pos};
 ghost use Rattle.finding.specs.Places.{found};
 
-// The kind of place, its row and its column, and up to three figures, zeros past them. An origin, payment or future year is a row, a development year a column. A field of
-// the record has the kind FIELD and its row in the record's layout together.
+// The kind of place, its row and its column, and up to three figures, zeros past them. An origin or payment year is a row, a development year a column; index e_t is in
+// row t - 1. A field of the record has the kind FIELD plus its row in the record's layout, which is at least 1.
 pub struct Finding {
     pub place: u64,
     pub row: usize,

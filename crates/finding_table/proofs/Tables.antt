@@ -3,7 +3,7 @@ use Prim.Native.Nat.{ℕ}
 use borrow.Author.Tests.{ne-eqb}
 use mathlib.Core.Path.{_≡_}
 use mathlib.Core.Bool.{Bool}
-use mathlib.Core.List.{List, []}
+use mathlib.Core.List.{[]}
 use Rattle.finding.specs.declared.Finding.{Finding}
 use Rattle.finding_table.specs.FindingTable.{fieldTable, developmentTable, givenTable, lengthTable, sharesTable, cumulativeTable, totalsTable, restTable, runningTable, levelTable, tailTable, tailAverageTable, ultimateTable, totalTable, latestTable, divisorTable, correctedTable, completedTable, recordTable, triangleTable, reserveTable}
 

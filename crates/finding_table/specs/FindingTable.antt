@@ -1,6 +1,6 @@
 -- The table of the figures where a question says no. Assumes nothing.
 use Prim.Native.Nat.{ℕ, _+_}
-use mathlib.Core.Bool.{Bool, true, false, cond}
+use mathlib.Core.Bool.{Bool, false, cond}
 use mathlib.Core.List.{List, [], _∷_, _++_}
 use lib.Dec.{eqb}
 use lib.IntN.{pos}
@@ -31,10 +31,10 @@ ratio = styled percentage 4
 
 -- the words over the figures, of amounts and others, and of averages alone
 abbrev pub valueWords : List ℕ
-valueWords = ascii "The figures\nfigure\nvalue\n"
+valueWords = ascii "The question's figures\nfigure\nvalue\n"
 
 abbrev pub claimWords : List ℕ
-claimWords = ascii "The figures\nfigure\na claim\n"
+claimWords = ascii "The question's figures\nfigure\na claim\n"
 
 -- a table of so many of the three figures, each with its label and in its style
 abbrev pub figureShape : ℕ → Shape
@@ -56,7 +56,7 @@ fieldTable html f =
 -- the sums of a development year and of the next, and the factor where the first is above 0
 unfoldable pub sumsTable : Bool → ℕ → Finding → List ℕ
 sumsTable html rows f =
-    figureTable html valueWords (ascii "Sum at this development year, origin years with a next one\nSum at the next development year\nDevelopment factor\n") rows amount amount millionths f
+    figureTable html valueWords (ascii "Sum at this development year, over origin years that have the next\nSum at the next, over the same origin years\nDevelopment factor\n") rows amount amount millionths f
 
 unfoldable pub developmentTable : Bool → Finding → List ℕ
 developmentTable html f = cond (ltZ (f .one) (pos 1)) (sumsTable html 2 f) (sumsTable html 3 f)
@@ -83,7 +83,7 @@ totalsTable html f = figureTable html claimWords (ascii "Sum of averages\n") 1 h
 
 -- 8: T_h, v_h and what is left
 unfoldable pub restTable : Bool → Finding → List ℕ
-restTable html f = figureTable html claimWords (ascii "T_h: averages in columns 0 to h, payment years from h on\nv_h: averages in column h\nT_h less v_h\n") 3 hundredths hundredths hundredths f
+restTable html f = figureTable html claimWords (ascii "T_h: averages in columns 0 to h, without the h earliest payment years\nv_h: averages in column h\nT_h less v_h\n") 3 hundredths hundredths hundredths f
 
 -- 9: a running share
 unfoldable pub runningTable : Bool → Finding → List ℕ
@@ -95,7 +95,7 @@ levelTable html f = figureTable html valueWords (ascii "Diagonal, a claim\nRunni
 
 -- 18: the average amount after the last year
 unfoldable pub tailTable : Bool → Finding → List ℕ
-tailTable html f = figureTable html valueWords (ascii "Amount after the last development year\nClaims\nAverage, a claim\n") 3 amount amount hundredths f
+tailTable html f = figureTable html valueWords (ascii "Still to be paid after the last development year\nClaims\nAverage, a claim\n") 3 amount amount hundredths f
 
 -- 19: that of an origin year, and the indices that carry it there
 unfoldable pub tailAverageTable : Bool → Finding → List ℕ

@@ -1,2 +1,4 @@
 pub mod ByNumber
+pub mod Numbers
 pub mod No
+pub mod There

@@ -1,11 +1,12 @@
--- Whether a question says yes at a place of the record s, by its own words about that place (document 01, "Questions in their order"). Assumes nothing.
-use Prim.Native.Nat.{ℕ, _+_, _-_}
+-- Which places of the record s a question asks about, and whether it says yes there, by its own words about that place (document 01, "Questions in their order"). Assumes nothing.
+use Prim.Native.Nat.{ℕ, _+_, _-_, _≤_, _<_}
+use mathlib.Core.Path.{_≡_}
 use mathlib.Core.Bool.{Bool, true, cond}
 use mathlib.Core.List.{List}
 use lib.Dec.{eqb, leb}
 use lib.IntN.{ℤ, pos}
 use lib.Signed.{leZ}
-use Rattle.rules.specs.Record.{Figures, lastYearOf, figuresOf}
+use Rattle.rules.specs.Record.{Figures, countOf, lastYearOf, figuresOf}
 use Rattle.rules.specs.Reading.{hasLastYear, hasLength, sharesSum}
 use Rattle.rules.specs.Triangle.{rowStart, columnTotal, diagonalTotal, allTotal, mostCumulative}
 use Rattle.rules.specs.Separation.{billion, runningOf, levelOf}
@@ -16,9 +17,9 @@ use Rattle.rules.specs.Growth.{latestPaidPasses, divisorPasses, correctedRatio,
 use Rattle.rules.specs.Ladder.{developed, base, factorPasses, completed}
 use Rattle.rules.specs.Results.{squareOf, firstTailAverageOf, paidIn, provisionsIn, developmentIn, plainRatioIn, latestPaidIn, divisorIn}
 use Rattle.finding.specs.declared.Finding.{Finding}
-use Rattle.finding.specs.Places.{developmentYear, paymentYear, field}
+use Rattle.finding.specs.Places.{nowhere, originYear, developmentYear, paymentYear, cell, field}
 use Rattle.field_findings.specs.Fields.{fieldPasses}
-use Rattle.triangle_findings.specs.Findings.{cellPasses, restPasses}
+use Rattle.triangle_findings.specs.TriangleFindings.{cellPasses, restPasses}
 
 -- which field of row r of the layout stands at a row and a column: an increment by its cell, a reporting share by its development year
 unfoldable pub fieldIndex : ℕ → ℕ → ℕ → ℕ → ℕ
@@ -49,10 +50,39 @@ figurePasses g n f =
     (cond (eqb n 17) (correctedRatioPasses (correctedRatio (plainRatioIn g) (divisorIn g)))
     (cond (eqb n 14) (leb (completed k (paidIn g) (developmentIn g) (f .row) (f .column - (k - f .row))) mostCumulative) true)))))))))))))
 
--- and those about the record; a number that no question here has says yes
+-- and those about the record; question 3 is not among them, since the buffer for the list is long enough
 unfoldable pub placePasses : List ℕ → ℕ → Finding → Bool
 placePasses s n f =
     cond (eqb n 1) (hasLastYear s)
     (cond (eqb n 2) (hasLength s)
     (cond (eqb n 4) (fieldPasses s (f .place - field) (fieldIndex (lastYearOf s) (f .place - field) (f .row) (f .column)))
     (cond (eqb n 5) (sharesSum s) (figurePasses (figuresOf s) n f))))
+
+-- 4, a field of row r: it is one of the row's
+pub record FieldAsked (k r : ℕ) (f : Finding) : Type 0 where
+  pub kind : f .place ≡ field + r
+  pub least : 1 ≤ r
+  pub most : r < 8
+  pub inside : fieldIndex k r (f .row) (f .column) < countOf k r
+
+-- 7, a column, a diagonal, or all averages
+abbrev pub TotalAsked : ℕ → Finding → Type 0
+TotalAsked k f =
+    cond (eqb (f .place) developmentYear) (f .column ≤ k) (cond (eqb (f .place) paymentYear) (f .row ≤ k) (f .place ≡ nowhere))
+
+-- the places that question n asks about: fields by their row in the layout and their years, cells of the triangle, and years within it; none is named where it asks about all
+unfoldable pub PlaceAsked : List ℕ → ℕ → Finding → Type 0
+PlaceAsked s n f =
+    let k = lastYearOf s in
+    cond (eqb n 4) (FieldAsked k (f .place - field) f)
+    (cond (eqb n 6) ((f .place ≡ cell) × (f .row + f .column ≤ k))
+    (cond (eqb n 13) ((f .place ≡ developmentYear) × (f .column < k))
+    (cond (eqb n 7) (TotalAsked k f)
+    (cond (eqb n 8) ((f .place ≡ developmentYear) × ((1 ≤ f .column) × (f .column ≤ k)))
+    (cond (eqb n 9) ((f .place ≡ developmentYear) × (f .column ≤ k))
+    (cond (eqb n 10) ((f .place ≡ paymentYear) × (f .row ≤ k))
+    (cond (eqb n 18) ((f .place ≡ originYear) × (f .row ≡ 0))
+    (cond (eqb n 19) ((f .place ≡ originYear) × (f .row ≤ k))
+    (cond (eqb n 11) ((f .place ≡ originYear) × (f .row ≤ k))
+    (cond (eqb n 15) ((f .place ≡ paymentYear) × (f .row ≡ k))
+    (cond (eqb n 14) ((f .place ≡ cell) × ((f .row ≤ k) × ((k < f .row + f .column) × (f .column ≤ k)))) (f .place ≡ nowhere))))))))))))

@@ -1,5 +1,5 @@
 -- How long the words of a place and the table of the figures there are at most. Assumes nothing.
-use mathlib.Core.Path.{_≡_, refl}
+use mathlib.Core.Path.{refl}
 use mathlib.Core.Bool.{Bool, true, false, cond}
 use mathlib.Core.List.{List, [], _∷_}
 use Prim.Native.Nat.{ℕ, _+_, _≤_}
@@ -7,7 +7,7 @@ use native.Mathlib.Omega.{arith}
 use lib.Dec.{eqb}
 use lib.IntN.{pos}
 use lib.Signed.{ltZ}
-use lib.ListN.{length, length-append, getD}
+use lib.ListN.{length, length-append}
 use Rattle.rules.specs.Lists.{padded, every}
 use Rattle.composing.proofs.Decimals.{length-most}
 use Rattle.lines.proofs.Longest.{longestFrom}
@@ -18,7 +18,7 @@ use Rattle.table_lengths.proofs.Tables.{table-most}
 use Rattle.finding.specs.declared.Finding.{Finding}
 use Rattle.finding.specs.Places.{originYear, developmentYear, paymentYear, cell, field}
 use Rattle.place_words.specs.PlaceWords.{originText, developmentText, paymentText, cellText, indexText, fieldTexts, fieldText, yearsText, placeText}
-use Rattle.finding_table.specs.FindingTable.{figureShape, figureTable, fieldStyle, sumsTable, fieldTable, developmentTable, givenTable, lengthTable, sharesTable, cumulativeTable, totalsTable, restTable, runningTable, levelTable, tailTable, tailAverageTable, ultimateTable, totalTable, latestTable, divisorTable, correctedTable, completedTable, recordTable, triangleTable, reserveTable, findingTable}
+use Rattle.finding_table.specs.FindingTable.{figureShape, figureTable, sumsTable, fieldTable, developmentTable, givenTable, lengthTable, sharesTable, cumulativeTable, totalsTable, restTable, runningTable, levelTable, tailTable, tailAverageTable, ultimateTable, totalTable, latestTable, divisorTable, correctedTable, completedTable, recordTable, triangleTable, reserveTable, findingTable}
 use Rattle.frame_lengths.proofs.Texts.{each-most}
 
 -- one of two texts
@@ -47,9 +47,9 @@ index-most : (row : ℕ) → length (indexText row) ≤ 71
 unfolding indexText
 index-most row = omega (arith, length-most (row + 1))
 
-field-most : (place : ℕ) → length (fieldText place) ≤ 40
+field-most : (place : ℕ) → length (fieldText place) ≤ 50
 unfolding fieldText fieldTexts every
-field-most place = each-most 40 [] fieldTexts (omega arith) refl place
+field-most place = each-most 50 [] fieldTexts (omega arith) refl place
 
 years-most : (first place row column : ℕ) → length (yearsText first place row column) ≤ 71
 unfolding yearsText
@@ -68,7 +68,7 @@ years-most first place row column =
     (cond-most 71 (eqb place (field + 4)) (developmentText column) _ development
     (cond-most 71 (eqb place (field + 6)) (paymentText first row) [] payment (omega arith)))))))))
 
-pub place-most : (first place row column : ℕ) → length (placeText first place row column) ≤ 111
+pub place-most : (first place row column : ℕ) → length (placeText first place row column) ≤ 121
 unfolding placeText
 place-most first place row column = simp length-append (omega (arith, field-most place, years-most first place row column))
 

@@ -1,9 +1,9 @@
--- What each question says where the run in a valuation year answers a number: the one of that number no, and those before it yes. Assumes nothing.
-use Prim.Native.Nat.{ℕ, _≤_}
+-- What each question but 3 says where the run in a valuation year answers a number: the one of that number no, and those before it yes. Assumes nothing.
+use Prim.Native.Nat.{ℕ}
 use native.Mathlib.Omega.{arith}
 use mathlib.Core.Path.{_≡_, refl}
 use mathlib.Core.Bool.{Bool, true, false, cond}
-use mathlib.Core.List.{List, [], _∷_, _++_}
+use mathlib.Core.List.{List, [], _∷_}
 use Rattle.rules.specs.Lists.{every}
 use Rattle.rules.specs.Record.{figuresOf}
 use Rattle.rules.specs.Reading.{hasLastYear, hasLength, inRanges, sharesSum, openingQuestions, fieldQuestions}
@@ -16,9 +16,9 @@ use Rattle.rules.specs.Growth.{corrects, latestPaidPasses, divisorPasses, corre
 use Rattle.rules.specs.Ladder.{completedAll, completedPass}
 use Rattle.rules.specs.Results.{squareOf, firstTailAverageOf, paidIn, provisionsIn, developmentIn, plainRatioIn, latestPaidIn, divisorIn, mostEntries}
 use Rattle.rules.specs.Engine.{developmentPasses, developmentQuestions, completionQuestions, ratioQuestions, correctionQuestions, completedLadderQuestions, lastQuestions, laterQuestions, figureQuestions, questions, runAnswer}
-use Rattle.laws.proofs.Questions.{said, precedes, no-said, yes-before}
+use Rattle.laws.proofs.Questions.{precedes, no-said, yes-before}
 
--- the questions' numbers in their order, each with any answer
+-- the questions' numbers in their order; the answers here are of no account
 abbrev pub order : List (ℕ × Bool)
 order =
     (1, true) ∷ (2, true) ∷ (3, true) ∷ (4, true) ∷ (5, true) ∷ (6, true) ∷ (13, true) ∷ (7, true) ∷ (8, true) ∷ (9, true) ∷ (10, true) ∷ (18, true) ∷ (19, true) ∷ (11, true) ∷ (12, true) ∷ (15, true) ∷ (16, true) ∷ (17, true) ∷ (14, true) ∷ []

@@ -1,4 +1,4 @@
--- The words of a place where a question says no; origin and payment years are called by the first. Assumes nothing.
+-- The words of a place where a question says no; origin and payment years are counted from the first year. Assumes nothing.
 use Prim.Native.Nat.{ℕ, _+_}
 use mathlib.Core.Bool.{cond}
 use mathlib.Core.List.{List, [], _∷_, _++_}
@@ -37,7 +37,7 @@ fieldTexts =
     ∷ ascii "reporting share of "
     ∷ ascii "reporting weight"
     ∷ ascii "ULAE total of "
-    ∷ ascii "amount after the last development year"
+    ∷ ascii "amount still to be paid for the first origin year"
     ∷ []
 
 unfoldable pub fieldText : ℕ → List ℕ

@@ -10,7 +10,7 @@ ghost use Prim.Native.Nat.{_≤_, _<_};
 ghost use Rattle.composing.specs.Text.{Put};
 ghost use Rattle.place_words.specs.PlaceWords.{originText, developmentText, paymentText, cellText, indexText, fieldText, yearsText, placeText};
 
-// An origin year, called by the first.
+// An origin year, counted from the first.
 fn put_origin_year(out: &mut [u8], at: usize, first: usize, row: usize) -> usize
     requires { ⌜ (first ≤ 65535) × (row < 16) ⌝ }
     ensures { λ r. ⌜ Put (now (out .entry)) (now (out .exit)) at r (originText first row) ⌝ }
@@ -27,7 +27,7 @@ fn put_development_year(out: &mut [u8], at: usize, column: usize) -> usize
     put_decimal(out, a, column as u64)
 }
 
-// A payment year, called by the first.
+// A payment year, counted from the first.
 fn put_payment_year(out: &mut [u8], at: usize, first: usize, row: usize) -> usize
     requires { ⌜ (first ≤ 65535) × (row < 16) ⌝ }
     ensures { λ r. ⌜ Put (now (out .entry)) (now (out .exit)) at r (paymentText first row) ⌝ }
@@ -72,7 +72,7 @@ index e_
 reporting share of 
 reporting weight
 ULAE total of 
-amount after the last development year
+amount still to be paid for the first origin year
 ",
         place,
     )

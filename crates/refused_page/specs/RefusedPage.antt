@@ -18,7 +18,7 @@ use Rattle.input_section.specs.InputSection.{inputSection}
 use Rattle.proof_section.specs.Proved.{refusedProof}
 use Rattle.record_section.specs.RecordSection.{recordSection}
 
--- whether k is known, and to be trusted: questions 1, 2 and 4 have said yes
+-- whether the opening names the years: not of a record that question 1, 2 or 4 refuses, since its k may be as wrong as the field
 unfoldable pub yearsKnown : ℕ → Bool
 yearsKnown n = not (eqb n 1) && (not (eqb n 2) && not (eqb n 4))
 

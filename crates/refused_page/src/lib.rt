@@ -26,7 +26,7 @@ ghost use Rattle.rules.specs.Engine.{runAnswer};
 ghost use Rattle.composing.specs.Text.{Put};
 ghost use Rattle.refused_page.specs.RefusedPage.{yearsKnown, inputsKnown, refusedOpening, refusedInputs, refusedPage};
 
-// Whether k is known where question n refuses.
+// Whether the opening names the years where question n refuses.
 fn years_known(n: u64) -> bool
     ensures { λ r. ⌜ r ≡ yearsKnown n ⌝ }
 {
@@ -139,7 +139,7 @@ pub fn put_refused_page(
     packed: &[u8],
     n: u64,
 ) -> usize
-    requires { ⌜ (first ≤ 65535) × ((year ≤ 65535) × (runAnswer year (now packed) mostEntries ≡ n)) ⌝ }
+    requires { ⌜ (first ≤ 65535) × ((year ≤ 65535) × ((runAnswer year (now packed) mostEntries ≡ n) × (1 ≤ n))) ⌝ }
     ensures { λ r. ⌜ Put (now (out .entry)) (now (out .exit)) 0 r (refusedPage html (now (title .entry)) year first (now (packed .entry)) n) ⌝ }
 {
     let a = put_page_start(out, 0, html, title, year);

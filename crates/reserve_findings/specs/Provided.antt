@@ -31,7 +31,7 @@ pub record Carried (s : List ℕ) : Type 0 where
   pub separation : separateAnswer (squareOf (figuresOf s)) (figuresOf s .k) ≡ 0
   pub tail : firstNo (tailQuestions (figuresOf s .k) (firstTailAverageOf (figuresOf s)) (figuresOf s .indices)) ≡ 0
 
--- and 11, 12 and 15, in a year whose ratio is corrected
+-- and 11, 12 and 15 where they are put
 pub record Corrects (s : List ℕ) : Type 0 where
   pub carried : Carried s
   pub ultimates : ultimatesPass (figuresOf s .k) (paidIn (figuresOf s)) (provisionsIn (figuresOf s)) ≡ true

@@ -157,7 +157,7 @@ pub fn ultimate_finding(year: u64, packed: &[u8]) -> Finding
 }
 
 // The totals of the paid cumulatives and of the ULAE of the years 0 to k.
-fn totals_found(paid: &[u64; 16], ulae: &[u64; 16], k: usize) -> Finding
+fn ratio_found(paid: &[u64; 16], ulae: &[u64; 16], k: usize) -> Finding
     requires { ⌜ (k < 16) × (Addable (now paid) × Addable (now ulae)) ⌝ }
     ensures { λ r. ⌜ r ≡ found nowhere 0 0 (pos (total (take (k + 1) (now (paid .entry))))) (pos (total (take (k + 1) (now (ulae .entry))))) (pos 0) ⌝ }
 {
@@ -187,7 +187,7 @@ pub fn ratio_finding(year: u64, packed: &[u8]) -> Finding
         &mut columns,
         &mut diagonals,
     );
-    totals_found(&paid, &ulae, last_year_of(packed))
+    ratio_found(&paid, &ulae, last_year_of(packed))
 }
 
 // Question 15: what is paid in the latest payment year.

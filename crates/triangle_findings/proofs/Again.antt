@@ -1,6 +1,5 @@
 -- What a record has passed whose run answers 6, 13, 7 or 8, and the totals of the square of its averages. Assumes nothing.
 use Prim.Native.Nat.{ℕ, _≤_}
-use native.Mathlib.Omega.{arith}
 use mathlib.Core.Path.{_≡_, refl}
 use mathlib.Core.List.{List}
 use mathlib.Core.Bool.{true}

@@ -14,7 +14,7 @@ use Rattle.reasons.proofs.Counted.{counted, all-pass, stops-below}
 use Rattle.triangle.specs.Columns.{Increments}
 use Rattle.reading.specs.Reading.{Sound}
 use Rattle.finding.specs.Places.{cell, found}
-use Rattle.triangle_findings.specs.Findings.{cellPasses, refusedRow, refusedColumn, cumulativeFinding}
+use Rattle.triangle_findings.specs.TriangleFindings.{cellPasses, refusedRow, refusedColumn, cumulativeFinding}
 
 module _ (k : ℕ) (p : List ℤ) where
   -- a row passes where every cell of it does

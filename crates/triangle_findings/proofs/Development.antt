@@ -19,7 +19,7 @@ use Rattle.reasons.proofs.Counted.{leading-same}
 use Rattle.reasons.proofs.Why.{refused-below}
 use Rattle.engine.proofs.Development.{developed-is, base-is, ladderable, thirteen-is}
 use Rattle.finding.specs.Places.{developmentYear, found}
-use Rattle.triangle_findings.specs.Findings.{developmentFound, developmentFinding}
+use Rattle.triangle_findings.specs.TriangleFindings.{developmentFound, developmentFinding}
 
 -- as the code holds it: none of the three leaves 64 bits
 pub held-found : (a b : ℕ → ℕ) (k h factor : ℕ) → h ≡ firstRefused a b k → b h ≤ 16 * mostCumulative → a h ≤ 16 * mostCumulative

@@ -13,7 +13,7 @@ use Rattle.rules.specs.Ladder.{developed, base, factorPasses, factorsPass}
 use Rattle.reasons.specs.Reasons.{firstBelow, firstRefused}
 use Rattle.reasons.proofs.Counted.{counted}
 use Rattle.reasons.proofs.Why.{named-below, none-named, refused-below}
-use Rattle.triangle_findings.specs.Findings.{cellPasses, refusedRow, refusedColumn, cumulativeFinding, developmentFinding, developmentFound, totalsFinding, totalPasses, restPassesOf, refusedRest, restPasses, restFinding, restFound}
+use Rattle.triangle_findings.specs.TriangleFindings.{cellPasses, refusedRow, refusedColumn, cumulativeFinding, developmentFinding, developmentFound, totalsFinding, totalPasses, restPassesOf, refusedRest, restPasses, restFinding, restFound}
 use Rattle.triangle_findings.proofs.Totals.{column-found, diagonal-found, all-found}
 use Rattle.triangle_findings.proofs.Cumulatives.{row-below, column-below}
 use Rattle.triangle_findings.proofs.Rests.{rests-no, rest-below}

@@ -21,7 +21,7 @@ use Rattle.separation.specs.Walk.{Summed}
 use Rattle.entries.proofs.Leading.{leading-stop}
 use Rattle.reasons.proofs.Counted.{leading-same, stops-below}
 use Rattle.finding.specs.Places.{developmentYear, found}
-use Rattle.triangle_findings.specs.Findings.{restPassesOf, refusedRest, restFound, restFinding, cornerBy, mostCorner}
+use Rattle.triangle_findings.specs.TriangleFindings.{restPassesOf, refusedRest, restFound, restFinding, cornerBy, mostCorner}
 use Rattle.triangle_findings.proofs.Totals.{column-at, diagonal-at}
 
 module _ (v d : ℕ → ℤ) where

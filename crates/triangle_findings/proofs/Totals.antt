@@ -21,7 +21,7 @@ use Rattle.separation.specs.Walk.{Summed}
 use Rattle.reasons.specs.Reasons.{firstBelow}
 use Rattle.reasons.proofs.Counted.{leading-same}
 use Rattle.finding.specs.Places.{nowhere, developmentYear, paymentYear, found}
-use Rattle.triangle_findings.specs.Findings.{totalsFound, totalsFinding}
+use Rattle.triangle_findings.specs.TriangleFindings.{totalsFound, totalsFinding}
 
 -- the finding where a column is below zero, where a diagonal is, and where none is
 module _ (v d : ℕ → ℤ) (all : ℤ) (k : ℕ) where

@@ -31,7 +31,7 @@ ghost use Rattle.totals.specs.CellSizes.{TotalsSmall};
 ghost use Rattle.triangle.specs.Columns.{Increments};
 ghost use Rattle.separation.specs.Walk.{Summed};
 ghost use Rattle.ladder.specs.Columns.{developedIn, baseIn, Ladderable};
-ghost use Rattle.triangle_findings.specs.Findings.{refusedColumn, cumulativeFinding, developmentFound, developmentFinding, totalsFound, totalsFinding, restPassesOf, restFound, restFinding, cornerBy, mostCorner};
+ghost use Rattle.triangle_findings.specs.TriangleFindings.{refusedColumn, cumulativeFinding, developmentFound, developmentFinding, totalsFound, totalsFinding, restPassesOf, restFound, restFinding, cornerBy, mostCorner};
 
 // The totals of the columns and diagonals of the averages of a record that has passed questions 1, 2, 4, 5 and 6 go into their lists; answers k.
 pub fn totals_again(packed: &[u8], columns: &mut [i64; 16], diagonals: &mut [i64; 16]) -> usize

@@ -11,7 +11,7 @@ use Rattle.rules.specs.Lists.{upTo, below, every}
 use Rattle.rules.specs.Separation.{billion}
 use Rattle.laws.proofs.Lists.{every-next}
 use Rattle.entries.proofs.Leading.{leading-all, leading-stop}
-use Rattle.factor_findings.specs.Findings.{refusedLevel}
+use Rattle.factor_findings.specs.FactorFindings.{refusedLevel}
 use Rattle.factor_findings.proofs.first_above.Statement.{statement}
 use Rattle.factor_findings.proofs.first_above.Tie as tie
 

@@ -10,7 +10,7 @@ use Rattle.laws.proofs.Lists.{every-next, fails-at}
 use Rattle.entries.proofs.Leading.{leading-all, leading-stop}
 use Rattle.reasons.proofs.Counted.{counted, all-pass}
 use Rattle.opening.proofs.Opened.{WholeRecord, whole-record}
-use Rattle.field_findings.specs.Fields.{fieldPasses, rowPasses, firstRow, firstField}
+use Rattle.field_findings.specs.Fields.{fieldPasses, rowInRange, firstRow, firstField}
 use Rattle.field_findings.proofs.Placed.{held-count}
 use Rattle.field_findings.proofs.Named.{years-pass}
 use borrow.Author.Needs.{needs}
@@ -18,20 +18,20 @@ use Rattle.field_findings.proofs.first_row.Statement.{statement}
 use Rattle.field_findings.proofs.first_row.Tie as tie
 
 abbrev Inv-loop : tie.InvT-loop
-Inv-loop s k r₀ r = (1 ≤ r) × ((r ≤ 8) × (every (rowPasses s) (below r) ≡ true))
+Inv-loop s k r₀ r = (1 ≤ r) × ((r ≤ 8) × (every (rowInRange s) (below r) ≡ true))
 
 abbrev μ-loop : tie.MeasureT-loop
 μ-loop s k r₀ r = 8 - r
 
 -- a row whose first field out of range is one of its fields, and one of which it is not
-row-no : (s : List ℕ) (r : ℕ) → firstField s r < countOf (lastYearOf s) r → rowPasses s r ≡ false
-unfolding firstField rowPasses
+row-no : (s : List ℕ) (r : ℕ) → firstField s r < countOf (lastYearOf s) r → rowInRange s r ≡ false
+unfolding firstField rowInRange
 row-no s r l =
     let n = countOf (lastYearOf s) r in
     fails-at (fieldPasses s r) (λ m. m) n (firstField s r) l (counted (fieldPasses s r) n .stop l)
 
-row-yes : (s : List ℕ) (r : ℕ) → countOf (lastYearOf s) r ≤ firstField s r → rowPasses s r ≡ true
-unfolding firstField rowPasses
+row-yes : (s : List ℕ) (r : ℕ) → countOf (lastYearOf s) r ≤ firstField s r → rowInRange s r ≡ true
+unfolding firstField rowInRange
 row-yes s r l =
     let n = countOf (lastYearOf s) r in
     all-pass (fieldPasses s r) n (omega (arith, counted (fieldPasses s r) n .most))
@@ -68,7 +68,7 @@ returns c =
     let l = call .before .before .before .loop in
     let s = call .before .before .before .before .before .args .s .now in
     let no = row-no s (l .r) (omega (arith, c .if1 .taken, fields call (omega arith), call .before .first-field .ensures)) in
-    sym (leading-stop (rowPasses s) 8 (l .r) (omega arith) (l .inv .1 .1) no)
+    sym (leading-stop (rowInRange s) 8 (l .r) (omega arith) (l .inv .1 .1) no)
 
 loop-again : tie.Need-loop-again Inv-loop μ-loop
 loop-again c =
@@ -76,7 +76,7 @@ loop-again c =
     let l = call .before .before .before .loop in
     let s = call .before .before .before .before .before .args .s .now in
     let ok = row-yes s (l .r) (omega (arith, c .if1 .left, fields call (omega arith), call .before .first-field .ensures)) in
-    (omega arith, (omega arith, every-next (rowPasses s) (λ r. r) (l .r) (l .inv .1 .1) ok))
+    (omega arith, (omega arith, every-next (rowInRange s) (λ r. r) (l .r) (l .inv .1 .1) ok))
 
 returns-2 : tie.Need-returns-2 Inv-loop μ-loop
 unfolding firstRow
@@ -84,7 +84,7 @@ returns-2 c =
     let l = c .before .loop in
     let s = c .before .before .before .args .s .now in
     let e : l .r ≡ 8 = omega arith in
-    sym (leading-all (rowPasses s) 8 (rw e at (l .inv .1 .1)))
+    sym (leading-all (rowInRange s) 8 (rw e at (l .inv .1 .1)))
 
 pub first-row-spec : {M : Type 1} → statement M
 first-row-spec =

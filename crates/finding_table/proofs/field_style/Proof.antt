@@ -2,7 +2,6 @@
 use borrow.Author.Tests.{eq-eqb, ne-eqb}
 use Rattle.table_cells.specs.Cells.{styled}
 use Rattle.finding_table.specs.FindingTable.{fieldStyle}
-use borrow.Author.Needs.{needs}
 use Rattle.finding_table.proofs.field_style.Statement.{statement}
 use Rattle.finding_table.proofs.field_style.Tie as tie
 

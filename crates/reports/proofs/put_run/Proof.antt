@@ -13,7 +13,7 @@ put-refused-page-requires : tie.Need-put-refused-page-requires
 put-refused-page-requires c κs =
     let run = c .before .before .before .doonamurk-run in
     let s = c .before .before .before .before .before .before .before .before in
-    (s .pre .0, (s .pre .1, sym (run .ensures .0)))
+    (s .pre .0, (s .pre .1, (sym (run .ensures .0), omega (arith, c .before .if1 .taken))))
 
 returns : tie.Need-returns
 unfolding reportOf

@@ -42,8 +42,8 @@ last-year : (c : tie.After-last-year-of) → c .last-year-of .result ≡ F (c .b
 unfolding figuresOf
 last-year c = c .last-year-of .ensures .0
 
-totals-found-requires : tie.Need-totals-found-requires
-totals-found-requires c κs =
+ratio-found-requires : tie.Need-ratio-found-requires
+ratio-found-requires c κs =
     let at = c .before .before .before in
     let read = at .read-again .ensures in
     totals-ready (F at) (good at) (six at) _ _ _ (last-year c) (read .1 .1 .1 .1 .0) (read .1 .1 .1 .0)
@@ -53,10 +53,10 @@ returns c =
     let year = c .before in
     let at = year .before .before .before in
     let read = at .read-again .ensures in
-    let made = c .totals-found .ensures in (
+    let made = c .ratio-found .ensures in (
       made ∙ ratio-is (F at) (good at) (six at) _ _ _ (last-year year) (read .1 .1 .1 .1 .0) (read .1 .1 .1 .0),
       (rw made (omega arith), rw made (omega arith)),
     )
 
 pub ratio-finding-spec : {M : Type 1} → statement M
-ratio-finding-spec = tie.close (tie.spec read-again-requires last-year-of-requires totals-found-requires returns)
+ratio-finding-spec = tie.close (tie.spec read-again-requires last-year-of-requires ratio-found-requires returns)

@@ -15,7 +15,7 @@ use Rattle.laws.proofs.Lists.{every-next}
 use Rattle.laws.proofs.TriangleRows.{row-room}
 use Rattle.triangle.proofs.Cumulatives.{more-fits, more-is, more-read}
 use Rattle.entries.proofs.Leading.{leading-all, leading-stop}
-use Rattle.triangle_findings.specs.Findings.{cellPasses, refusedColumn}
+use Rattle.triangle_findings.specs.TriangleFindings.{cellPasses, refusedColumn}
 use Rattle.triangle_findings.proofs.first_outside.Statement.{statement}
 use Rattle.triangle_findings.proofs.first_outside.Tie as tie
 

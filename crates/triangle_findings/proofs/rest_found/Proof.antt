@@ -16,7 +16,7 @@ use Rattle.laws.proofs.Order.{less-yes, less-no}
 use Rattle.laws.proofs.Signed.{held, size-fits}
 use Rattle.totals.specs.CellSizes.{TotalsSmall}
 use Rattle.reasons.proofs.Counted.{no-both}
-use Rattle.triangle_findings.specs.Findings.{restPassesOf, cornerBy}
+use Rattle.triangle_findings.specs.TriangleFindings.{restPassesOf, cornerBy}
 use Rattle.triangle_findings.proofs.Rests.{corner-start, corner-next, corner-size, rest-stop}
 use Rattle.triangle_findings.proofs.rest_found.Statement.{statement}
 use Rattle.triangle_findings.proofs.rest_found.Tie as tie

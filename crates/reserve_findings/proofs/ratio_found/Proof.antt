@@ -4,8 +4,8 @@ use native.Mathlib.Omega.{arith}
 use Prim.Native.Nat.{_+_}
 use Rattle.rules.specs.Completion.{mostUltimate}
 use Rattle.laws.proofs.Lists.{total-most}
-use Rattle.reserve_findings.proofs.totals_found.Statement.{statement}
-use Rattle.reserve_findings.proofs.totals_found.Tie as tie
+use Rattle.reserve_findings.proofs.ratio_found.Statement.{statement}
+use Rattle.reserve_findings.proofs.ratio_found.Tie as tie
 
 sum-of-requires : tie.Need-sum-of-requires
 sum-of-requires c κs = let s = c .before in (omega (arith, c .sum-of-arg .given .0), (omega (arith, s .pre .0), λ i l. s .pre .1 .0 i))
@@ -24,5 +24,5 @@ of-naturals-requires c κs =
 returns : tie.Need-returns
 returns c = rw (c .before .before .before .sum-of .ensures, c .before .sum-of2 .ensures) at (c .of-naturals .ensures)
 
-pub totals-found-spec : {M : Type 1} → statement M
-totals-found-spec = tie.close (tie.spec (λ c. search needs) sum-of-requires sum-of-requires-2 of-naturals-requires returns)
+pub ratio-found-spec : {M : Type 1} → statement M
+ratio-found-spec = tie.close (tie.spec (λ c. search needs) sum-of-requires sum-of-requires-2 of-naturals-requires returns)
