@@ -1,8 +1,8 @@
 -- The place that is found is one that the question asks about, whose number the run answers. Assumes nothing.
-use Prim.Native.Nat.{ℕ, _+_, _-_, _≤_, _<_}
+use Prim.Native.Nat.{ℕ, _+_, _-_, _≤_}
 use native.Mathlib.Omega.{arith}
 use borrow.Author.Tests.{ltb-true}
-use mathlib.Core.Path.{_≡_, refl, sym}
+use mathlib.Core.Path.{_≡_, refl}
 use mathlib.Core.Bool.{Bool, true, false, cond}
 use mathlib.Core.List.{List}
 use lib.Dec.{ltb}
@@ -15,7 +15,7 @@ use Rattle.reasons.specs.Reasons.{firstBelow}
 use Rattle.finding.specs.declared.Finding.{Finding}
 use Rattle.finding.specs.Places.{nowhere, developmentYear, paymentYear, field, found}
 use Rattle.outcomes.proofs.Said as said
-use Rattle.field_findings.specs.Fields.{givenFinding, lengthFinding, sharesFinding, firstRow, firstField, spotOf, findingAt, fieldFinding}
+use Rattle.field_findings.specs.Fields.{givenFinding, lengthFinding, sharesFinding, firstRow, firstField, findingAt, fieldFinding}
 use Rattle.field_findings.proofs.Named.{field-no}
 use Rattle.triangle_findings.specs.TriangleFindings.{cumulativeFinding, developmentFound, developmentFinding, totalsFound, totalsFinding, restFound, restFinding}
 use Rattle.triangle_findings.proofs.No as triangle
@@ -29,7 +29,7 @@ use Rattle.reserve_findings.proofs.Over as over
 use Rattle.ladder_findings.specs.LadderFindings.{firstRowOver, yearsWithin, cellFinding, completedFinding}
 use Rattle.ladder_findings.proofs.Within as ladder
 use Rattle.findings.specs.Findings.{findingOf}
-use Rattle.findings.specs.PlacePasses.{fieldIndex, TotalAsked, PlaceAsked}
+use Rattle.findings.specs.PlacePasses.{TotalAsked, PlaceAsked}
 use Rattle.findings.proofs.Numbers.{Run, by-number}
 use Rattle.findings.proofs.No.{index-is, field-cell}
 
