@@ -11,7 +11,8 @@ use Rattle.rules.specs.Lists.{every}
 use Rattle.composing.specs.Text.{ascii}
 use Rattle.scanning.specs.Parts.{among, fails, before, until, from, past, onto, pieces}
 use Rattle.scanning.proofs.Parts.{until-length}
-use Rattle.cells.specs.Cells.{decides, separators, unspaced, trimmed, unquoted, cellFrom, filled, used, cellsBy, cellsOf, decider, cellsText, isOver, fromCell, firstCell, afterCell}
+use Rattle.separating.specs.Separators.{decides, separators, isOver, fromCell}
+use Rattle.cells.specs.Cells.{unspaced, trimmed, unquoted, cellFrom, filled, used, cellsBy, cellsOf, decider, cellsText, firstCell, afterCell}
 
 module _ (p : ℕ → Bool) where
   -- the pieces after the first

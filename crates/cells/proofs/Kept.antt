@@ -9,7 +9,8 @@ use lib.Dec.{eqb}
 use Rattle.rules.specs.Lists.{every}
 use Rattle.composing.specs.Text.{ascii}
 use Rattle.scanning.specs.Parts.{among, onto, pieces}
-use Rattle.cells.specs.Cells.{decides, separators, used}
+use Rattle.separating.specs.Separators.{decides, separators}
+use Rattle.cells.specs.Cells.{used}
 use Rattle.cells.proofs.CellWalk.{pieces-first}
 
 -- pieces, each with the byte s after it

@@ -1,7 +1,7 @@
 -- A line of a text: its content, its label and its cells. Assumes nothing.
 use Prim.Native.Nat.{ℕ, zero, suc, _-_}
 use mathlib.Core.Bool.{Bool, cond, _&&_}
-use mathlib.Core.List.{List, [], _∷_, _++_, map}
+use mathlib.Core.List.{List, [], _∷_, map}
 use lib.Dec.{eqb, leb}
 use lib.IntN.{ℤ}
 use lib.ListN.{length, getD, take, drop}
@@ -10,6 +10,8 @@ use Rattle.rules.specs.Lists.{every}
 use Rattle.composing.specs.Text.{ascii}
 use Rattle.scanning.specs.Parts.{among, fails, until, from, past, pieces}
 use Rattle.scanning.specs.Numbers.{isNumber, wholeOf}
+use Rattle.separating.specs.Separators.{decides, separators, fromCell}
+use Rattle.commenting.specs.Comments.{uncommented}
 
 -- the last byte of a text
 abbrev pub lastOf : List ℕ → ℕ
@@ -18,15 +20,6 @@ lastOf xs = getD xs (length xs - 1) 0
 -- a line without a carriage return at its very end
 unfoldable pub unreturned : List ℕ → List ℕ
 unreturned line = cond (eqb (lastOf line) 13) (take (length line - 1) line) line
-
--- whether a comment begins with byte b after byte p: a # right after a space
-abbrev pub comments : ℕ → ℕ → Bool
-comments p b = eqb b 35 && eqb p 32
-
--- how many bytes of a line, after byte p, come before the comment in it
-unfoldable pub uncommented : ℕ → List ℕ → ℕ
-uncommented p [] = 0
-uncommented p (b ∷ bs) = cond (comments p b) 0 (suc (uncommented b bs))
 
 -- its content: that before the comment, and nothing where the line begins with #, after spaces and quotes
 unfoldable pub contentOf : List ℕ → List ℕ
@@ -50,14 +43,6 @@ labelOf line = let xs = fromLabel line in cond (isQuoted xs) (until (among (asci
 
 unfoldable pub afterLabel : List ℕ → List ℕ
 afterLabel line = let xs = fromLabel line in cond (isQuoted xs) (past (among (ascii "\"")) (drop 1 xs)) (from (among (ascii " \t,;")) xs)
-
--- a comma, a semicolon or a tab right after the label decides for the line: that byte alone separates cells
-abbrev pub decides : ℕ → Bool
-decides s = among (ascii ",;\t") s
-
--- the bytes that separate cells where s comes after the label: s alone, or else spaces and tabs
-unfoldable pub separators : ℕ → List ℕ
-separators s = cond (decides s) (s ∷ s ∷ []) (ascii " \t")
 
 -- how many of the first n bytes are left without the spaces at their end
 unfoldable pub unspaced : ℕ → List ℕ → ℕ
@@ -102,16 +87,7 @@ cellsText line = cond (decides (decider line)) (drop 1 (afterLabel line)) (after
 unfoldable pub cellsOf : List ℕ → List (List ℕ)
 cellsOf line = cellsBy (decider line) (cellsText line)
 
--- A walk over the cells, one after another.
-
--- whether no cell is left in a text: nothing but separators, spaces and quotes
-unfoldable pub isOver : ℕ → List ℕ → Bool
-isOver s text = every (among (separators s ++ ascii " \"")) text
-
--- a text from its first cell on, that cell, and what comes after it
-unfoldable pub fromCell : ℕ → List ℕ → List ℕ
-fromCell s text = cond (isOver s text) [] (cond (decides s) text (from (fails (among (separators s))) text))
-
+-- A walk over the cells, one after another: the first cell of a text, and what comes after it.
 unfoldable pub firstCell : ℕ → List ℕ → List ℕ
 firstCell s text = cellFrom (until (among (separators s)) (fromCell s text))
 

@@ -1,18 +1,21 @@
 // A line of a text: its content, its label and its cells.
+use commenting::comment_start;
 use scanning::find;
 use scanning::from;
-use scanning::is_among;
 use scanning::is_number;
 use scanning::number_of;
 use scanning::past;
 use scanning::until;
+use separating::does_decide;
+use separating::from_cell;
+use separating::separators_of;
 ghost use mathlib.Core.Path.{_≡_};
 ghost use mathlib.Core.List.{[]};
 ghost use Prim.Native.Nat.{_≤_, _<_, _^_};
 ghost use Rattle.rules.specs.Lists.{every};
 ghost use lib.ListN.{length, getD, drop};
 ghost use Rattle.scanning.specs.Parts.{fails, before};
-ghost use Rattle.cells.specs.Cells.{unreturned, comments, uncommented, contentOf, isBare, fromLabel, labelOf, afterLabel, decides, separators, unspaced, trimmed, unquoted, cellFrom, cellsOf, decider, cellsText, isOver, fromCell, firstCell, afterCell, isWithin, passes};
+ghost use Rattle.cells.specs.Cells.{unreturned, contentOf, isBare, fromLabel, labelOf, afterLabel, unspaced, trimmed, unquoted, cellFrom, cellsOf, decider, cellsText, firstCell, afterCell, isWithin, passes};
 
 // How many cells pass a test before the first that does not, and whether all do.
 pub struct Run {
@@ -33,32 +36,6 @@ fn without_return(line: &[u8]) -> &[u8]
         return &line[..e];
     }
     line
-}
-
-// Whether a comment begins with byte b after byte p.
-fn does_comment(p: u8, b: u8) -> bool
-    ensures { λ r. ⌜ r ≡ comments p b ⌝ }
-{
-    if b != 35 {
-        return false;
-    }
-    p == 32
-}
-
-// How many bytes of a line come before the comment in it.
-fn comment_start(line: &[u8]) -> usize
-    ensures { λ r. ⌜ (r ≡ uncommented 0 (now (line .entry))) × (r ≤ length (now (line .entry))) ⌝ }
-{
-    let n = line.len();
-    let mut p: u8 = 0;
-    for i in 0..n {
-        let b = line[i];
-        if does_comment(p, b) {
-            return i;
-        }
-        p = b;
-    }
-    n
 }
 
 // The content of a line.
@@ -129,23 +106,6 @@ fn after_label(line: &[u8]) -> &[u8]
     from(text, b" \t,;", true)
 }
 
-// Whether a byte right after the label decides for its line.
-fn does_decide(s: u8) -> bool
-    ensures { λ r. ⌜ r ≡ decides s ⌝ }
-{
-    is_among(s, b",;\t")
-}
-
-// The bytes that separate cells.
-fn separators_of(s: u8) -> [u8; 2]
-    ensures { λ r. ⌜ r ≡ separators s ⌝ }
-{
-    if does_decide(s) {
-        return [s, s];
-    }
-    [32, 9]
-}
-
 // The byte that decides for a line.
 fn decider_of(line: &[u8]) -> u8
     ensures { λ r. ⌜ r ≡ decider (now (line .entry)) ⌝ }
@@ -209,31 +169,6 @@ fn cell_of(piece: &[u8]) -> &[u8]
     ensures { λ r. ⌜ now r ≡ cellFrom (now (piece .entry)) ⌝ }
 {
     unquoted_of(trimmed_of(piece))
-}
-
-// Whether no cell is left in a text.
-fn is_over(text: &[u8], s: u8) -> bool
-    ensures { λ r. ⌜ r ≡ isOver s (now (text .entry)) ⌝ }
-{
-    let two = separators_of(s);
-    let set = [two[0], two[1], 32, 34];
-    find(text, &set, false) == text.len()
-}
-
-// A text from its first cell on.
-fn from_cell(text: &[u8], s: u8) -> &[u8]
-    ensures { λ r. ⌜ now r ≡ fromCell s (now (text .entry)) ⌝ }
-{
-    if is_over(text, s) {
-        let n = text.len();
-        return &text[n..];
-    }
-    let alone = does_decide(s);
-    if alone {
-        return text;
-    }
-    let set = separators_of(s);
-    from(text, &set, false)
 }
 
 // The first cell of a text.

@@ -1,1 +1,2 @@
 pub mod Csv
+pub mod Units

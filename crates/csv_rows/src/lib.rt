@@ -2,13 +2,13 @@
 use composing::put_byte;
 use composing::put_bytes;
 use composing::put_decimal;
-use composing::put_integer;
 use rows::Rows;
 use rows::falling_from;
 use rows::level_at;
 use rows::next_row;
 use rows::rising_from;
 use rules::MOST_ENTRIES;
+use signed_text::put_integer;
 ghost use mathlib.Core.Path.{_≡_};
 ghost use mathlib.Core.List.{_++_};
 ghost use Prim.Native.Nat.{_+_, _≤_, _<_};

@@ -1,12 +1,15 @@
 // The result list as comma-separated values in a lent buffer, with the valuation year, the plain ULAE ratio and what corrects it.
 use composing::put_bytes;
+use csv_completion::put_completion;
+use csv_correction::put_correction;
+use csv_expense::put_expense;
 use csv_rows::by_itself;
-use csv_rows::by_origin;
 use csv_rows::by_year;
 use csv_rows::future_cells;
-use csv_rows::given_cells;
 use csv_rows::put_beside;
 use csv_rows::put_section;
+use csv_separation::put_separation;
+use csv_tails::put_tails;
 use growth::Correction;
 use growth::corrects;
 use listing::Starts;
@@ -16,140 +19,7 @@ ghost use mathlib.Core.Path.{_≡_};
 ghost use Prim.Native.Nat.{_<_};
 ghost use Rattle.composing.specs.Text.{Put};
 ghost use Rattle.listing.specs.Starts.{startsOf};
-ghost use Rattle.csv_text.specs.Csv.{separationLines, completionLines, expenseLines, ladderLines, tailLines, listLines, correctionLines, correctedLine, valuationLines, csvOf};
-
-// The averages, the shares and the levels.
-fn put_separation(
-    out: &mut [u8],
-    at: usize,
-    list: &[i64; MOST_ENTRIES],
-    k: usize,
-    places: Starts,
-) -> usize
-    requires { ⌜ (k < 16) × (places ≡ startsOf k) ⌝ }
-    ensures { λ r. ⌜ Put (now (out .entry)) (now (out .exit)) at r (separationLines k (now (list .entry))) ⌝ }
-{
-    let years = by_year(0, k + 1);
-    let a = put_section(
-        out,
-        at,
-        list,
-        b"average",
-        b"hundredths a claim",
-        given_cells(k),
-        0,
-    );
-    let b = put_section(out, a, list, b"share", b"billionths", years, places.shares);
-    put_section(
-        out,
-        b,
-        list,
-        b"level",
-        b"hundredths a claim",
-        years,
-        places.levels,
-    )
-}
-
-// The future levels, the payments, the provisions and their total.
-fn put_completion(
-    out: &mut [u8],
-    at: usize,
-    list: &[i64; MOST_ENTRIES],
-    k: usize,
-    places: Starts,
-) -> usize
-    requires { ⌜ (k < 16) × (places ≡ startsOf k) ⌝ }
-    ensures { λ r. ⌜ Put (now (out .entry)) (now (out .exit)) at r (completionLines k (now (list .entry))) ⌝ }
-{
-    let a = put_section(
-        out,
-        at,
-        list,
-        b"future level",
-        b"hundredths a claim",
-        by_year(k + 1, k),
-        places.ahead,
-    );
-    let b = put_section(
-        out,
-        a,
-        list,
-        b"payment",
-        b"currency units",
-        future_cells(k),
-        places.payments,
-    );
-    let c = put_section(
-        out,
-        b,
-        list,
-        b"provision",
-        b"currency units",
-        by_origin(k),
-        places.provisions,
-    );
-    put_section(
-        out,
-        c,
-        list,
-        b"total provision",
-        b"currency units",
-        by_itself(),
-        places.provision,
-    )
-}
-
-// What is not reported, the ULAE reserves, their total and the ratio.
-fn put_expense(
-    out: &mut [u8],
-    at: usize,
-    list: &[i64; MOST_ENTRIES],
-    k: usize,
-    places: Starts,
-) -> usize
-    requires { ⌜ (k < 16) × (places ≡ startsOf k) ⌝ }
-    ensures { λ r. ⌜ Put (now (out .entry)) (now (out .exit)) at r (expenseLines k (now (list .entry))) ⌝ }
-{
-    let origins = by_origin(k);
-    let single = by_itself();
-    let a = put_section(
-        out,
-        at,
-        list,
-        b"not reported",
-        b"currency units",
-        origins,
-        places.unreported,
-    );
-    let b = put_section(
-        out,
-        a,
-        list,
-        b"ulae reserve",
-        b"currency units",
-        origins,
-        places.reserves,
-    );
-    let c = put_section(
-        out,
-        b,
-        list,
-        b"total ulae reserve",
-        b"currency units",
-        single,
-        places.reserve,
-    );
-    put_section(
-        out,
-        c,
-        list,
-        b"ulae ratio",
-        b"millionths",
-        single,
-        places.ratio,
-    )
-}
+ghost use Rattle.csv_text.specs.Csv.{ladderLines, listLines, correctedLine, valuationLines, csvOf};
 
 // The development factors and the completed cumulatives.
 fn put_ladder(
@@ -182,28 +52,6 @@ fn put_ladder(
     )
 }
 
-// The tail payments.
-fn put_tails(
-    out: &mut [u8],
-    at: usize,
-    list: &[i64; MOST_ENTRIES],
-    k: usize,
-    places: Starts,
-) -> usize
-    requires { ⌜ (k < 16) × (places ≡ startsOf k) ⌝ }
-    ensures { λ r. ⌜ Put (now (out .entry)) (now (out .exit)) at r (tailLines k (now (list .entry))) ⌝ }
-{
-    put_section(
-        out,
-        at,
-        list,
-        b"tail payment",
-        b"currency units",
-        by_origin(k),
-        places.tails,
-    )
-}
-
 // The whole list, under a heading.
 fn put_list(out: &mut [u8], list: &[i64; MOST_ENTRIES], k: usize) -> usize
     requires { ⌜ k < 16 ⌝ }
@@ -220,33 +68,6 @@ fn put_list(out: &mut [u8], list: &[i64; MOST_ENTRIES], k: usize) -> usize
     let d = put_expense(out, c, list, k, places);
     let e = put_ladder(out, d, list, k, places);
     put_tails(out, e, list, k, places)
-}
-
-// What is reported and what is paid in the latest year, and the divisor.
-fn put_correction(out: &mut [u8], at: usize, correction: Correction) -> usize
-    ensures { λ r. ⌜ Put (now (out .entry)) (now (out .exit)) at r (correctionLines correction) ⌝ }
-{
-    let a = put_beside(
-        out,
-        at,
-        b"reported in the latest year",
-        b"currency units",
-        correction.reported,
-    );
-    let b = put_beside(
-        out,
-        a,
-        b"paid in the latest year",
-        b"currency units",
-        correction.paid,
-    );
-    put_beside(
-        out,
-        b,
-        b"divisor of the ulae ratio",
-        b"millionths",
-        correction.divisor,
-    )
 }
 
 // The corrected ratio, which the list has in its place.

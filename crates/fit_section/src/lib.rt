@@ -1,9 +1,9 @@
 // The section of the averages and how well they are fitted.
 use composing::put_bytes;
 use composing::put_decimal;
-use composing::put_fixed;
 use fit_tables::put_average_table;
 use fit_tables::put_gap_table;
+use fixed_text::put_fixed;
 use numerals::put_number;
 use parts::put_either;
 use parts::put_only;

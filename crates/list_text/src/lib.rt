@@ -3,7 +3,7 @@
 use composing::put_byte;
 use composing::put_bytes;
 use composing::put_decimal;
-use composing::put_integer;
+use signed_text::put_integer;
 ghost use mathlib.Core.Path.{_≡_};
 ghost use Prim.Native.Nat.{_≤_, _<_};
 ghost use lib.ListN.{length, take};

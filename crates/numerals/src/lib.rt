@@ -2,10 +2,10 @@
 use composing::put_byte;
 use composing::put_bytes;
 use composing::put_decimal;
-use composing::put_last;
-use composing::put_sign;
-use composing::shortened;
 use entries::size_of;
+use fixed_text::put_last;
+use fixed_text::shortened;
+use signed_text::put_sign;
 ghost use Rattle.composing.specs.Text.{Put};
 ghost use Rattle.numerals.specs.Numerals.{grouped, numeral, number, spaced};
 

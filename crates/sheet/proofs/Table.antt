@@ -17,7 +17,8 @@ use Rattle.laws.proofs.Totals.{total-more, total-part}
 use Rattle.composing.specs.Text.{ascii, Put}
 use Rattle.composing.proofs.Puts.{put-back, put-length}
 use Rattle.scanning.specs.Parts.{among, before, until, from, past, onto, pieces}
-use Rattle.cells.specs.Cells.{fromLabel, afterLabel, separators, unspaced, trimmed, unquoted, cellFrom, filled, used, cellsBy, decider, cellsText, cellsOf}
+use Rattle.separating.specs.Separators.{separators}
+use Rattle.cells.specs.Cells.{fromLabel, afterLabel, unspaced, trimmed, unquoted, cellFrom, filled, used, cellsBy, decider, cellsText, cellsOf}
 use Rattle.sheet.specs.Table.{labels, due, lineCount, dueAt, startAt}
 
 -- the words of the code's text are the labels: by computing

@@ -15,7 +15,8 @@ use Rattle.laws.proofs.Lists.{upTo-cons, upTo-ext}
 use Rattle.composing.specs.Text.{integer}
 use Rattle.scanning.specs.Numbers.{ceiling, isNumber, wholeOf}
 use Rattle.scanning.specs.Parts.{from, before, pieces}
-use Rattle.cells.specs.Cells.{unreturned, uncommented, contentOf, isBare, isWithin}
+use Rattle.commenting.specs.Comments.{uncommented}
+use Rattle.cells.specs.Cells.{unreturned, contentOf, isBare, isWithin}
 use Rattle.sheet.specs.declared.Due.{Due}
 use Rattle.sheet.specs.Table.{labels, labelDue, lineCount, dueAt, dueLines}
 use Rattle.sheet.specs.Sheet.{spaced, lineOf, linesOf, lastYearIn, sameText, wrong, wrongIn, lines, fine, readLine, readLines}

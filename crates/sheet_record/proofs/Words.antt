@@ -13,7 +13,9 @@ use Rattle.rules.specs.Lists.{every}
 use Rattle.laws.proofs.Lists.{every-append, every-at, both-left, both-right}
 use Rattle.composing.specs.Text.{ascii, integer}
 use Rattle.scanning.specs.Parts.{among, fails, before, until, from, pieces, onto}
-use Rattle.cells.specs.Cells.{lastOf, unreturned, uncommented, contentOf, isBare, fromLabel, labelOf, afterLabel, separators, trimmed, unquoted, cellFrom, filled, used, cellsBy, decider, cellsText, cellsOf}
+use Rattle.separating.specs.Separators.{separators}
+use Rattle.commenting.specs.Comments.{uncommented}
+use Rattle.cells.specs.Cells.{lastOf, unreturned, contentOf, isBare, fromLabel, labelOf, afterLabel, trimmed, unquoted, cellFrom, filled, used, cellsBy, decider, cellsText, cellsOf}
 use Rattle.cells.proofs.CellLines.{unspaced-here}
 use Rattle.sheet.specs.Sheet.{spaced, lines}
 use Rattle.sheet_record.proofs.NumbersBack.{plain, tame, every-of, integer-plain, integer-some}

@@ -1,9 +1,9 @@
 // What is wrong with a text of figures, in words.
 use composing::put_bytes;
 use composing::put_decimal;
-use composing::put_integer;
 use sheet::Due;
 use sheet::put_label;
+use signed_text::put_integer;
 ghost use mathlib.Core.Bool.{cond};
 ghost use mathlib.Core.List.{[], _++_};
 ghost use lib.Dec.{eqb};

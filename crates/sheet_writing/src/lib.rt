@@ -1,6 +1,5 @@
 // The fields of a record as text: labelled lines, the increments of each origin year in a line of their own.
 use composing::put_byte;
-use composing::put_integer;
 use entries::size_of;
 use reader::doonamurk_read;
 use rules::ACCEPTED;
@@ -8,6 +7,7 @@ use rules::MOST_FIELDS;
 use sheet::Due;
 use sheet::due_at;
 use sheet::put_label;
+use signed_text::put_integer;
 ghost use mathlib.Core.Path.{_≡_};
 ghost use Prim.Native.Nat.{_+_, _<_, _≤_};
 ghost use lib.ListN.{length, take, drop};

@@ -1,9 +1,9 @@
 // Cells of a table of the report, in HTML and as text, in a lent buffer; how wide they are.
-use composing::fixed_length;
 use composing::put_byte;
 use composing::put_bytes;
-use composing::put_fixed;
+use fixed_text::put_fixed;
 use lines::put_line;
+use number_lengths::fixed_length;
 use numerals::put_number;
 ghost use mathlib.Core.Path.{_≡_};
 ghost use Prim.Native.Nat.{_*_, _≤_, _<_, max};

@@ -1,9 +1,9 @@
 // Heads and labels of a table of the report, in a lent buffer; how long they are.
-use composing::decimal_length;
 use composing::put_bytes;
 use composing::put_decimal;
 use lines::line_length;
 use lines::put_line;
+use number_lengths::decimal_length;
 ghost use mathlib.Core.Path.{_≡_};
 ghost use Prim.Native.Nat.{_+_, _≤_};
 ghost use lib.ListN.{length};

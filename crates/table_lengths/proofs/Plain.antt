@@ -16,8 +16,10 @@ use Rattle.table_cells.proofs.Lengths.{text-cell-most, column-most}
 use Rattle.table_heads.specs.declared.Shape.{Shape}
 use Rattle.table_heads.specs.Heads.{labelsHead, head, rowsIn, label}
 use Rattle.table_heads.proofs.Lengths.{head-most, label-most}
-use Rattle.text_table.specs.Plain.{left, filled, textCells, columnHeads, labelPlaces, columnWidth, headLine, rowLine, textTable}
-use Rattle.text_table.proofs.Lines.{filled-most}
+use Rattle.text_cells.specs.Cells.{filled, textCells}
+use Rattle.text_cells.proofs.Filled.{filled-most}
+use Rattle.column_width.specs.Width.{columnWidth}
+use Rattle.text_table.specs.Plain.{left, columnHeads, labelPlaces, headLine, rowLine, textTable}
 use Rattle.table_lengths.proofs.Most.{headMost, labelMost, cellMost, rowMost, tableMost, line-head}
 
 -- text at the right or at the left of w places

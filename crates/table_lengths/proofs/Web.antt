@@ -17,7 +17,9 @@ use Rattle.table_cells.proofs.Lengths.{web-cell-most}
 use Rattle.table_heads.specs.declared.Shape.{Shape}
 use Rattle.table_heads.specs.Heads.{head, rowsIn}
 use Rattle.table_heads.proofs.Lengths.{head-most, label-most}
-use Rattle.web_table.specs.Web.{measure, webTop, webHead, webHeads, webCells, webRow, webBody, webFoot, webTable}
+use Rattle.table_width.specs.Width.{measure}
+use Rattle.web_rows.specs.Rows.{webCells, webRow, webFoot}
+use Rattle.web_table.specs.Web.{webTop, webHead, webHeads, webBody, webTable}
 use Rattle.table_lengths.proofs.Most.{headMost, labelMost, cellMost, rowMost, tableMost, line-head}
 
 top-most : (key : Bool) (words : List ℕ) (width : ℕ) → length (webTop key words width) ≤ 102 + headMost words

@@ -1,11 +1,8 @@
 -- Lines of a table as text: cells up to the last that is not blank, text at the left, and widths that stand in an array. Assumes nothing.
-use mathlib.Core.Path.{_≡_, refl, sym, ap, _∙_}
-use mathlib.Core.Bool.{Bool, true, false, cond}
+use mathlib.Core.Path.{_≡_, sym, ap, _∙_}
 use mathlib.Core.List.{List, _++_}
-use Prim.Native.Nat.{ℕ, zero, suc, _+_, _-_, _*_, _≤_, _<_}
-use native.Mathlib.Numerals.{add-one}
+use Prim.Native.Nat.{ℕ, _+_, _-_, _*_, _<_}
 use native.Mathlib.Omega.{arith}
-use lib.Dec.{eqb}
 use lib.IntN.{ℤ}
 use lib.ListN.{length, getD}
 use Rattle.rules.specs.Lists.{upTo, joined, padded}
@@ -16,25 +13,9 @@ use Rattle.composing.proofs.Puts.{put-append}
 use Rattle.table_cells.specs.Cells.{textCellAt}
 use Rattle.table_heads.specs.Heads.{head, label}
 use Rattle.table_heads.specs.declared.Shape.{Shape}
-use Rattle.text_table.specs.Plain.{left, filled, textCells, columnHeads, headLine, rowLine}
-
--- no cells, and one more
-pub filled-none : (styles : List ℕ) (p : ℕ) → 0 ≡ filled styles p 0
-unfolding filled
-filled-none styles p = refl
-
-pub filled-more : (styles : List ℕ) (p n : ℕ) → cond (eqb (getD styles (p + n) 0) 0) (filled styles p n) (n + 1) ≡ filled styles p (n + 1)
-unfolding filled
-filled-more styles p n = rw (add-one n)
-
-pub filled-most : (styles : List ℕ) (p n : ℕ) → filled styles p n ≤ n
-unfolding filled
-filled-most styles p zero = omega arith
-filled-most styles p (suc n) = go (eqb (getD styles (p + n) 0) 0) (filled-most styles p n)
-  where
-    go : (b : Bool) → filled styles p n ≤ n → cond b (filled styles p n) (suc n) ≤ suc n
-    go true h = omega (arith, h)
-    go false h = omega arith
+use Rattle.text_cells.specs.Cells.{filled, textCells}
+use Rattle.text_cells.proofs.Filled.{filled-most}
+use Rattle.text_table.specs.Plain.{left, columnHeads, headLine, rowLine}
 
 -- a text and the spaces that are left
 pub put-at-left : {a b c : List ℕ} {i j k n : ℕ} (w : ℕ) (xs : List ℕ) → n ≡ w - length xs → Put a b i j xs → Put b c j k (spaces n)

@@ -1,28 +1,19 @@
 -- A table of the report as text: labels at the left, heads and cells at the right of their columns. Assumes nothing.
-use Prim.Native.Nat.{ℕ, zero, suc, _+_, _-_, _*_, max}
-use mathlib.Core.Bool.{cond}
+use Prim.Native.Nat.{ℕ, _-_, _*_, max}
 use mathlib.Core.List.{List, _++_}
-use lib.Dec.{eqb}
 use lib.IntN.{ℤ}
 use lib.ListN.{length, getD}
 use Rattle.rules.specs.Lists.{upTo, joined}
 use Rattle.composing.specs.Text.{ascii, spaces, right}
-use Rattle.table_cells.specs.Cells.{textCellAt, largest, columnPlaces}
+use Rattle.table_cells.specs.Cells.{largest}
 use Rattle.table_heads.specs.Heads.{caption, labelsHead, head, rowsIn, label}
 use Rattle.table_heads.specs.declared.Shape.{Shape}
+use Rattle.text_cells.specs.Cells.{filled, textCells}
+use Rattle.column_width.specs.Width.{columnWidth}
 
 -- text at the left of w places
 unfoldable pub left : ℕ → List ℕ → List ℕ
 left w xs = xs ++ spaces (w - length xs)
-
--- how many of n cells from place p on there are up to the last that is not blank
-unfoldable pub filled : List ℕ → ℕ → ℕ → ℕ
-filled styles p zero = 0
-filled styles p (suc n) = cond (eqb (getD styles (p + n) 0) 0) (filled styles p n) (suc n)
-
--- n cells from place p on, in columns of these widths
-unfoldable pub textCells : List ℕ → List ℤ → List ℕ → ℕ → ℕ → List ℕ
-textCells widths values styles p n = joined (upTo (λ j. right (getD widths j 0) (textCellAt values styles (p + j))) n)
 
 -- the heads of the columns
 unfoldable pub columnHeads : List ℕ → List ℕ → Shape → List ℕ
@@ -32,11 +23,6 @@ columnHeads widths words shape = joined (upTo (λ j. right (getD widths j 0) (he
 unfoldable pub labelPlaces : List ℕ → List ℕ → List ℕ → Shape → ℕ
 labelPlaces words labels total shape =
     max (length (labelsHead words)) (largest (λ i. length (label labels total shape i)) (rowsIn total shape))
-
--- the width of column j: two more than the longest of its head and its cells
-unfoldable pub columnWidth : List ℕ → List ℕ → Shape → List ℤ → List ℕ → ℕ → ℕ
-columnWidth words total shape values styles j =
-    2 + max (length (head words shape j)) (columnPlaces values styles (shape .columns) (rowsIn total shape) j)
 
 -- the line of heads, in these places for labels and columns of these widths
 unfoldable pub headLine : List ℕ → Shape → ℕ → List ℕ → List ℕ

@@ -1,50 +1,31 @@
 // A table of the report as text, in a lent buffer.
-use composing::left_of;
+use aligning::left_of;
+use column_width::width_of;
 use composing::put_bytes;
 use composing::put_spaces;
 use lines::line_length;
 use lines::put_line;
 use table_cells::MOST_PLACES;
-use table_cells::cell_length_at;
-use table_cells::column_places;
 use table_cells::larger;
-use table_cells::put_text_cell_at;
 use table_heads::Shape;
 use table_heads::head_length;
 use table_heads::label_length;
 use table_heads::put_head;
 use table_heads::put_label;
 use table_heads::rows_in;
-ghost use mathlib.Core.Bool.{cond};
+use text_cells::MOST_COLUMNS;
+use text_cells::filled_in;
+use text_cells::put_text_cells;
 ghost use mathlib.Core.Path.{_≡_};
-ghost use lib.Dec.{eqb};
-ghost use Prim.Native.Nat.{_+_, _*_, _≤_, _<_};
+ghost use Prim.Native.Nat.{_*_, _≤_};
 ghost use lib.ListN.{length};
 ghost use Rattle.rules.specs.Lists.{upTo, joined, padded};
 ghost use Rattle.composing.specs.Text.{Put, right};
 ghost use Rattle.lines.specs.Lines.{lineOf};
-ghost use Rattle.table_cells.specs.Cells.{textCellAt, largest};
+ghost use Rattle.table_cells.specs.Cells.{largest};
 ghost use Rattle.table_heads.specs.Heads.{Fits, head, rowsIn, label};
-ghost use Rattle.text_table.specs.Plain.{left, filled, textCells, columnHeads, labelPlaces, columnWidth, headLine, rowLine, textTable};
-
-// How many columns a table has at most.
-pub const MOST_COLUMNS: usize = 20;
-
-// The cell at place p, at the right of w places.
-fn put_right_cell(
-    out: &mut [u8],
-    at: usize,
-    w: usize,
-    values: &[i64; MOST_PLACES],
-    styles: &[u8; MOST_PLACES],
-    p: usize,
-) -> usize
-    requires { ⌜ p < 320 ⌝ }
-    ensures { λ r. ⌜ Put (now (out .entry)) (now (out .exit)) at r (right w (textCellAt (now (values .entry)) (now (styles .entry)) p)) ⌝ }
-{
-    let start = put_spaces(out, at, left_of(w, cell_length_at(values, styles, p)));
-    put_text_cell_at(out, start, values, styles, p)
-}
+ghost use Rattle.column_width.specs.Width.{columnWidth};
+ghost use Rattle.text_table.specs.Plain.{left, columnHeads, labelPlaces, headLine, rowLine, textTable};
 
 // The head of column j, at the right of w places.
 fn put_right_head(
@@ -87,46 +68,6 @@ fn put_left_line(out: &mut [u8], at: usize, w: usize, text: &[u8], n: u64) -> us
     put_spaces(out, end, left_of(w, line_length(text, n)))
 }
 
-// How many cells there are up to the last that is not blank, with cell j after those before it.
-fn filled_after(style: u8, last: usize, j: usize) -> usize
-    requires { ⌜ j < 320 ⌝ }
-    ensures { λ r. ⌜ r ≡ cond (eqb style 0) last (j + 1) ⌝ }
-{
-    if style == 0 { last } else { j + 1 }
-}
-
-// How many of n cells from place p on there are up to the last that is not blank.
-fn filled_in(styles: &[u8; MOST_PLACES], p: usize, n: usize) -> usize
-    requires { ⌜ p + n ≤ 320 ⌝ }
-    ensures { λ r. ⌜ r ≡ filled (now (styles .entry)) p n ⌝ }
-{
-    let mut last: usize = 0;
-    for j in 0..n {
-        last = filled_after(styles[p + j], last, j);
-    }
-    last
-}
-
-// n cells from place p on, in columns of these widths.
-fn put_text_cells(
-    out: &mut [u8],
-    at: usize,
-    widths: &[usize; MOST_COLUMNS],
-    values: &[i64; MOST_PLACES],
-    styles: &[u8; MOST_PLACES],
-    p: usize,
-    n: usize,
-) -> usize
-    requires { ⌜ (p + n ≤ 320) × (n ≤ 20) ⌝ }
-    ensures { λ r. ⌜ Put (now (out .entry)) (now (out .exit)) at r (textCells (now (widths .entry)) (now (values .entry)) (now (styles .entry)) p n) ⌝ }
-{
-    let mut end = at;
-    for j in 0..n {
-        end = put_right_cell(out, end, widths[j], values, styles, p + j);
-    }
-    end
-}
-
 // The heads of the columns.
 fn put_column_heads(
     out: &mut [u8],
@@ -156,22 +97,6 @@ fn longest_label(labels: &[u8], total: &[u8], shape: Shape, n: usize) -> usize
         most = larger(most, label_length(labels, total, shape, i));
     }
     most
-}
-
-// The width of column j.
-fn width_of(
-    words: &[u8],
-    total: &[u8],
-    shape: Shape,
-    values: &[i64; MOST_PLACES],
-    styles: &[u8; MOST_PLACES],
-    j: usize,
-) -> usize
-    requires { ⌜ Fits shape × (j < shape .columns) ⌝ }
-    ensures { λ r. ⌜ r ≡ columnWidth (now (words .entry)) (now (total .entry)) shape (now (values .entry)) (now (styles .entry)) j ⌝ }
-{
-    let cells = column_places(values, styles, shape.columns, rows_in(total, shape), j);
-    2 + larger(head_length(words, shape, j), cells)
 }
 
 // The widths of the columns.

@@ -4,36 +4,18 @@ use composing::put_decimal;
 use lines::put_line;
 use parts::put_only;
 use table_cells::MOST_PLACES;
-use table_cells::column_places;
-use table_cells::larger;
-use table_cells::put_web_cell_at;
 use table_heads::Shape;
 use table_heads::put_head;
-use table_heads::put_label;
 use table_heads::rows_in;
-ghost use mathlib.Core.Path.{_≡_};
-ghost use Prim.Native.Nat.{_+_, _*_, _≤_};
+use table_width::measure_of;
+use web_rows::put_web_foot;
+use web_rows::put_web_row;
+ghost use Prim.Native.Nat.{_≤_};
 ghost use Rattle.rules.specs.Lists.{upTo, joined};
 ghost use Rattle.composing.specs.Text.{Put};
 ghost use Rattle.table_heads.specs.Heads.{Fits};
-ghost use Rattle.web_table.specs.Web.{measure, webTop, webHead, webHeads, webCells, webRow, webBody, webFoot, webTable};
-
-// The table's width in characters.
-fn measure_of(
-    values: &[i64; MOST_PLACES],
-    styles: &[u8; MOST_PLACES],
-    columns: usize,
-    n: usize,
-) -> usize
-    requires { ⌜ (columns ≤ 20) × (n * columns ≤ 320) ⌝ }
-    ensures { λ r. ⌜ r ≡ measure (now (values .entry)) (now (styles .entry)) columns n ⌝ }
-{
-    let mut width: usize = 6;
-    for j in 0..columns {
-        width += 2 + larger(4, column_places(values, styles, columns, n, j));
-    }
-    width
-}
+ghost use Rattle.web_table.specs.Web.{webTop, webHead, webHeads, webBody, webTable};
+ghost use Rattle.web_rows.specs.Rows.{webRow};
 
 // The table's element and the caption.
 fn put_web_top(out: &mut [u8], at: usize, key: bool, words: &[u8], width: usize) -> usize
@@ -83,46 +65,6 @@ fn put_web_heads(out: &mut [u8], at: usize, words: &[u8], shape: Shape) -> usize
     put_bytes(out, end, b"</tr></thead>\n")
 }
 
-// n cells from place p on.
-fn put_web_cells(
-    out: &mut [u8],
-    at: usize,
-    values: &[i64; MOST_PLACES],
-    styles: &[u8; MOST_PLACES],
-    p: usize,
-    n: usize,
-) -> usize
-    requires { ⌜ p + n ≤ 320 ⌝ }
-    ensures { λ r. ⌜ Put (now (out .entry)) (now (out .exit)) at r (webCells (now (values .entry)) (now (styles .entry)) p n) ⌝ }
-{
-    let mut end = at;
-    for j in 0..n {
-        end = put_web_cell_at(out, end, values, styles, p + j);
-    }
-    end
-}
-
-// Row i of the body, or the total after it.
-fn put_web_row(
-    out: &mut [u8],
-    at: usize,
-    labels: &[u8],
-    total: &[u8],
-    shape: Shape,
-    values: &[i64; MOST_PLACES],
-    styles: &[u8; MOST_PLACES],
-    i: usize,
-) -> usize
-    requires { ⌜ Fits shape × (i ≤ shape .rows) ⌝ }
-    ensures { λ r. ⌜ Put (now (out .entry)) (now (out .exit)) at r (webRow (now (labels .entry)) (now (total .entry)) shape (now (values .entry)) (now (styles .entry)) i) ⌝ }
-{
-    let text = put_bytes(out, at, b"<tr><th scope=\"row\">");
-    let a = put_label(out, text, labels, total, shape, i);
-    let b = put_bytes(out, a, b"</th>");
-    let end = put_web_cells(out, b, values, styles, i * shape.columns, shape.columns);
-    put_bytes(out, end, b"</tr>\n")
-}
-
 // The rows of the body.
 fn put_web_rows(
     out: &mut [u8],
@@ -160,28 +102,6 @@ fn put_web_body(
     let first = put_bytes(out, at, b"<tbody>\n");
     let end = put_web_rows(out, first, labels, total, shape, values, styles);
     put_bytes(out, end, b"</tbody>\n")
-}
-
-// The total, where there is one.
-fn put_web_foot(
-    out: &mut [u8],
-    at: usize,
-    labels: &[u8],
-    total: &[u8],
-    shape: Shape,
-    values: &[i64; MOST_PLACES],
-    styles: &[u8; MOST_PLACES],
-) -> usize
-    requires { ⌜ Fits shape ⌝ }
-    ensures { λ r. ⌜ Put (now (out .entry)) (now (out .exit)) at r (webFoot (now (labels .entry)) (now (total .entry)) shape (now (values .entry)) (now (styles .entry))) ⌝ }
-{
-    if total.len() == 0 {
-        at
-    } else {
-        let row = put_bytes(out, at, b"<tfoot>\n");
-        let end = put_web_row(out, row, labels, total, shape, values, styles, shape.rows);
-        put_bytes(out, end, b"</tfoot>\n")
-    }
 }
 
 // The table.

@@ -1,7 +1,7 @@
 -- No byte is found that is none of these. Assumes nothing.
 use Rattle.composing.specs.Text.{ascii}
 use Rattle.cells.specs.Cells.{isBare}
-use Rattle.cells.proofs.CellLines.{every-is}
+use Rattle.separating.proofs.Over.{every-is}
 use borrow.Author.Needs.{needs}
 use Rattle.cells.proofs.is_bare.Statement.{statement}
 use Rattle.cells.proofs.is_bare.Tie as tie

@@ -11,7 +11,8 @@ use mir.Syntax.{w64}
 use mir.Val.{toZ}
 use Rattle.rules.specs.Lists.{every}
 use Rattle.scanning.specs.Parts.{before, fails}
-use Rattle.cells.specs.Cells.{cellsBy, cellsOf, fromCell, firstCell, passes}
+use Rattle.separating.specs.Separators.{fromCell}
+use Rattle.cells.specs.Cells.{cellsBy, cellsOf, firstCell, passes}
 use Rattle.cells.proofs.CellWalk.{walk-shorter, cells-are, lead-here, lead-more, lead-over}
 use borrow.Author.Needs.{needs}
 use Rattle.cells.proofs.leading.Statement.{statement}

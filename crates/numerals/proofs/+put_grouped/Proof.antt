@@ -10,7 +10,7 @@ use Rattle.numerals.proofs.put_grouped.Kinds as put-grouped-kinds
 use Rattle.numerals.proofs.+put_grouped.Lts-put_grouped as put-grouped-lts
 use Rattle.composing.proofs.put_bytes.Reads as put-bytes-reads
 use Rattle.composing.proofs.put_decimal.Reads as put-decimal-reads
-use Rattle.composing.proofs.put_last.Reads as put-last-reads
+use Rattle.fixed_text.proofs.put_last.Reads as put-last-reads
 use Rattle.numerals.proofs.+put_grouped.{statement}
 use Rattle.numerals.proofs.+put_grouped.Tie.{close}
 

@@ -1,12 +1,10 @@
 -- The loop's invariant: the widths of the first j columns are in the array (filled-more). Assumes nothing.
-use mathlib.Core.Path.{_≡_, ap, _∙_}
-use mathlib.Core.List.{List}
-use Prim.Native.Nat.{ℕ, _-_, _≤_}
+use mathlib.Core.Path.{_≡_}
+use Prim.Native.Nat.{_-_, _≤_}
 use native.Mathlib.Omega.{arith}
-use lib.ListN.{set}
 use Rattle.rules.specs.Lists.{upTo, padded}
 use Rattle.laws.proofs.Padded.{filled-none, filled-more}
-use Rattle.text_table.specs.Plain.{columnWidth}
+use Rattle.column_width.specs.Width.{columnWidth}
 use borrow.Author.Needs.{needs}
 use Rattle.text_table.proofs.column_widths.Statement.{statement}
 use Rattle.text_table.proofs.column_widths.Tie as tie

@@ -1,6 +1,6 @@
 -- The longest of the head over the labels and the labels. Assumes nothing.
-use mathlib.Core.Path.{_≡_, ap, ap₂, _∙_}
-use Prim.Native.Nat.{ℕ, _≤_, max}
+use mathlib.Core.Path.{ap, ap₂, _∙_}
+use Prim.Native.Nat.{max}
 use native.Mathlib.Omega.{arith}
 use lib.ListN.{length}
 use Rattle.table_cells.specs.Cells.{largest}

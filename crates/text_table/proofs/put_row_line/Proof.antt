@@ -1,11 +1,10 @@
 -- The label and the cells up to the last that is not blank (put-three). Assumes nothing.
-use mathlib.Core.Path.{_≡_}
-use Prim.Native.Nat.{_*_, _≤_}
+use Prim.Native.Nat.{_*_}
 use native.Mathlib.Omega.{arith}
 use Rattle.composing.proofs.Puts.{put-three}
 use Rattle.table_heads.proofs.Shapes.{row-room}
-use Rattle.text_table.specs.Plain.{filled, rowLine}
-use Rattle.text_table.proofs.Lines.{filled-most}
+use Rattle.text_table.specs.Plain.{rowLine}
+use Rattle.text_cells.proofs.Filled.{filled-most}
 use borrow.Author.Needs.{needs}
 use Rattle.text_table.proofs.put_row_line.Statement.{statement}
 use Rattle.text_table.proofs.put_row_line.Tie as tie

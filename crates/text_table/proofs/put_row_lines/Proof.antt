@@ -5,7 +5,6 @@ use native.Mathlib.Omega.{arith}
 use Rattle.rules.specs.Lists.{upTo, joined}
 use Rattle.composing.specs.Text.{Put}
 use Rattle.composing.proofs.Puts.{put-first, put-more, put-length}
-use Rattle.table_heads.specs.Heads.{rowsIn}
 use Rattle.table_heads.proofs.Shapes.{rows-in-most}
 use Rattle.text_table.specs.Plain.{rowLine}
 use borrow.Author.Needs.{needs}

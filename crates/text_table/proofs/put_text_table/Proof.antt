@@ -2,7 +2,8 @@
 use Rattle.composing.proofs.Puts.{put-five, put-same}
 use Rattle.rules.specs.Lists.{upTo, padded}
 use Rattle.table_heads.specs.Heads.{rowsIn}
-use Rattle.text_table.specs.Plain.{labelPlaces, columnWidth, textTable}
+use Rattle.column_width.specs.Width.{columnWidth}
+use Rattle.text_table.specs.Plain.{labelPlaces, textTable}
 use Rattle.text_table.proofs.Lines.{stored-width, head-line-same, row-lines-same}
 use borrow.Author.Needs.{needs}
 use Rattle.text_table.proofs.put_text_table.Statement.{statement}

@@ -5,7 +5,7 @@ use native.Mathlib.Omega.{arith}
 use Rattle.rules.specs.Lists.{upTo, joined}
 use Rattle.composing.specs.Text.{Put}
 use Rattle.composing.proofs.Puts.{put-first, put-more, put-length}
-use Rattle.web_table.specs.Web.{webRow}
+use Rattle.web_rows.specs.Rows.{webRow}
 use borrow.Author.Needs.{needs}
 use Rattle.web_table.proofs.put_web_rows.Statement.{statement}
 use Rattle.web_table.proofs.put_web_rows.Tie as tie

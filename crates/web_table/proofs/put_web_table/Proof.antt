@@ -3,7 +3,8 @@ use mathlib.Core.Path.{_≡_, ap, _∙_}
 use Rattle.composing.proofs.Puts.{put-five}
 use Rattle.table_heads.specs.Heads.{rowsIn}
 use Rattle.table_heads.proofs.Shapes.{rows-in-room}
-use Rattle.web_table.specs.Web.{measure, webTable}
+use Rattle.table_width.specs.Width.{measure}
+use Rattle.web_table.specs.Web.{webTable}
 use borrow.Author.Needs.{needs}
 use Rattle.web_table.proofs.put_web_table.Statement.{statement}
 use Rattle.web_table.proofs.put_web_table.Tie as tie
