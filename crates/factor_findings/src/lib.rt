@@ -3,6 +3,7 @@ use entries::sum_of;
 use finding::DEVELOPMENT_YEAR;
 use finding::Finding;
 use finding::PAYMENT_YEAR;
+use reasons::first_above;
 use rules::BILLION;
 use separation::walk;
 use triangle_findings::totals_again;
@@ -36,17 +37,11 @@ pub fn running_finding(year: u64, packed: &[u8]) -> Finding
 }
 
 // The first of the years 0 to k whose level is above S, or k + 1.
-fn first_above(levels: &[u64; 16], k: usize) -> usize
+fn first_level(levels: &[u64; 16], k: usize) -> usize
     requires { ⌜ k < 16 ⌝ }
     ensures { λ r. ⌜ r ≡ refusedLevel (λ h. getD (now (levels .entry)) h 0) k ⌝ }
 {
-    let n = k + 1;
-    for h in 0..n {
-        if levels[h] > BILLION {
-            return h;
-        }
-    }
-    n
+    first_above(levels, k + 1, BILLION)
 }
 
 // The finding of question 10, which says no, by the totals of the diagonals, the shares and the levels of the years 0 to k.
@@ -63,7 +58,7 @@ fn level_found<'a>(
         ≡ levelFound (λ h. getD (now (diagonals .entry)) h (pos 0)) (λ h. total (take (h + 1) (now (shares .entry)))) (λ h. getD (now (levels .entry)) h 0) k)
         × ((r .row < 16) × (r .column < 16)) ⌝ }
 {
-    let h = first_above(levels, k);
+    let h = first_level(levels, k);
     let running = sum_of(shares, h + 1);
     Finding {
         place: PAYMENT_YEAR,

@@ -15,8 +15,8 @@ use Rattle.reasons.specs.Reasons.{firstBelow}
 use Rattle.finding.specs.declared.Finding.{Finding}
 use Rattle.finding.specs.Places.{nowhere, developmentYear, paymentYear, field, found}
 use Rattle.outcomes.proofs.Said as said
-use Rattle.field_findings.specs.Fields.{givenFinding, lengthFinding, sharesFinding, firstRow, firstField, findingAt, fieldFinding}
-use Rattle.field_findings.proofs.Named.{field-no}
+use Rattle.field_findings.specs.Fields.{givenFinding, lengthFinding, sharesFinding, firstRow, firstField, spotOf, findingAt, fieldFinding}
+use Rattle.field_findings.proofs.Named.{FieldFound, field-no}
 use Rattle.triangle_findings.specs.TriangleFindings.{cumulativeFinding, developmentFound, developmentFinding, totalsFound, totalsFinding, restFound, restFinding}
 use Rattle.triangle_findings.proofs.No as triangle
 use Rattle.factor_findings.specs.FactorFindings.{runningFinding, levelFound, levelFinding}
@@ -48,6 +48,12 @@ total-asked q k = go (ltb (firstBelow (columnTotal q) k) (k + 1)) refl (ltb (fir
     go false e true f = let l = ltb-true (firstBelow (diagonalTotal q) k) (k + 1) f in omega arith
     go false e false f = refl
 
+-- an increment stands in the triangle
+cell-within : (s : List ℕ) → FieldFound s (firstRow s) (firstField s (firstRow s)) → firstRow s ≡ 2
+    → spotOf (lastYearOf s) (firstRow s) (firstField s (firstRow s)) .row + spotOf (lastYearOf s) (firstRow s) (firstField s (firstRow s)) .column ≤ lastYearOf s
+unfolding spotOf
+cell-within s h e = let c = field-cell s h e in rw e (rw e at (c .column))
+
 module _ (year : ℕ) (s : List ℕ) where
   asked-4 : Fit 8 s → Run year s 4 → PlaceAsked s 4 (findingOf s 4)
   unfolding PlaceAsked findingOf fieldFinding findingAt
@@ -58,7 +64,7 @@ module _ (year : ℕ) (s : List ℕ) where
       let k = lastYearOf s in
       let e : field + r - field ≡ r = omega arith in
       let i = index-is k r m (λ two. field-cell s h two) in
-      rw e (record { kind = refl; least = h .least; most = h .few; inside = rw i (h .inside) })
+      rw e (record { kind = refl; least = h .least; most = h .few; inside = rw i (h .inside); within = cell-within s h })
 
   asked-6 : Run year s 6 → PlaceAsked s 6 (findingOf s 6)
   unfolding PlaceAsked findingOf figuresOf cumulativeFinding

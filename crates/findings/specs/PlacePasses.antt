@@ -59,12 +59,13 @@ placePasses s n f =
     (cond (eqb n 4) (fieldPasses s (f .place - field) (fieldIndex (lastYearOf s) (f .place - field) (f .row) (f .column)))
     (cond (eqb n 5) (sharesSum s) (figurePasses (figuresOf s) n f))))
 
--- 4, a field of row r: it is one of the row's
+-- 4, a field of row r: it is one of the row's, and an increment's cell is one of the triangle
 pub record FieldAsked (k r : ℕ) (f : Finding) : Type 0 where
   pub kind : f .place ≡ field + r
   pub least : 1 ≤ r
   pub most : r < 8
   pub inside : fieldIndex k r (f .row) (f .column) < countOf k r
+  pub within : r ≡ 2 → f .row + f .column ≤ k
 
 -- 7, a column, a diagonal, or all averages
 abbrev pub TotalAsked : ℕ → Finding → Type 0

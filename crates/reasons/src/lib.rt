@@ -5,11 +5,11 @@ use ladder::development_factors;
 use rules::MOST_FACTOR;
 ghost use mathlib.Core.Path.{_≡_};
 ghost use mathlib.Core.Bool.{false};
-ghost use Prim.Native.Nat.{_<_};
+ghost use Prim.Native.Nat.{_≤_, _<_};
 ghost use lib.Dec.{leb};
 ghost use lib.IntN.{pos};
 ghost use lib.ListN.{getD};
-ghost use Rattle.rules.specs.Ladder.{mostFactor, factorsPass};
+ghost use Rattle.rules.specs.Ladder.{factorsPass};
 ghost use Rattle.composing.specs.Text.{Put};
 ghost use Rattle.entries.specs.Leading.{leading};
 ghost use Rattle.ladder.specs.Columns.{developedIn, baseIn, Ladderable};
@@ -67,17 +67,17 @@ pub fn put_totals_reason(
     )
 }
 
-// The first of the development years 0 to k - 1 whose factor is above the most, or k.
-fn first_above(factors: &[u64; 16], k: usize) -> usize
-    requires { ⌜ k < 16 ⌝ }
-    ensures { λ r. ⌜ r ≡ leading (λ h. leb (getD (now (factors .entry)) h 0) mostFactor) k ⌝ }
+// The first of n numbers that is above the most, or n.
+pub fn first_above(numbers: &[u64; 16], n: usize, most: u64) -> usize
+    requires { ⌜ n ≤ 16 ⌝ }
+    ensures { λ r. ⌜ r ≡ leading (λ h. leb (getD (now (numbers .entry)) h 0) most) n ⌝ }
 {
-    for h in 0..k {
-        if factors[h] > MOST_FACTOR {
+    for h in 0..n {
+        if numbers[h] > most {
             return h;
         }
     }
-    k
+    n
 }
 
 // B of year h is below 1: nothing is paid to develop from.
@@ -121,7 +121,7 @@ pub fn first_refused(columns: &[u64; 16], paid: &[u64; 16], k: usize) -> usize
 {
     let mut factors = [MOST_FACTOR + 1; 16];
     development_factors(k, columns, paid, &mut factors);
-    first_above(&factors, k)
+    first_above(&factors, k, MOST_FACTOR)
 }
 
 // The reason of question 13, from the same.
