@@ -8,7 +8,7 @@ use mathlib.Core.List.{List, [], _∷_, _++_}
 use lib.Dec.{eqb, leb}
 use lib.ListN.{getD}
 use Rattle.rules.specs.Lists.{every}
-use Rattle.rules.specs.Questions.{firstNo, afterCall}
+use Rattle.rules.specs.Questions.{firstNo, questionsBefore, afterCall}
 use Rattle.laws.proofs.Lists.{both-left, both-right}
 
 -- whether every question has a number from 1 on
@@ -114,6 +114,21 @@ no-said n l (q ∷ qs) o h = go (eqb (q .0) n) refl (q .1) refl o h (no-said n l
     go true e false f o h after = refl
     go false e true f o h after = after o h
     go false e false f o h after = absurd (eqb-false (q .0) n e h)
+
+-- where it says no, and those before it yes, its number is the answer
+pub no-answers : (n : ℕ) (qs : List (ℕ × Bool)) → numbered qs ≡ true → firstNo (questionsBefore n qs) ≡ 0 → said n qs ≡ false → firstNo qs ≡ n
+unfolding firstNo questionsBefore every
+no-answers n [] a h e = absurd (let w : _≡_ {A = ℕ} 0 1 = cc in omega arith)
+no-answers n (q ∷ qs) a h e =
+    let least = leb-true 1 (q .0) (both-left (leb 1 (q .0)) (numbered qs) a) in
+    go (eqb (q .0) n) refl (q .1) refl least h e (no-answers n qs (both-right (leb 1 (q .0)) (numbered qs) a))
+  where
+    go : (x : Bool) → eqb (q .0) n ≡ x → (b : Bool) → q .1 ≡ b → 1 ≤ q .0 → firstNo (cond x [] (q ∷ questionsBefore n qs)) ≡ 0 → cond x b (said n qs) ≡ false
+        → (firstNo (questionsBefore n qs) ≡ 0 → said n qs ≡ false → firstNo qs ≡ n) → cond b (firstNo qs) (q .0) ≡ n
+    go true f true g least h e after = absurd (let w : _≡_ {A = ℕ} 0 1 = cc in omega arith)
+    go true f false g least h e after = eqb-true (q .0) n f
+    go false f true g least h e after = after (rw g at h) e
+    go false f false g least h e after = absurd (let z : q .0 ≡ 0 = rw g at h in omega arith)
 
 -- whether question m stands before question n
 abbrev pub precedes : ℕ → ℕ → List (ℕ × Bool) → Bool

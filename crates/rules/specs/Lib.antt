@@ -7,6 +7,7 @@ pub mod Writing
 pub mod Triangle
 pub mod Separation
 pub mod Exact
+pub mod Positive
 pub mod Tail
 pub mod Completion
 pub mod Expense

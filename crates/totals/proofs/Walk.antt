@@ -13,7 +13,7 @@ use Rattle.totals.proofs.Cells.{cells-zero}
 use Rattle.totals.proofs.Corners.{corner-down, corner-first, corner-last}
 
 -- column j is s 0 j + .. + s 15 j
-column-walk : (s : List (List ℤ)) (j : ℕ) → j < 16 → columnTotal s j ≡ sumTo (λ i. cellOf s i j) 16
+pub column-walk : (s : List (List ℤ)) (j : ℕ) → j < 16 → columnTotal s j ≡ sumTo (λ i. cellOf s i j) 16
 unfolding columnTotal cellsTotal
 column-walk s j lt = sumTo-same _ _ 16 (λ i l. sumTo-one (cellOf s i) j 16 lt)
 

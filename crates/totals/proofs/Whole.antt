@@ -51,7 +51,7 @@ module _ (s : List (List ℤ)) (k : ℕ) (q7 : totalsPass s k ≡ true) where
       let first = and-eq-true-iff (columnsPass s k) (diagonalsPass s k && leZ (allTotal s) (pos billion)) .0 q7 in
       (first .0, and-eq-true-iff (diagonalsPass s k) (leZ (allTotal s) (pos billion)) .0 (first .1))
 
-  column-least : (j : ℕ) → j ≤ k → pos 0 ≤ℤ columnTotal s j
+  pub column-least : (j : ℕ) → j ≤ k → pos 0 ≤ℤ columnTotal s j
   column-least j le = yes-le _ _ (every-upTo (λ j. leZ (pos 0) (columnTotal s j)) (λ h. h) (k + 1) j (parts .0) (omega arith))
 
   diagonal-least : (h : ℕ) → h ≤ k → pos 0 ≤ℤ diagonalTotal s h
@@ -72,7 +72,7 @@ module _ (s : List (List ℤ)) (k : ℕ) (q7 : totalsPass s k ≡ true) where
   diagonal-is h le = whole _ (diagonal-least h le)
 
   module _ (q8 : restsPass s k ≡ true) where
-    rest-least : (h : ℕ) → h < k → pos 1 ≤ℤ (cornerTotal s (suc h) -ℤ columnTotal s (suc h))
+    pub rest-least : (h : ℕ) → h < k → pos 1 ≤ℤ (cornerTotal s (suc h) -ℤ columnTotal s (suc h))
     unfolding restsPass
     rest-least h lt =
         let e : leZ (pos 1) (cornerTotal s (h + 1) -ℤ columnTotal s (h + 1)) ≡ true

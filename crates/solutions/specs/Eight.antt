@@ -1,0 +1,22 @@
+-- What refusal 8 says of a triangle of averages s of the years 0 to k that is given an answer (document 02, "Refusal 8 as a fact about the triangle").
+-- Assumes nothing.
+use Prim.Native.Nat.{ℕ}
+use mathlib.Core.Path.{_≡_}
+use mathlib.Core.List.{List}
+use lib.IntN.{ℤ}
+use Rattle.rules.specs.Triangle.{columnTotal, diagonalTotal}
+use Rattle.rules.specs.Exact.{Solves}
+use Rattle.rules.specs.Positive.{Positive, Separable, Same, Products}
+
+pub record Eight (s : List (List ℤ)) (k answer : ℕ) : Type 0 where
+  -- 8 is given if and only if Taylor's equations have no exact solution with the named sums positive
+  pub refused : answer ≡ 8 → Separable s k → ⊥
+  pub none : (Separable s k → ⊥) → answer ≡ 8
+  -- where 8 is not given there is one
+  pub some : (answer ≡ 8 → ⊥) → Separable s k
+  -- where there is one, it is the only exact solution, whatever the signs of the other
+  pub only : (D E : ℕ) (r l : ℕ → ℤ) → Solves k D E (columnTotal s) (diagonalTotal s) r l → Positive k r l
+      → (F G : ℕ) (x y : ℕ → ℤ) → Solves k F G (columnTotal s) (diagonalTotal s) x y → Same k D E r l F G x y
+  -- averages that are exactly share times level, the named sums positive, have those as their solution, and 8 is not given
+  pub products : (D E : ℕ) (r l : ℕ → ℤ) → Products k D E r l s → Positive k r l
+      → Solves k D E (columnTotal s) (diagonalTotal s) r l × (answer ≡ 8 → ⊥)
