@@ -1,9 +1,11 @@
 """Document 01's record and engine, with requests 1, 3, 4 and 6 of document 02 (the ULAE ratio under growth, payments after the last year, halves to the even
-hundredth, question 13 directly after 6), in plain Python, written from the paper and not from the Rattle code.
+hundredth, question 13 directly after 6), and the exact solution that its request 8 is about, in plain Python, written from the paper and not from the Rattle
+code.
 
 Used to make the stored inputs and expected outputs of the test programs (make_cases.py), and timed beside the engine by tests/benchmark.
 """
 from fractions import Fraction
+from itertools import accumulate
 
 S = 10**9
 M = 10**6
@@ -158,11 +160,48 @@ def development_factors(C):
     return m
 
 
-def running_shares(s):
-    """A_0 to A_k and the diagonals d_0 to d_k of a triangle of averages, given by row, under questions 7 and 8."""
+def sums(s):
+    """The columns v_0 to v_k and the diagonals d_0 to d_k of a triangle of averages, given by row."""
     k = len(s) - 1
     v = [sum(s[i][j] for i in range(k + 1 - j)) for j in range(k + 1)]
     d = [sum(s[i][h - i] for i in range(h + 1)) for h in range(k + 1)]
+    return v, d
+
+
+def exact_solution(s):
+    """The exact r_0 to r_k and l_0 to l_k of a triangle of averages, given by row, as fractions (document 01, "Shares and levels"): l_h = d_h / A_h and
+    r_h = v_h / (l_h + .. + l_k), from the latest year down, r_0 being A_0. None where that divides by zero; where it does not, no other solution is there. It
+    is 004's (5) and (6), without T_h."""
+    v, d = sums(s)
+    r, levels, A, level_sum = [], [], Fraction(1), Fraction(0)
+    for h in range(len(s) - 1, -1, -1):
+        if A == 0:
+            return None
+        levels.insert(0, d[h] / A)
+        level_sum += levels[0]
+        if h > 0 and level_sum == 0:
+            return None
+        r.insert(0, v[h] / level_sum if h > 0 else A)
+        A -= r[0]
+    return r, levels
+
+
+def positive(r, levels):
+    """The named sums of request 8 of document 02 are positive: every running share from r_0 to r_0 + .. + r_{k-1}, every l_h + .. + l_k with h from 1 to k."""
+    named = list(accumulate(r))[:-1] + list(accumulate(reversed(levels)))[:-1]
+    return min(named) > 0
+
+
+def positive_solution(s):
+    """The exact solution whose named sums are positive, which request 8 of document 02 is about; None where there is none."""
+    found = exact_solution(s)
+    return found if found and positive(*found) else None
+
+
+def running_shares(s):
+    """A_0 to A_k and the diagonals d_0 to d_k of a triangle of averages, given by row, under questions 7 and 8."""
+    k = len(s) - 1
+    v, d = sums(s)
     if min(v + d) < 0 or sum(v) > S:
         raise Refused(7)
     T = [sum(s[i][j] for i in range(k + 1) for j in range(k + 1 - i) if j <= h <= i + j) for h in range(k + 1)]
@@ -302,7 +341,7 @@ PAID_BACK = [2, 1, 100, 1, 0, 1, 0, 50, -40, 1, M, M, M, M, 0, 0, 500000, 0, 0, 
 
 def marked():
     """The items of document 01's "Marked triangles and edges", which are of 2026, averages as request 4 of document 02 marks them, the amount zero as request 3
-    does, and the k = 2 case as request 6 does; and what the ratio under growth makes of the two years."""
+    does, and the k = 2 case as request 6 does; and what the ratio under growth makes of the two years; exact solutions."""
     def put(*changes, year=2026):
         fields = list(TWO_YEARS)
         for at, value in changes:
@@ -341,6 +380,11 @@ def marked():
     reported_late = (8, 0), (9, M), (10, M)
     assert [put((3, 1), (4, 0), (5, 2000000), *reported_late, year=year)[0] for year in (2026, 2027)] == [0, 16]
     assert [put((11, 66), (12, 100), *reported_late, year=year)[0] for year in (2026, 2027)] == [0, 17]
+    # of request 8: shares 3/5, 2/5 times levels 100, 200; the only solution, A_0 being -1; division by zero, where there is none or are many
+    assert positive_solution([[6000, 8000], [12000]]) == ([Fraction(3, 5), Fraction(2, 5)], [10000, 20000])
+    wrong_kind = [[0, 100, 200], [100, -100], [0]]
+    assert exact_solution(wrong_kind) == ([-1, 0, 2], [0, -200, 100]) and positive_solution(wrong_kind) is None
+    assert [exact_solution(s) for s in ([[100, 0, 0], [0, 100], [0]], [[100, 0, 0], [0, 0], [0]], [[6000, 4000], [0]])] == [None] * 3
 
 
 marked()
