@@ -1232,4 +1232,5 @@ def store(name, given, wanted):
     print(name, len(given), "bytes in,", f"{len(wanted)} bytes out" if isinstance(wanted, bytes) else f"{wanted.count(chr(10))} lines out")
 
 
-main()
+if __name__ == "__main__":
+    main()
