@@ -499,7 +499,7 @@ QUESTIONS = {
         "Recoveries above payments; or exposures in a larger unit than claims."),
     8: ("Is T_h less v_h at least 0.01 for every development year h from 1 to k?",
         "Beside this development year the separation finds nothing left: of all averages in development years up to it, in payment years from it on, nothing above zero remains once its own column is taken off.",
-        "Look first whether the latest payment year is missing or was entered as zeros."),
+        "It is proved that this is a fact about the triangle and not about the method: Taylor's equations have no exact solution in which every running share before the last, and every sum of levels from a payment year after the first to the latest, is above zero. Look first whether the latest payment year is missing or was entered as zeros."),
     9: ("Is every running share at least a billionth?",
         "The shares up to this development year together round to nothing.",
         "Beside later ones the averages of the first development year are very small, those of the first origin year aside. Begin at a later development year."),
@@ -677,6 +677,28 @@ def why(number, record, first):
     return None, [("Plain ULAE ratio", Cell(plain, 4, "%")), ("Divisor", Cell(divisor, 6)), ("Corrected ULAE ratio", Cell(corrected, 4, "%"))]
 
 
+# what stands above the table of all years of which question 8 says no, in the lines of the page of text
+NOTHING_LEFT = """\
+T_h less v_h is what was paid, a claim, in the development years before h and in
+the payment years from h to the latest. In an exact solution it is the running
+share up to the year before h times the sum of the levels from h to the latest:
+where it is not above zero, one of the two is not. Below is every development
+year h of which question 8 says no."""
+
+
+def nothing_left(page, record):
+    """Of a record that question 8 refuses: every year of which it says no, with the figures."""
+    k = record[0] >> 4
+    given = model.lists(model.read(record, model.field_count(k)))
+    _, v, _, T = found(model.by_row(k, given["P"]), given["n"])
+    years = [h for h in range(1, k + 1) if T[h] - v[h] < 1]
+    page.start("Every development year with nothing left")
+    page.put("<p>" + NOTHING_LEFT.replace("\n", " ") + "</p>\n" if page.html else f"\n{NOTHING_LEFT}\n")
+    page.table("Development years of which question 8 says no", ["development year", "T_h", "v_h", "T_h less v_h"], years,
+               [cells([T[h], v[h], T[h] - v[h]], 2) for h in years])
+    page.end()
+
+
 def refused_page(year, record, html=False, title=b"", first=0):
     """The page of a record that the engine refuses in a valuation year."""
     number = model.run(year, record, 505)[0]
@@ -697,6 +719,8 @@ def refused_page(year, record, html=False, title=b"", first=0):
     made.table("The question's figures", ["figure", "a claim" if number in (7, 8) else "value"], [label for label, _ in figures], [[cell] for _, cell in figures])
     made.put(f"<p>{advice}</p>\n" if html else f"\n{advice}\n")
     made.end()
+    if number == 8:
+        nothing_left(made, record)
     if number > 5:
         inputs(made, year, model.lists(model.read(record, model.field_count(k))), k, first)
     made.start("What is proved")
