@@ -9,6 +9,7 @@ What is expected comes from model.py, page.py and sheet.py, which are written fr
 import glob
 import os
 import random
+from fractions import Fraction
 
 import model
 import page
@@ -189,8 +190,37 @@ def accepted():
     yield fields_of([1, 1, 1], [[0, 5, 0], [5, 5], [7]])
     yield from halves()
     yield from tails()
+    yield from products()
     for _, within, _ in all_edges():
         yield within
+
+
+def product_of(shares, levels):
+    """Fields whose averages are exactly share times level, all n 1, and which have those as their exact solution."""
+    k = len(shares) - 1
+    rows = [[shares[j] * levels[i + j] for j in range(k + 1 - i)] for i in range(k + 1)]
+    assert all(paid == int(paid) for row in rows for paid in row)
+    assert model.positive_solution([[100 * paid for paid in row] for row in rows]) == (shares, [100 * level for level in levels])
+    return fields_of([1] * (k + 1), [[int(paid) for paid in row] for row in rows])
+
+
+def products():
+    """Fields whose averages are exactly share times level."""
+    # 60, 80 / 120; 50, 36, 30 / 60, 45 / 75; a share and a level of 0
+    yield product_of([Fraction(3, 5), Fraction(2, 5)], [100, 200])
+    yield product_of([Fraction(1, 2), Fraction(3, 10), Fraction(1, 5)], [100, 120, 150])
+    yield product_of([Fraction(1, 2), Fraction(0), Fraction(1, 4), Fraction(1, 4)], [40, 0, 80, 100])
+    # a level that is no whole number: only the first share, 2/3, meets it
+    yield product_of([Fraction(2, 3), Fraction(1, 3)], [Fraction(3, 2), 30])
+    yield product_of([Fraction(16 - j, 136) for j in range(16)], [136 * (100 + h * h) for h in range(16)])
+
+
+def left_edges():
+    """As edges: beside one development year 1 hundredth is left, in its first payment year and first or last column, and none; of others there is more."""
+    for k, h in ((2, 1), (2, 2), (3, 1), (3, 2), (3, 3), (15, 1), (15, 2), (15, 8), (15, 14), (15, 15)):
+        rest = [(i, j) for i in range(k + 1) for j in range(k + 1 - i) if j < h <= i + j]
+        for last in sorted({(h, 0), (1, h - 1)}):
+            yield 8, *(plain_but(k, {cell: left if cell == last else 0 for cell in rest}) for left in (1, 0))
 
 
 def edges():
@@ -348,7 +378,7 @@ def development_edges():
 
 
 def all_edges():
-    return (*edges(), *half_edges(), *total_edges(), *tail_edges(), *development_edges())
+    return (*edges(), *half_edges(), *total_edges(), *tail_edges(), *development_edges(), *left_edges())
 
 
 def plain_but(k, cells):
@@ -436,6 +466,31 @@ def refused():
     yield 14, fields_of(n, rows[:10] + [[10**10]])
     yield from tail_refusals()
     yield from over_developed()
+    yield from unsolved()
+
+
+def unsolved():
+    """As refused: triangles without an exact solution whose running shares and level sums are positive, 8 with each of 7, 9, 10 and 13 among them."""
+    for number_, n, rows in (
+            # no exact solution; many, by the shares and by the first level; exactly one, whose shares are -1, 0, 2
+            (8, [1] * 3, [[1, 0, 0], [0, 1], [0]]),
+            (8, [1] * 2, [[60, 40], [0]]),
+            (8, [1] * 3, [[1, 0, 0], [0, 0], [0]]),
+            (8, [1] * 2, [[1, 0], [0]]),
+            (8, [1000, 1], [[1, 40], [0]]),
+            (8, [1] * 3, [[0, 1, 2], [1, -1], [0]]),
+            # every first level does of 0, 40 / 0 too, but the chain ladder's base is zero; a factor is above 50
+            (13, [1] * 2, [[0, 40], [0]]),
+            (13, [1] * 2, [[1, 50], [0]]),
+            # averages are too large together; a column and the latest diagonal are below 0, and another diagonal
+            (7, [1] * 2, [[10**7, 1], [0]]),
+            (7, [1] * 3, [[60, 0, 0], [60, -1], [0]]),
+            (7, [1] * 3, [[60, -1, 0], [0, 0], [0]]),
+            # A_1 would be 0; l_1 would be too large
+            (8, [100] * 4, [[5000, 45000, 2000000, 50000000], [0, 0, 0], [0, 1], [0]]),
+            (8, [100] * 3, [[5000, 200000, 8000000], [0, 1], [0]])):
+        assert model.positive_solution([[model.average(paid, claims) for paid in row] for claims, row in zip(n, rows)]) is None
+        yield number_, fields_of(n, rows)
 
 
 # A_0 is 0 and a level would be too large, and the chain ladder's factors are within their limit
@@ -993,6 +1048,14 @@ def more_refused():
     # T_h less v_h is 0 in two years, and below 0 in one
     yield "08_two_years", 2026, model.pack(fields_of([1] * 4, [[5, 5, 5, 1], [5, 0, 0], [0, 0], [0]])), "development year 2", 0
     yield "08_below", 2026, model.pack(fields_of([1] * 4, [[50, 5, 5, 1], [9, -4, 5], [0, 3], [0]])), "development year 2", None
+    # of the years 1 and 3, and not of 2; of the years from 10 on, by amounts of many digits, below 0 in two
+    yield "08_first_and_last", 2026, model.pack(fields_of([1] * 4, [[5, 5, 5, 1], [0, 5, 0], [0, 0], [0]])), "development year 1", None
+    rows = [[1000 if i + j < 10 else 0 for j in range(16 - i)] for i in range(16)]
+    rows[2][0], rows[2][9], rows[0][9], rows[0][11], rows[0][13] = 90000, -90000, 91000, 90000, 1234567
+    yield "08_16_years", 2027, model.pack(fields_of([10] * 16, rows)), "development year 10", None
+    # the triangles with no exact solution, with many and with one
+    for name, rows, h in (("none", [[1, 0, 0], [0, 1], [0]], 1), ("many", [[1, 0, 0], [0, 0], [0]], 1), ("one", [[0, 1, 2], [1, -1], [0]], 2)):
+        yield f"08_solutions_{name}", 2026, model.pack(fields_of([1] * 3, rows)), f"development year {h}", None
     # the first running share is 0, and the first two
     yield "09_one", 2026, model.pack(RUNNING_OUT), "development year 0", None
     yield "09_two", 2026, model.pack(fields_of([100] * 4, [[5000, 45000, 2000000, 50000000], [0, 0, 0], [0, 0], [1]])), "development year 0", None
