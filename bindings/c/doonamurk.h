@@ -20,7 +20,8 @@
  *    6  Is every given cumulative from 0 to 10^11?
  *   13  Is every chain-ladder base at least 1, and every development factor at most 50,000,000?
  *    7  Is every column and every diagonal of the averages at least 0, and their total at most 10^9?
- *    8  Is T_h - v_h at least 1 for every h from 1 to k?
+ *    8  Is T_h - v_h at least 1 for every h from 1 to k? (The number is given if and only if Taylor's equations have no exact solution in which every
+ *       running share before the last, and every sum of levels from a payment year after the first to the latest, is above 0.)
  *    9  Is every running share at least 1?
  *   10  Is every level at most 10^9?
  *   18  Is the average of what is still to be paid for year 0 after year k at most 10^9?
