@@ -245,6 +245,30 @@ static void refusals(void)
     refused(19, changed, 45, 22, "refused 19: an average carried to year 1 above 5 * 10^9");
 }
 
+/* Refused 8: no exact solution, many, and exactly one, whose shares are -1, 0, 2. Accepted: the products of shares 3/5, 2/5 and levels 100, 200. */
+static void solutions(void)
+{
+    const struct { int64_t cells[6]; const char *what; } without[] = {
+        {{1, 0, 0, 0, 1, 0}, "refused 8: no exact solution"},
+        {{1, 0, 0, 0, 0, 0}, "refused 8: many exact solutions"},
+        {{0, 1, 2, 1, -1, 0}, "refused 8: exactly one exact solution, of the wrong kind"},
+    };
+    const uint64_t one[] = {1, 1, 1}, level[] = {1000000, 1000000, 1000000}, at_once[] = {1000000, 0, 0}, none[] = {0, 0, 0};
+    uint8_t record[DOONAMURK_RECORD_MAX];
+    for (size_t i = 0; i < sizeof without / sizeof *without; i++) {
+        size_t bytes = doonamurk_record_bytes(2);
+        check(doonamurk_write(2, one, 3, without[i].cells, 6, level, 3, at_once, 3, 0, none, 3, 0, record, bytes) == 0, "three years are written");
+        refused_in(2026, 8, record, bytes, doonamurk_result_count(2), without[i].what);
+        refused_in(2027, 8, record, bytes, doonamurk_result_count(2), without[i].what);
+    }
+    static const int64_t products[] = {60, 80, 120}, shares[] = {600000000, 400000000}, levels[] = {10000, 20000};
+    int64_t results[22];
+    check(doonamurk_write(1, one, 2, products, 3, level, 2, at_once, 2, 0, none, 2, 0, record, 45) == 0, "products are written");
+    check(doonamurk_run(2026, record, 45, results, 22) == 0, "products of shares and levels are accepted");
+    check(memcmp(results + doonamurk_section_start(1, DOONAMURK_SHARES), shares, sizeof shares) == 0, "the shares of products");
+    check(memcmp(results + doonamurk_section_start(1, DOONAMURK_LEVELS), levels, sizeof levels) == 0, "the levels of products");
+}
+
 /* What only valuation years from 2027 on ask; in 2026 each of these is accepted. */
 static void growth_refusals(void)
 {
@@ -351,6 +375,7 @@ int main(void)
     halves();
     motor_account();
     refusals();
+    solutions();
     growth_refusals();
     refused_writes();
     threads();

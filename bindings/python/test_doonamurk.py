@@ -204,6 +204,16 @@ class Calls(unittest.TestCase):
         order = [1, 2, 3, 4, 5, 6, 13, 7, 8, 9, 10, 18, 19, 11, 12, 15, 16, 17, 14]
         self.assertEqual((list(doonamurk.QUESTIONS), list(doonamurk.WRITE_QUESTIONS)), (order, order))
 
+    def test_triangles_without_the_solution_that_the_method_needs(self):
+        """No exact solution, many, and exactly one, whose shares are -1, 0, 2; then the products of shares 3/5, 2/5 and levels 100, 200."""
+        three_years = dict(k=2, exposures=[1] * 3, indices=[1000000] * 3, reporting=[1000000, 0, 0], weight=0, ulae=[0] * 3, tail=0)
+        for increments in ([1, 0, 0, 0, 1, 0], [1, 0, 0, 0, 0, 0], [0, 1, 2, 1, -1, 0]):
+            record = doonamurk.write(**three_years, increments=increments)
+            for year in (2026, 2027):
+                self.refused(8, doonamurk.run, record, year)
+        named = doonamurk.sections(doonamurk.run(doonamurk.write(**{**TWO_YEARS, "increments": [60, 80, 120]}), 2026))
+        self.assertEqual((named["shares"], named["levels"]), ({0: 600000000, 1: 400000000}, {0: 10000, 1: 20000}))
+
     def test_refused_writes(self):
         for number, change in (
             (1, dict(k=0)),

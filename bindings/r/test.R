@@ -138,6 +138,20 @@ stopifnot(
   names(doonamurk_questions) == c(1:6, 13, 7:10, 18, 19, 11, 12, 15:17, 14)
 )
 
+# Refused 8: no exact solution, many, and exactly one, whose shares are -1, 0, 2. Accepted: the products of shares 3/5, 2/5 and levels 100, 200.
+without <- list(
+  rbind(c(1, 0, 0), c(0, 1, NA), c(0, NA, NA)), rbind(c(1, 0, 0), c(0, 0, NA), c(0, NA, NA)), rbind(c(0, 1, 2), c(1, -1, NA), c(0, NA, NA))
+)
+refused_three <- function(paid, year) {
+  refused(doonamurk_run(doonamurk_write(rep(1, 3), paid, rep(1000000, 3), c(1000000, 0, 0), 0, rep(0, 3), 0), year))
+}
+products <- doonamurk_sections(doonamurk_run(two_years_paid(c(60, 80, 120)), 2026))
+stopifnot(
+  vapply(without, refused_three, 0, 2026) == 8,
+  vapply(without, refused_three, 0, 2027) == 8,
+  products$shares == c(600000000, 400000000), products$levels == c(10000, 20000)
+)
+
 # Averages that lie halfway between two hundredths go to the even one, negative ones too.
 halves <- write_motor(exposures = rep(8, 4), paid_ = rbind(c(401, -1, 3, 5), c(403, 7, -3, NA), c(405, 9, NA, NA), c(407, NA, NA, NA)))
 stopifnot(doonamurk_run(halves, 2026)[1:10] == c(5012, -12, 38, 62, 5038, 88, -38, 5062, 112, 5088))

@@ -340,6 +340,38 @@ fn no_base_of_the_chain_ladder_comes_before_a_running_share_of_0() {
     }
 }
 
+/// No exact solution, many, and exactly one, whose shares are -1, 0, 2; then the products of shares 3/5, 2/5 and levels 100, 200.
+#[test]
+fn triangles_without_the_solution_that_the_method_needs() {
+    let cases: [[i64; 6]; 3] = [[1, 0, 0, 0, 1, 0], [1, 0, 0, 0, 0, 0], [0, 1, 2, 1, -1, 0]];
+    for increments in cases {
+        let record = write_to_vec(&Fields {
+            k: 2,
+            exposures: &[1; 3],
+            increments: &increments,
+            indices: &[1_000_000; 3],
+            reporting: &[1_000_000, 0, 0],
+            weight: 0,
+            ulae: &[0; 3],
+            tail: 0,
+        })
+        .expect("written");
+        for year in [2026, 2027] {
+            let refusal = run_to_vec(year, &record).expect_err("refused");
+            assert_eq!(refusal.number(), 8);
+        }
+    }
+    let record = write_to_vec(&Fields {
+        increments: &[60, 80, 120],
+        ..TWO_YEARS
+    })
+    .expect("written");
+    let results = run_to_vec(2026, &record).expect("accepted");
+    let named = sections(1, &results).expect("a list of two years");
+    assert_eq!(named.shares, [600_000_000, 400_000_000]);
+    assert_eq!(named.levels, [10_000, 20_000]);
+}
+
 #[test]
 fn a_refused_write_leaves_the_buffer() {
     let calls: [(Fields, usize, u64); 8] = [
