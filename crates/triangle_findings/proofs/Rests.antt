@@ -7,22 +7,26 @@ use native.Mathlib.Numerals.{add-one}
 use native.Mathlib.Omega.{arith}
 use lib.IntN.{ℤ, pos, natAbs, _+ℤ_, _-ℤ_}
 use lib.ListN.{getD}
+use mir.Syntax.{w64}
+use mir.Val.{toZ, ofZ}
+use mir.Facts.{toZ-ofZ}
 use Rattle.rules.specs.Lists.{below, every}
-use Rattle.rules.specs.Triangle.{sumTo, columnTotal, diagonalTotal, cornerTotal}
+use Rattle.rules.specs.Triangle.{sumTo, columnTotal, diagonalTotal, cornerTotal, TotalsIn}
 use Rattle.rules.specs.Separation.{restsPass}
 use Rattle.laws.proofs.Adding.{sumTo-size}
 use Rattle.laws.proofs.Diff.{is-self, is-add, is-minus, is-eqs, eq-is}
-use Rattle.laws.proofs.Lists.{every-same}
+use Rattle.laws.proofs.Lists.{getD-upTo, every-same}
 use Rattle.signed_sums.proofs.Sums.{difference-size}
 use Rattle.laws.proofs.Sums.{sumTo-same}
-use Rattle.totals.specs.CellSizes.{mostTotal}
+use Rattle.laws.proofs.Signed.{held, size-fits}
+use Rattle.totals.specs.CellSizes.{mostTotal, TotalsSmall}
 use Rattle.totals.proofs.Walk.{corner-sums}
 use Rattle.separation.specs.Walk.{Summed}
 use Rattle.entries.proofs.Leading.{leading-stop}
 use Rattle.reasons.proofs.Counted.{leading-same, stops-below}
 use Rattle.finding.specs.Places.{developmentYear, found}
 use Rattle.triangle_findings.specs.TriangleFindings.{restPassesOf, refusedRest, restFound, restFinding, cornerBy, mostCorner}
-use Rattle.triangle_findings.proofs.Totals.{column-at, diagonal-at}
+use Rattle.triangle_findings.proofs.Totals.{column-at}
 
 module _ (v d : ℕ → ℤ) where
   -- T_0 is v_0, and the next T
@@ -44,6 +48,17 @@ module _ (v d : ℕ → ℤ) where
   corner-size a b h l =
       omega (arith, difference-size (sumTo v (h + 1)) (sumTo d h), sumTo-size v mostTotal a (h + 1), sumTo-size d mostTotal b h)
 
+-- T of year m and a total, of the arrays v and d, as the code holds them
+pub corner-held : (v d : List ℤ) → TotalsSmall v → TotalsSmall d → (m t : ℕ) → m ≤ 16 → t ≡ ofZ w64 (cornerBy (λ j. getD v j (pos 0)) (λ h. getD d h (pos 0)) m)
+    → toZ w64 t ≡ cornerBy (λ j. getD v j (pos 0)) (λ h. getD d h (pos 0)) m
+corner-held v d a b m t l e =
+    let column : ℕ → ℤ = λ j. getD v j (pos 0) in
+    let diagonal : ℕ → ℤ = λ h. getD d h (pos 0) in
+    ap (toZ w64) e ∙ toZ-ofZ (size-fits (cornerBy column diagonal m) (omega (arith, corner-size column diagonal a b m l)))
+
+pub total-held : (v : List ℤ) → TotalsSmall v → (i : ℕ) → held (getD v i (pos 0)) ≡ getD v i (pos 0)
+total-held v a i = toZ-ofZ (size-fits (getD v i (pos 0)) (omega (arith, a i)))
+
 -- T of a square by its columns and diagonals
 corner-is : (q : List (List ℤ)) (h : ℕ) → cornerTotal q h ≡ cornerBy (columnTotal q) (diagonalTotal q) h
 unfolding cornerBy
@@ -51,6 +66,14 @@ corner-is q h =
     rw (add-one h)
     (eq-is (is-self (cornerTotal q h)) (is-minus (is-self (sumTo (columnTotal q) (suc h))) (is-self (sumTo (diagonalTotal q) h)))
     (omega (arith, is-eqs (is-add (is-self (cornerTotal q h)) (is-self (sumTo (diagonalTotal q) h))) (is-self (sumTo (columnTotal q) (suc h))) (corner-sums q h))))
+
+-- T of a square by the lists v and d of its totals
+pub corner-of : (q : List (List ℤ)) (v d : List ℤ) → TotalsIn q v d → (i : ℕ) → i < 16 → cornerBy (λ j. getD v j (pos 0)) (λ h. getD d h (pos 0)) i ≡ cornerTotal q i
+unfolding cornerBy
+corner-of q v d of i l =
+    ap₂ (λ (a b : ℤ). a -ℤ b) (sumTo-same (λ j. getD v j (pos 0)) (columnTotal q) (i + 1) (λ j m. rw (of .0) (getD-upTo (columnTotal q) 16 j (pos 0) (omega arith))))
+    (sumTo-same (λ h. getD d h (pos 0)) (diagonalTotal q) i (λ h m. rw (of .1) (getD-upTo (diagonalTotal q) 16 h (pos 0) (omega arith))))
+    ∙ sym (corner-is q i)
 
 -- question 8, year by year
 module _ (t v : ℕ → ℤ) where
@@ -106,11 +129,7 @@ module _ (q : List (List ℤ)) (k : ℕ) (few : k < 16) (v d : List ℤ) (of : S
   diagonal h = getD d h (pos 0)
 
   corner-at : (i : ℕ) → i < k + 1 → cornerBy column diagonal i ≡ cornerTotal q i
-  unfolding cornerBy
-  corner-at i l =
-      ap₂ (λ (a b : ℤ). a -ℤ b) (sumTo-same column (columnTotal q) (i + 1) (λ j m. column-at q k few v d of j (omega arith)))
-      (sumTo-same diagonal (diagonalTotal q) i (λ j m. diagonal-at q k few v d of j (omega arith)))
-      ∙ sym (corner-is q i)
+  corner-at i l = corner-of q v d (of .totals) i (omega arith)
 
   pub rests-in : (n : ℕ) → n ≡ k → every (λ m. restPassesOf (cornerBy (λ j. getD v j (pos 0)) (λ h. getD d h (pos 0))) (λ j. getD v j (pos 0)) (m + 1)) (below n) ≡ false
   rests-in n e = rw e (rests-same (cornerBy column diagonal) (cornerTotal q) column (columnTotal q) k corner-at (column-at q k few v d of) ∙ rests-no q k no8)

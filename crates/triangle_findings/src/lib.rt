@@ -171,7 +171,7 @@ pub fn development_finding(year: u64, packed: &[u8]) -> Finding
 }
 
 // T of the next year: t without the diagonal d of its own year, and the column v of the next.
-fn next_corner(t: i64, d: i64, v: i64) -> i64
+pub fn next_corner(t: i64, d: i64, v: i64) -> i64
     requires { ⌜ (natAbs t ≤ mostCorner) × ((natAbs d ≤ mostCorner) × (natAbs v ≤ mostCorner)) ⌝ }
     ensures { λ r. ⌜ r ≡ t -ℤ d +ℤ v ⌝ }
 {

@@ -7,17 +7,16 @@ use Prim.Native.Nat.{ℕ, _+_, _-_, _≤_}
 use lib.IntN.{ℤ, pos, _+ℤ_, _-ℤ_}
 use lib.ListN.{getD}
 use mir.Syntax.{w64}
-use mir.Val.{toZ, ofZ}
+use mir.Val.{ofZ}
 use mir.Facts.{toZ-ofZ}
 use borrow.Author.Needs.{sfits-of}
 use Rattle.rules.specs.Lists.{upTo, below, every}
 use Rattle.laws.proofs.Lists.{every-next}
 use Rattle.laws.proofs.Order.{less-yes, less-no}
-use Rattle.laws.proofs.Signed.{held, size-fits}
-use Rattle.totals.specs.CellSizes.{TotalsSmall}
+use Rattle.laws.proofs.Signed.{held}
 use Rattle.reasons.proofs.Counted.{no-both}
 use Rattle.triangle_findings.specs.TriangleFindings.{restPassesOf, cornerBy}
-use Rattle.triangle_findings.proofs.Rests.{corner-start, corner-next, corner-size, rest-stop}
+use Rattle.triangle_findings.proofs.Rests.{corner-start, corner-next, corner-size, corner-held, total-held, rest-stop}
 use Rattle.triangle_findings.proofs.rest_found.Statement.{statement}
 use Rattle.triangle_findings.proofs.rest_found.Tie as tie
 
@@ -42,14 +41,6 @@ unfolding upTo every
 loop-holds c =
     let s = c .before in
     (omega arith, (ap (ofZ w64) (corner-start (λ j. getD (s .args .columns .now) j (pos 0)) (λ h. getD (s .args .diagonals .now) h (pos 0))), refl))
-
--- T of year m and an entry of the arrays as the code holds them
-corner-held : (v d : List ℤ) → TotalsSmall v → TotalsSmall d → (m t : ℕ) → m ≤ 16 → t ≡ ofZ w64 (corner v d m) → toZ w64 t ≡ corner v d m
-corner-held v d a b m t l e =
-    ap (toZ w64) e ∙ toZ-ofZ (size-fits (corner v d m) (omega (arith, corner-size (λ j. getD v j (pos 0)) (λ h. getD d h (pos 0)) a b m l)))
-
-total-held : (v : List ℤ) → TotalsSmall v → (i : ℕ) → held (getD v i (pos 0)) ≡ getD v i (pos 0)
-total-held v a i = toZ-ofZ (size-fits (getD v i (pos 0)) (omega (arith, a i)))
 
 add-h : tie.Need-add-h Inv-loop μ-loop
 add-h c = omega arith
