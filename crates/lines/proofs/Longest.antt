@@ -48,7 +48,7 @@ unfolding lineOf firstLine
 line-longest n text = from-most 0 n text text (longestLine text) (omega (arith, first-most 0 text)) (omega arith)
 
 -- a line is no longer than the text
-longest-most : (n : ℕ) (text : List ℕ) → longestFrom n text ≤ n + length text
+pub longest-most : (n : ℕ) (text : List ℕ) → longestFrom n text ≤ n + length text
 unfolding longestFrom
 longest-most n [] = omega arith
 longest-most n (b ∷ text) = go (eqb b 10) (longest-most 0 text) (longest-most (suc n) text)

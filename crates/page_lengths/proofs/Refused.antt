@@ -4,16 +4,20 @@ use mathlib.Core.List.{List, []}
 use Prim.Native.Nat.{ℕ, _≤_, _<_}
 use native.Mathlib.Omega.{arith}
 use lib.ListN.{length, length-append}
-use Rattle.rules.specs.Record.{lastYearOf}
+use lib.Dec.{eqb}
+use Rattle.rules.specs.Record.{lastYearOf, figuresOf}
+use Rattle.rules.specs.Results.{squareOf}
 use Rattle.section_lengths.proofs.Inputs.{input-section-most}
 use Rattle.section_lengths.proofs.Proved.{refused-proof-most}
+use Rattle.section_lengths.proofs.Rests.{rest-section-most}
 use Rattle.frame_lengths.proofs.Frame.{start-most, end-most}
 use Rattle.frame_lengths.proofs.Opening.{opening-most}
 use Rattle.frame_lengths.proofs.Recorded.{record-most}
 use Rattle.frame_lengths.proofs.Refused.{refused-most}
 use Rattle.page_opening.specs.Opening.{openingText}
 use Rattle.findings.specs.Findings.{findingOf}
-use Rattle.refused_page.specs.RefusedPage.{yearsKnown, inputsKnown, refusedOpening, refusedInputs, refusedPage}
+use Rattle.rest_years.specs.RestYears.{restSection}
+use Rattle.refused_page.specs.RefusedPage.{yearsKnown, inputsKnown, refusedOpening, refusedInputs, refusedRests, refusal, refusedPage}
 
 refused-opening-most : (html : Bool) (year first : ℕ) (s : List ℕ) (n : ℕ) → length (refusedOpening html year first s n) ≤ 480
 unfolding refusedOpening
@@ -29,11 +33,19 @@ unfolding refusedInputs
 inputs-most html year first s true few = input-section-most html first (lastYearOf s) _ _ few
 inputs-most html year first s false few = omega arith
 
+rests-most : (html : Bool) (s : List ℕ) (n : ℕ) → lastYearOf s < 16 → length (refusedRests html s n) ≤ 9000
+unfolding refusedRests figuresOf
+rests-most html s n few = go (eqb n 8)
+  where
+    go : (eight : Bool) → length (cond eight (restSection html (squareOf (figuresOf s)) (figuresOf s .k)) []) ≤ 9000
+    go true = rest-section-most html (squareOf (figuresOf s)) (figuresOf s .k) few
+    go false = omega arith
+
 -- in any valuation year and for any question, with a title of at most 255 bytes, and of a record of at most 4096
 pub refused-page-most : (html : Bool) (title : List ℕ) (year first : ℕ) (s : List ℕ) (n : ℕ) → length title ≤ 255 → length s ≤ 4096 → lastYearOf s < 16
-    → length (refusedPage html title year first s n) ≤ 74000
-unfolding refusedPage
+    → length (refusedPage html title year first s n) ≤ 84000
+unfolding refusedPage refusal
 refused-page-most html title year first s n short fits few =
     simp length-append
     (omega
-    (arith, start-most html title year, refused-opening-most html year first s n, refused-most html first n (findingOf s n), inputs-most html year first s (inputsKnown n) few, refused-proof-most html, record-most html s, end-most html))
+    (arith, start-most html title year, refused-opening-most html year first s n, refused-most html first n (findingOf s n), rests-most html s n few, inputs-most html year first s (inputsKnown n) few, refused-proof-most html, record-most html s, end-most html))

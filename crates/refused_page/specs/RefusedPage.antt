@@ -6,7 +6,7 @@ use lib.Dec.{eqb}
 use lib.IntN.{ℤ, pos}
 use lib.ListN.{length, replicate}
 use Rattle.rules.specs.Record.{lastYearOf, figuresOf}
-use Rattle.rules.specs.Results.{mostEntries}
+use Rattle.rules.specs.Results.{mostEntries, squareOf}
 use Rattle.growth.specs.declared.Correction.{Correction}
 use Rattle.record_figures.specs.RecordFigures.{recordFigures}
 use Rattle.summary_figures.specs.Summary.{summaryOf}
@@ -14,6 +14,7 @@ use Rattle.page_frame.specs.Frame.{pageStart, pageEnd}
 use Rattle.page_opening.specs.Opening.{openingText}
 use Rattle.findings.specs.Findings.{findingOf}
 use Rattle.refused_section.specs.RefusedSection.{refusedSection}
+use Rattle.rest_years.specs.RestYears.{restSection}
 use Rattle.input_section.specs.InputSection.{inputSection}
 use Rattle.proof_section.specs.Proved.{refusedProof}
 use Rattle.record_section.specs.RecordSection.{recordSection}
@@ -45,9 +46,17 @@ refusedInputs html year first s =
     inputSection html first (lastYearOf s) (inputFigures s)
     (summaryOf year (lastYearOf s) (inputFigures s) noCorrection (figuresOf s .weight) (figuresOf s .tail))
 
+-- every year of which question 8 says no, where it is question 8
+unfoldable pub refusedRests : Bool → List ℕ → ℕ → List ℕ
+refusedRests html s n = cond (eqb n 8) (restSection html (squareOf (figuresOf s)) (figuresOf s .k)) []
+
+-- where question n says no, and every other year of which question 8 does
+unfoldable pub refusal : Bool → ℕ → List ℕ → ℕ → List ℕ
+refusal html first s n = refusedSection html first n (findingOf s n) ++ refusedRests html s n
+
 unfoldable pub refusedPage : Bool → List ℕ → ℕ → ℕ → List ℕ → ℕ → List ℕ
 refusedPage html title year first s n =
     pageStart html title year
     ++ (refusedOpening html year first s n
-    ++ (refusedSection html first n (findingOf s n)
+    ++ (refusal html first s n
     ++ (cond (inputsKnown n) (refusedInputs html year first s) [] ++ (refusedProof html ++ (recordSection html s ++ pageEnd html)))))

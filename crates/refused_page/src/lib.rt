@@ -10,6 +10,7 @@ use proof_section::put_refused_proof;
 use record_figures::fill_record_figures;
 use record_section::put_record_section;
 use refused_section::put_refused_section;
+use rest_years::put_rest_section;
 use rules::MOST_ENTRIES;
 use summary_figures::SINGLES;
 use summary_figures::fill_summary;
@@ -20,11 +21,13 @@ ghost use mathlib.Core.List.{[]};
 ghost use Prim.Native.Nat.{_≤_};
 ghost use lib.ListN.{length};
 ghost use Rattle.rules.specs.Questions.{firstNo};
+ghost use Rattle.rules.specs.Record.{figuresOf};
 ghost use Rattle.rules.specs.Reading.{openingQuestions, fieldQuestions};
+ghost use Rattle.rules.specs.Triangle.{cumulativesPass};
 ghost use Rattle.rules.specs.Results.{mostEntries};
 ghost use Rattle.rules.specs.Engine.{runAnswer};
 ghost use Rattle.composing.specs.Text.{Put};
-ghost use Rattle.refused_page.specs.RefusedPage.{yearsKnown, inputsKnown, refusedOpening, refusedInputs, refusedPage};
+ghost use Rattle.refused_page.specs.RefusedPage.{yearsKnown, inputsKnown, refusedOpening, refusedInputs, refusedRests, refusal, refusedPage};
 
 // Whether the opening names the years where question n refuses.
 fn years_known(n: u64) -> bool
@@ -129,6 +132,39 @@ fn put_known_inputs(
     }
 }
 
+// Every year of which question 8 says no, where it is question 8.
+fn put_refused_rests(out: &mut [u8], at: usize, html: bool, packed: &[u8], n: u64) -> usize
+    requires { ⌜ (n ≡ 8
+        → (firstNo (openingQuestions (now packed)) ≡ 0)
+        × ((firstNo (fieldQuestions (now packed)) ≡ 0)
+        × (cumulativesPass (figuresOf (now packed) .k) (figuresOf (now packed) .increments) ≡ true))) ⌝ }
+    ensures { λ r. ⌜ Put (now (out .entry)) (now (out .exit)) at r (refusedRests html (now (packed .entry)) n) ⌝ }
+{
+    if n == 8 {
+        put_rest_section(out, at, html, packed)
+    } else {
+        at
+    }
+}
+
+// Where question n says no, and every other year of which question 8 does.
+fn put_refusal(
+    out: &mut [u8],
+    at: usize,
+    html: bool,
+    year: u64,
+    first: usize,
+    packed: &[u8],
+    n: u64,
+) -> usize
+    requires { ⌜ (first ≤ 65535) × ((runAnswer year (now packed) mostEntries ≡ n) × (1 ≤ n)) ⌝ }
+    ensures { λ r. ⌜ Put (now (out .entry)) (now (out .exit)) at r (refusal html first (now (packed .entry)) n) ⌝ }
+{
+    let found = find(year, packed, n);
+    let a = put_refused_section(out, at, html, first, n, found);
+    put_refused_rests(out, a, html, packed, n)
+}
+
 // The page of a record that question n refuses.
 pub fn put_refused_page(
     out: &mut [u8],
@@ -144,8 +180,7 @@ pub fn put_refused_page(
 {
     let a = put_page_start(out, 0, html, title, year);
     let b = put_refused_opening(out, a, html, year, first, packed, n);
-    let found = find(year, packed, n);
-    let c = put_refused_section(out, b, html, first, n, found);
+    let c = put_refusal(out, b, html, year, first, packed, n);
     let d = put_known_inputs(out, c, html, year, first, packed, n);
     let e = put_refused_proof(out, d, html);
     let f = put_record_section(out, e, html, packed);

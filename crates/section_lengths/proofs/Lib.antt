@@ -9,3 +9,4 @@ pub mod Triangles
 pub mod Inputs
 pub mod Expense
 pub mod Proved
+pub mod Rests

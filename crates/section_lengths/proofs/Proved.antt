@@ -30,7 +30,7 @@ end-most : (html : Bool) → length (paragraphEnd html) ≤ 5
 unfolding paragraphEnd
 end-most html = either-most html (ascii "</p>\n") (ascii "\n") 5 (omega arith) (omega arith)
 
-paragraph-most : (html : Bool) (text : List ℕ) → length (paragraph html text) ≤ 8 + 5 * length text
+pub paragraph-most : (html : Bool) (text : List ℕ) → length (paragraph html text) ≤ 8 + 5 * length text
 unfolding paragraph
 paragraph-most html text = simp length-append (omega (arith, start-most html, words-most html text, end-most html))
 

@@ -19,7 +19,7 @@ questionTexts =
     ∷ ascii "the reporting shares do not sum to 1,000,000"
     ∷ ascii "a given cumulative C_ij is below 0 or above 10^11"
     ∷ ascii "a column or a diagonal of the averages adds up to less than 0, or all averages to more than 1,000,000,000 hundredths"
-    ∷ ascii "beside some development year h the separation finds nothing left: T_h - v_h is below 1"
+    ∷ ascii "the triangle has no exact solution of the kind the method needs: beside some development year h nothing is left, T_h - v_h is below 1"
     ∷ ascii "a running share A_h, the shares up to a year together, is below a billionth"
     ∷ ascii "a level l_h is above 1,000,000,000 hundredths a claim"
     ∷ ascii "the ultimate X_i of an origin year is above 10^12"

@@ -20,7 +20,7 @@ a field is out of its range
 the reporting shares do not sum to 1,000,000
 a given cumulative C_ij is below 0 or above 10^11
 a column or a diagonal of the averages adds up to less than 0, or all averages to more than 1,000,000,000 hundredths
-beside some development year h the separation finds nothing left: T_h - v_h is below 1
+the triangle has no exact solution of the kind the method needs: beside some development year h nothing is left, T_h - v_h is below 1
 a running share A_h, the shares up to a year together, is below a billionth
 a level l_h is above 1,000,000,000 hundredths a claim
 the ultimate X_i of an origin year is above 10^12
