@@ -498,8 +498,8 @@ QUESTIONS = {
         "This column, this diagonal, or the whole triangle adds up to a number outside.",
         "Recoveries above payments; or exposures in a larger unit than claims."),
     8: ("Is T_h less v_h at least 0.01 for every development year h from 1 to k?",
-        "Beside this development year the separation finds nothing left: of all averages in development years up to it, in payment years from it on, nothing above zero remains once its own column is taken off.",
-        "It is proved that this is a fact about the triangle and not about the method: Taylor's equations have no exact solution in which every running share before the last, and every sum of levels from a payment year after the first to the latest, is above zero. Look first whether the latest payment year is missing or was entered as zeros."),
+        "Beside this development year h the separation finds nothing left: of all averages in development years up to it, without the h earliest payment years, nothing above zero remains once its own column is taken off.",
+        "It is proved that this is a fact about the triangle of averages, rounded to hundredths, and not about the method: Taylor's equations have no exact solution in which every running share before the last, and every sum of levels from a payment year after the first to the latest, is above zero. Look first whether the latest payment year is missing or was entered as zeros, and whether averages are lost in rounding."),
     9: ("Is every running share at least a billionth?",
         "The shares up to this development year together round to nothing.",
         "Beside later ones the averages of the first development year are very small, those of the first origin year aside. Begin at a later development year."),
@@ -679,11 +679,10 @@ def why(number, record, first):
 
 # what stands above the table of all years of which question 8 says no, in the lines of the page of text
 NOTHING_LEFT = """\
-T_h less v_h is what was paid, a claim, in the development years before h and in
-the payment years from h to the latest. In an exact solution it is the running
-share up to the year before h times the sum of the levels from h to the latest:
-where it is not above zero, one of the two is not. Below is every development
-year h of which question 8 says no."""
+T_h less v_h is the total of the averages in the development years before h, without those of the h earliest payment
+years. In an exact solution it is the running share up to the year before h times the sum of the levels without the h
+earliest: where it is not above zero, at least one of the two is not. Below is every development year h of which
+question 8 says no."""
 
 
 def nothing_left(page, record):

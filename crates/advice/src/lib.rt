@@ -50,7 +50,7 @@ This field is below or above what it may be, or it is a zero with a minus sign.
 They sum to another number.
 What was paid up to there is below zero or too large.
 This column, this diagonal, or the whole triangle adds up to a number outside.
-Beside this development year the separation finds nothing left: of all averages in development years up to it, in payment years from it on, nothing above zero remains once its own column is taken off.
+Beside this development year h the separation finds nothing left: of all averages in development years up to it, without the h earliest payment years, nothing above zero remains once its own column is taken off.
 The shares up to this development year together round to nothing.
 The level of this payment year is too large.
 It is larger.
@@ -82,7 +82,7 @@ A zero paid amount with a minus sign is out of range too.
 Shares are given in millionths.
 A recovery larger than all payments before it, a misplaced sign, or amounts in too small a unit.
 Recoveries above payments; or exposures in a larger unit than claims.
-It is proved that this is a fact about the triangle and not about the method: Taylor's equations have no exact solution in which every running share before the last, and every sum of levels from a payment year after the first to the latest, is above zero. Look first whether the latest payment year is missing or was entered as zeros.
+It is proved that this is a fact about the triangle of averages, rounded to hundredths, and not about the method: Taylor's equations have no exact solution in which every running share before the last, and every sum of levels from a payment year after the first to the latest, is above zero. Look first whether the latest payment year is missing or was entered as zeros, and whether averages are lost in rounding.
 Beside later ones the averages of the first development year are very small, those of the first origin year aside. Begin at a later development year.
 Large payments for the claims of this payment year, or a small running share: look at the exposures, and whether almost everything is paid late.
 Indices are cumulative: each is against the latest year, not the year before.

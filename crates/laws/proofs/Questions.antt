@@ -130,6 +130,18 @@ no-answers n (q ∷ qs) a h e =
     go false f true g least h e after = after (rw g at h) e
     go false f false g least h e after = absurd (let z : q .0 ≡ 0 = rw g at h in omega arith)
 
+-- where its number is the answer, those before it say yes
+pub answer-passed : (n : ℕ) (qs : List (ℕ × Bool)) → firstNo qs ≡ n → firstNo (questionsBefore n qs) ≡ 0
+unfolding firstNo questionsBefore
+answer-passed n [] h = refl
+answer-passed n (q ∷ qs) h = go (eqb (q .0) n) refl (q .1) refl h (answer-passed n qs)
+  where
+    go : (x : Bool) → eqb (q .0) n ≡ x → (b : Bool) → q .1 ≡ b → cond b (firstNo qs) (q .0) ≡ n → (firstNo qs ≡ n → firstNo (questionsBefore n qs) ≡ 0)
+        → firstNo (cond x [] (q ∷ questionsBefore n qs)) ≡ 0
+    go true e b f h after = refl
+    go false e true f h after = rw f (after h)
+    go false e false f h after = absurd (eqb-false (q .0) n e h)
+
 -- whether question m stands before question n
 abbrev pub precedes : ℕ → ℕ → List (ℕ × Bool) → Bool
 precedes m n [] = false

@@ -50,7 +50,7 @@ refusedInputs html year first s =
 unfoldable pub refusedRests : Bool → List ℕ → ℕ → List ℕ
 refusedRests html s n = cond (eqb n 8) (restSection html (squareOf (figuresOf s)) (figuresOf s .k)) []
 
--- where question n says no, and every other year of which question 8 does
+-- where question n says no, and every year of which question 8 does, where it is question 8
 unfoldable pub refusal : Bool → ℕ → List ℕ → ℕ → List ℕ
 refusal html first s n = refusedSection html first n (findingOf s n) ++ refusedRests html s n
 

@@ -147,7 +147,7 @@ fn put_refused_rests(out: &mut [u8], at: usize, html: bool, packed: &[u8], n: u6
     }
 }
 
-// Where question n says no, and every other year of which question 8 does.
+// Where question n says no, and every year of which question 8 does, where it is question 8.
 fn put_refusal(
     out: &mut [u8],
     at: usize,

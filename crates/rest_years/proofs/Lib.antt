@@ -1,3 +1,4 @@
 pub mod Held
 pub mod Years
 pub mod Tables
+pub mod Asked

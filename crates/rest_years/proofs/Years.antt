@@ -12,6 +12,7 @@ use lib.Signed.{ltZ}
 use Rattle.rules.specs.Lists.{joined}
 use Rattle.laws.proofs.Joined.{joined-append}
 use Rattle.laws.proofs.Order.{less-yes, less-no}
+use Rattle.triangle_findings.specs.TriangleFindings.{restPassesOf}
 use Rattle.composing.proofs.Decimals.{length-digit, length-digits}
 use Rattle.composing.specs.Text.{ascii, decimal}
 use Rattle.rest_years.specs.RestYears.{leftOf, passesYear, refusedYears, yearLabel, yearValues, labelWhere, rowWhere, valuesWhere, yearLabels, allValues}
@@ -48,19 +49,19 @@ module _ (t v : List ℤ) (m : ℕ) where
 -- where question 8 says no of year h, its row, and where it says yes nothing
 module _ (t v : List ℤ) (h : ℕ) where
   pub label-no : ltZ (leftOf t v h) (pos 1) ≡ true → labelWhere t v h ≡ decimal h ++ ascii "\n"
-  unfolding labelWhere yearLabel
+  unfolding labelWhere yearLabel restPassesOf
   label-no e = rw (less-yes (leftOf t v h) (pos 1) e)
 
   pub label-yes : ltZ (leftOf t v h) (pos 1) ≡ false → labelWhere t v h ≡ []
-  unfolding labelWhere
+  unfolding labelWhere restPassesOf
   label-yes e = rw (less-no (leftOf t v h) (pos 1) e)
 
   pub row-no : ltZ (leftOf t v h) (pos 1) ≡ true → (rowWhere t v h ≡ 1) × (valuesWhere t v h ≡ getD t h (pos 0) ∷ getD v h (pos 0) ∷ leftOf t v h ∷ [])
-  unfolding rowWhere valuesWhere yearValues
+  unfolding rowWhere valuesWhere yearValues restPassesOf
   row-no e = rw (less-yes (leftOf t v h) (pos 1) e) (refl, refl)
 
   pub row-yes : ltZ (leftOf t v h) (pos 1) ≡ false → (rowWhere t v h ≡ 0) × (valuesWhere t v h ≡ [])
-  unfolding rowWhere valuesWhere
+  unfolding rowWhere valuesWhere restPassesOf
   row-yes e = rw (less-no (leftOf t v h) (pos 1) e) (refl, refl)
 
 -- of no year nothing

@@ -4,7 +4,6 @@ use mathlib.Core.Bool.{Bool, false, cond}
 use mathlib.Core.List.{List, [], _∷_, _++_, map}
 use lib.IntN.{ℤ, pos, natAbs, _-ℤ_}
 use lib.ListN.{length, getD, replicate}
-use lib.Signed.{leZ}
 use Rattle.rules.specs.Lists.{upTo, joined, padded}
 use Rattle.rules.specs.Triangle.{columnTotal, cornerTotal}
 use Rattle.composing.specs.Text.{ascii, decimal}
@@ -13,19 +12,19 @@ use Rattle.paragraphs.specs.Paragraphs.{paragraph}
 use Rattle.table_cells.specs.Cells.{mostPlaces, plain, styled}
 use Rattle.table_heads.specs.declared.Shape.{Shape}
 use Rattle.table.specs.Table.{table}
-use Rattle.triangle_findings.specs.TriangleFindings.{mostCorner}
+use Rattle.triangle_findings.specs.TriangleFindings.{restPassesOf, mostCorner}
 
 -- T_h − v_h
 abbrev pub leftOf : List ℤ → List ℤ → ℕ → ℤ
 leftOf t v h = getD t h (pos 0) -ℤ getD v h (pos 0)
 
--- t has no entry larger than T_h can be
+-- no entry of t is larger than a wide limit, below which all stays within 64 bits
 abbrev pub CornersSmall : List ℤ → Type 0
 CornersSmall t = (h : ℕ) → natAbs (getD t h (pos 0)) ≤ mostCorner
 
 -- whether question 8 says yes of year h
 abbrev pub passesYear : List ℤ → List ℤ → ℕ → Bool
-passesYear t v h = leZ (pos 1) (leftOf t v h)
+passesYear t v h = restPassesOf (λ i. getD t i (pos 0)) (λ i. getD v i (pos 0)) h
 
 -- the years from 1 to k of which it says no
 unfoldable pub refusedYears : List ℤ → List ℤ → ℕ → List ℕ
@@ -71,7 +70,7 @@ yearTable html t v k =
     (replicate mostPlaces (styled plain 2))
 
 abbrev pub yearText : List ℕ
-yearText = ascii "T_h less v_h is what was paid, a claim, in the development years before h and in\nthe payment years from h to the latest. In an exact solution it is the running\nshare up to the year before h times the sum of the levels from h to the latest:\nwhere it is not above zero, one of the two is not. Below is every development\nyear h of which question 8 says no."
+yearText = ascii "T_h less v_h is the total of the averages in the development years before h, without those of the h earliest payment\nyears. In an exact solution it is the running share up to the year before h times the sum of the levels without the h\nearliest: where it is not above zero, at least one of the two is not. Below is every development year h of which\nquestion 8 says no."
 
 unfoldable pub yearSection : Bool → List ℤ → List ℤ → ℕ → List ℕ
 yearSection html t v k =

@@ -176,11 +176,10 @@ fn put_year_section(
         out,
         a,
         html,
-        b"T_h less v_h is what was paid, a claim, in the development years before h and in
-the payment years from h to the latest. In an exact solution it is the running
-share up to the year before h times the sum of the levels from h to the latest:
-where it is not above zero, one of the two is not. Below is every development
-year h of which question 8 says no.",
+        b"T_h less v_h is the total of the averages in the development years before h, without those of the h earliest payment
+years. In an exact solution it is the running share up to the year before h times the sum of the levels without the h
+earliest: where it is not above zero, at least one of the two is not. Below is every development year h of which
+question 8 says no.",
     );
     let c = put_year_table(out, b, html, corners, columns, k);
     put_section_end(out, c, html)

@@ -1,5 +1,5 @@
 -- Triangles of two years that show what the kind of solution is about: where nothing is paid in the first year of development, the running share of year 0 is
--- not positive, where nothing is paid in the last calendar year, the level sum of year 1 is not, and a triangle of products has both positive. Assumes nothing.
+-- not positive, where nothing is paid in the latest payment year, the level sum of year 1 is not, and a triangle of products has both positive. Assumes nothing.
 use Prim.Native.Nat.{ℕ, zero, suc, _+_, _-_, _*_, _≤_, _<_}
 use native.Mathlib.Omega.{arith}
 use mathlib.Core.Path.{_≡_, refl, ap}
@@ -26,7 +26,7 @@ byYear a b (suc h) = pos b
 zero-not-positive : (z : ℤ) → z ≡ pos 0 → pos 0 <ℤ z → ⊥
 zero-not-positive z e h = absurd ((rw e at h) .lt)
 
--- 0 40 / 0 passes question 7 and is refused 8; shares 0 and 1 and levels a and 40 are an exact solution for every a, and its running share of year 0 is 0
+-- 0 40 / 0 passes question 7 and is refused 8 by the separation (a record of it is refused 13 before that); shares 0 and 1 and levels a and 40 are an exact solution for every a, and its running share of year 0 is 0
 pub late-refused : separateAnswer (twoYearAverages 0 40 0) 1 ≡ 8
 unfolding twoYearAverages separationQuestions separateAnswer firstNo totalsPass restsPass every upTo columnTotal diagonalTotal cornerTotal allTotal cellsTotal sumTo cellOf
 late-refused = refl

@@ -23,7 +23,7 @@ pub record PositiveSolution (k : ℕ) (v d : ℕ → ℤ) : Type 0 where
   pub solves : Solves k D E v d r l
   pub positive : Positive k r l
 
--- a triangle s of averages, of the years 0 to k, that has one
+-- a square s of averages, zero outside the triangle of the years 0 to k, that has one
 abbrev pub Separable : List (List ℤ) → ℕ → Type 0
 Separable s k = PositiveSolution k (columnTotal s) (diagonalTotal s)
 

@@ -10,7 +10,6 @@ use lib.Dec.{T}
 use lib.IntN.{ℤ, pos, _-ℤ_}
 use lib.Signed.{leZ}
 use Rattle.rules.specs.Lists.{every}
-use Rattle.rules.specs.Packing.{Fit}
 use Rattle.rules.specs.Questions.{firstNo, questionsBefore}
 use Rattle.rules.specs.Record.{lastYearOf, figuresOf}
 use Rattle.rules.specs.Reading.{openingQuestions, fieldQuestions}
@@ -23,13 +22,13 @@ use Rattle.rules.specs.Growth.{growthQuestions}
 use Rattle.rules.specs.Results.{squareOf}
 use Rattle.rules.specs.Engine.{developmentQuestions, completionQuestions, ratioQuestions, correctionQuestions, completedLadderQuestions, lastQuestions, laterQuestions, figureQuestions, questions, runAnswer}
 use Rattle.laws.proofs.Lists.{every-yes}
-use Rattle.laws.proofs.Questions.{numbered, said, once, yes-said, no-said, no-answers}
+use Rattle.laws.proofs.Questions.{numbered, said, once, yes-said, no-said, no-answers, answer-passed}
 use Rattle.layout.proofs.RecordSizes.{years-lt}
 use Rattle.totals.proofs.Corners.{corner-down, corner-last}
 use Rattle.totals.proofs.Whole.{totals, column-is, diagonal-is, column-least, rest-least}
 use Rattle.totals.proofs.Square.{zero-outside}
 use Rattle.accuracy.proofs.Existence.{exists}
-use Rattle.solutions.specs.Eight.{Eight}
+use Rattle.solutions.specs.Eight.{Eight, OfSeparations, OfRecords, OfRefusals}
 use Rattle.solutions.proofs.Identity.{Corners}
 use Rattle.solutions.proofs.Named.{rest-above, all-positive, positive-none-zero, same}
 use Rattle.solutions.proofs.Product.{products-solve}
@@ -43,7 +42,7 @@ module _ (s : List (List ℤ)) (k : ℕ) (out : ZeroOutside s k) where
   corners = record { last = corner-last s k out; down = λ h lt. corner-down s h }
 
   -- a solution with the named sums positive: question 8 says yes, whatever question 7 says
-  separable-passes : Separable s k → restsPass s k ≡ true
+  pub separable-passes : Separable s k → restsPass s k ≡ true
   unfolding restsPass
   separable-passes p =
       every-yes (λ h. leZ (pos 1) (cornerTotal s h -ℤ columnTotal s h)) (λ h. h + 1) k
@@ -52,7 +51,7 @@ module _ (s : List (List ℤ)) (k : ℕ) (out : ZeroOutside s k) where
       rw (add-one h) (yes (leZ (pos 1) (cornerTotal s (suc h) -ℤ columnTotal s (suc h))) (above .le)))
 
   -- where there is such a solution, every exact solution is that one
-  only-one : (D E : ℕ) (r l : ℕ → ℤ) → Solves k D E (columnTotal s) (diagonalTotal s) r l → Positive k r l
+  pub only-one : (D E : ℕ) (r l : ℕ → ℤ) → Solves k D E (columnTotal s) (diagonalTotal s) r l → Positive k r l
       → (F G : ℕ) (x y : ℕ → ℤ) → Solves k F G (columnTotal s) (diagonalTotal s) x y → Same k D E r l F G x y
   only-one D E r l a p F G x y b = same k D E F G (columnTotal s) (diagonalTotal s) (cornerTotal s) r l x y corners a (positive-none-zero k r l p) b
 
@@ -101,7 +100,7 @@ not-given n qs p o e h = clash (sym (no-said n p qs o h) ∙ e)
     clash f = let w : _≡_ {A = ℕ} 0 1 = cc in omega arith
 
 -- of a square that has passed question 7, by the separation's answer
-pub separation-eight : (s : List (List ℤ)) (k : ℕ) → k < 16 → ZeroOutside s k → totalsPass s k ≡ true → Eight s k (separateAnswer s k)
+pub separation-eight : OfSeparations
 unfolding separateAnswer separationQuestions questionsBefore every firstNo
 separation-eight s k few out q7 =
     eight s k out q7 few (separateAnswer s k) (no-answers 8 (separationQuestions s k) refl (seven q7)) (not-given 8 (separationQuestions s k) (omega arith) refl)
@@ -110,11 +109,17 @@ separation-eight s k few out q7 =
     seven e = rw e refl
 
 -- of a record that has passed the questions before 8, by the answer of a run in a valuation year with a result buffer of m entries
-pub refusal-eight : (year : ℕ) (s : List ℕ) (m : ℕ) → Fit 8 s → firstNo (questionsBefore 8 (questions year s m)) ≡ 0
-    → Eight (squareOf (figuresOf s)) (figuresOf s .k) (runAnswer year s m)
+pub refusal-eight : OfRecords
 unfolding runAnswer questions openingQuestions fieldQuestions figureQuestions developmentQuestions separationQuestions laterQuestions tailQuestions lastQuestions completionQuestions ratioQuestions correctionQuestions growthQuestions completedLadderQuestions questionsBefore every figuresOf squareOf
 refusal-eight year s m bytes passed =
     let f = figuresOf s in
     let few : f .k < 16 = years-lt s bytes in
     eight (squareOf f) (f .k) (zero-outside (f .k) (f .exposures) (f .increments) few) (yes-said 7 (questionsBefore 8 (questions year s m)) refl passed) few (runAnswer year s m)
     (no-answers 8 (questions year s m) refl passed) (not-given 8 (questions year s m) (omega arith) refl)
+
+-- of a record that is given 8
+pub given-eight : OfRefusals
+unfolding runAnswer
+given-eight year s m bytes e =
+    let passed = answer-passed 8 (questions year s m) e in
+    (passed, refusal-eight year s m bytes passed .refused e)

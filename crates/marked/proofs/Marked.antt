@@ -98,6 +98,10 @@ steep = threeYears steepExposures steepCells
 -- n 1, 10^6, cells 1, 49 / 10^10 and these ULAE totals: m_0 = 50 × M, and C of year 1 is 5 × 10^11
 abbrev steepLadder : List ℕ → List ℕ
 steepLadder u = twoYears (1 ∷ 1000000 ∷ []) (pos 1 ∷ pos 49 ∷ pos 10000000000 ∷ []) (1100000 ∷ 1000000 ∷ []) u 0
+
+-- n 1 each and these cells, which have no exact solution, many, or one of the wrong kind (solutions/proofs/Examples.antt)
+abbrev unsolved : List ℤ → List ℕ
+unsolved p = threeYears (1 ∷ 1 ∷ 1 ∷ []) p
 
 -- the answers of 2026 and 2027
 abbrev bothYears : List ℕ → List ℤ
@@ -185,6 +189,15 @@ markedTable = (
       pos 6 ∷ pos 13 ∷ pos 13 ∷ pos 13 ∷ [],
     )
     ∷ (answer (pos 1 ∷ pos 49 ∷ pos 66 ∷ []) (6 ∷ 10 ∷ []) ∷ answer (pos 1 ∷ pos 50 ∷ pos 66 ∷ []) (6 ∷ 10 ∷ []) ∷ [], pos 0 ∷ pos 13 ∷ [])
+    ∷ (
+      answer (pos 60 ∷ pos 80 ∷ pos 120 ∷ []) (6 ∷ 10 ∷ []) ∷ take 7 (list (pos 60 ∷ pos 80 ∷ pos 120 ∷ []) (6 ∷ 10 ∷ [])),
+      pos 0 ∷ pos 6000 ∷ pos 8000 ∷ pos 12000 ∷ pos 600000000 ∷ pos 400000000 ∷ pos 10000 ∷ pos 20000 ∷ [],
+    )
+    ∷ (
+      bothYears (unsolved (pos 1 ∷ pos 0 ∷ pos 0 ∷ pos 0 ∷ pos 1 ∷ pos 0 ∷ []))
+          ++ (bothYears (unsolved (pos 1 ∷ pos 0 ∷ pos 0 ∷ pos 0 ∷ pos 0 ∷ pos 0 ∷ [])) ++ bothYears (unsolved (pos 0 ∷ pos 1 ∷ pos 2 ∷ pos 1 ∷ negsuc 0 ∷ pos 0 ∷ []))),
+      replicate 6 (pos 8),
+    )
     ∷ (answerTo (steepLadder (6 ∷ 10 ∷ [])) ∷ answerTo (steepLadder (10000000000 ∷ 10000000000 ∷ [])) ∷ [], pos 14 ∷ pos 12 ∷ [])
     ∷ []
 
