@@ -22,7 +22,7 @@ use Rattle.triangle.proofs.Square.{cells-bounded}
 use Rattle.triangle.proofs.Passed.{rows-all}
 use Rattle.totals.proofs.Square.{zero-outside}
 use Rattle.totals.proofs.SoFar.{all-passed}
-use Rattle.separation.specs.Walk.{Summed}
+use Rattle.totals.specs.Summed.{Summed}
 use Rattle.laws.proofs.Lists.{length-upTo}
 use Rattle.laws.proofs.Joined.{sets-filled}
 use Rattle.laws.proofs.Questions.{yes-said}

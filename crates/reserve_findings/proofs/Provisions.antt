@@ -20,7 +20,7 @@ use Rattle.rules.specs.declared.Factors.{Factors}
 use Rattle.reading.specs.Reading.{Sound}
 use Rattle.triangle.proofs.Square.{cells-bounded}
 use Rattle.totals.proofs.Square.{zero-outside}
-use Rattle.separation.specs.Walk.{Summed}
+use Rattle.totals.specs.Summed.{Summed}
 use Rattle.tail.specs.Tailable.{Tailable, tailsCarried}
 use Rattle.completion.specs.Asked.{Completable, mostPayment, rowsAsked}
 use Rattle.reserving.specs.Stages.{Separated, Tailed}

@@ -17,7 +17,7 @@ use Rattle.signed_sums.proofs.Sums.{difference-size}
 use Rattle.laws.proofs.Sums.{sumTo-same}
 use Rattle.totals.specs.CellSizes.{mostTotal}
 use Rattle.totals.proofs.Walk.{corner-sums}
-use Rattle.separation.specs.Walk.{Summed}
+use Rattle.totals.specs.Summed.{Summed}
 use Rattle.entries.proofs.Leading.{leading-stop}
 use Rattle.reasons.proofs.Counted.{leading-same, stops-below}
 use Rattle.finding.specs.Places.{developmentYear, found}

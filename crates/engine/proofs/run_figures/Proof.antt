@@ -17,7 +17,7 @@ use Rattle.rules.specs.declared.Factors.{Factors}
 use Rattle.rules.specs.Engine.{developmentPasses, developmentQuestions, figureQuestions, lastQuestions, laterQuestions}
 use Rattle.reserving.proofs.Answering.{one-no, one-yes, first-refused, later}
 use Rattle.triangle.specs.Columns.{columnSum}
-use Rattle.separation.specs.Walk.{Summed}
+use Rattle.totals.specs.Summed.{Summed}
 use Rattle.reserving.specs.Stages.{Tailed, Answers}
 use Rattle.engine.proofs.Before as stage
 use Rattle.engine.proofs.Development as ladder

@@ -15,11 +15,12 @@ use Rattle.laws.proofs.Lists.{getD-upTo}
 use Rattle.totals.specs.CellSizes.{Cells, mostTotal}
 use Rattle.totals.proofs.Cells.{cells-size}
 use Rattle.totals.proofs.TotalsMost.{diagonal-most}
-use Rattle.separation.specs.Walk.{Summed, TotalsOf, CornersOf}
-use Rattle.separation.proofs.Totals.{ready}
-use Rattle.separation.proofs.FactorQuestions.{seven, answer-seven, answer-eight, answer-none}
-use Rattle.separation.proofs.totals_answer.Statement.{statement}
-use Rattle.separation.proofs.totals_answer.Tie as tie
+use Rattle.totals.specs.Summed.{Summed}
+use Rattle.corners.specs.Corners.{TotalsOf, CornersOf}
+use Rattle.total_questions.proofs.Totals.{ready}
+use Rattle.total_questions.proofs.TotalQuestions.{seven, answer-seven, answer-eight, answer-none}
+use Rattle.total_questions.proofs.totals_answer.Statement.{statement}
+use Rattle.total_questions.proofs.totals_answer.Tie as tie
 
 add-totals-pass : tie.Need-add-totals-pass
 add-totals-pass c = search needs

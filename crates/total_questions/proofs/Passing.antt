@@ -21,7 +21,7 @@ use Rattle.laws.proofs.Lists.{every-next, fails-at, every-upTo, stored}
 use Rattle.laws.proofs.Signed.{held}
 use Rattle.laws.proofs.Totals.{total-more, sumTo-pos}
 use Rattle.entries.proofs.Signs as signs
-use Rattle.separation.specs.Walk.{SizesOf}
+use Rattle.total_questions.specs.TotalQuestions.{SizesOf}
 
 module _ (x : ℤ) (fits : SFits w64 x) where
   -- a total not below zero is a whole number of 64 bits

@@ -8,7 +8,8 @@ use lib.IntN.{ℤ}
 use Rattle.rules.specs.Separation.{restsPass}
 use Rattle.totals.proofs.TotalsMost.{diagonal-most, corner-most}
 use Rattle.totals.proofs.Whole.{totals}
-use Rattle.separation.specs.Walk.{TotalsOf, CornersOf, Ready}
+use Rattle.corners.specs.Corners.{TotalsOf, CornersOf}
+use Rattle.total_questions.specs.TotalQuestions.{Ready}
 
 -- what the walk asks, where question 8 says yes
 pub ready : (s : List (List ℤ)) (k : ℕ) (v d t : List ℕ) → TotalsOf s k v d → restsPass s k ≡ true → CornersOf s k t → Ready v d t k

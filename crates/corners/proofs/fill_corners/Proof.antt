@@ -3,9 +3,9 @@ use mathlib.Core.Path.{_≡_, sym}
 use mathlib.Core.Bool.{false≢true}
 use native.Mathlib.Omega.{arith}
 use Prim.Native.Nat.{_-_}
-use Rattle.separation.proofs.Corners.{CornersDone, start, fails, goes-on, all}
-use Rattle.separation.proofs.fill_corners.Statement.{statement}
-use Rattle.separation.proofs.fill_corners.Tie as tie
+use Rattle.corners.proofs.Corners.{CornersDone, start, fails, goes-on, all}
+use Rattle.corners.proofs.fill_corners.Statement.{statement}
+use Rattle.corners.proofs.fill_corners.Tie as tie
 
 abbrev Inv-loop : tie.InvT-loop
 Inv-loop columns diagonals k totals₀ t₀ h₀ totals t h = CornersDone columns diagonals k totals t h

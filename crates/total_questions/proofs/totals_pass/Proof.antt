@@ -9,9 +9,9 @@ use lib.ListN.{getD}
 use mir.Syntax.{w64}
 use mir.Facts.{toZ-ofZ}
 use Rattle.totals.specs.CellSizes.{mostTotal}
-use Rattle.separation.proofs.Passing.{TotalsDone, whole, start, column-fails, diagonal-fails, more, last}
-use Rattle.separation.proofs.totals_pass.Statement.{statement}
-use Rattle.separation.proofs.totals_pass.Tie as tie
+use Rattle.total_questions.proofs.Passing.{TotalsDone, whole, start, column-fails, diagonal-fails, more, last}
+use Rattle.total_questions.proofs.totals_pass.Statement.{statement}
+use Rattle.total_questions.proofs.totals_pass.Tie as tie
 
 abbrev Inv-loop : tie.InvT-loop
 Inv-loop columns diagonals n v₀ d₀ sum₀ i₀ v d sum i = TotalsDone columns diagonals n v d sum i

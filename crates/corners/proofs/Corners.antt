@@ -17,7 +17,7 @@ use Rattle.laws.proofs.Diff.{is-self, is-pos, is-add, is-minus, is-eqs, eq-is, 
 use Rattle.laws.proofs.Lists.{length-upTo, getD-upTo, same-answer, every-fails, every-yes, stored}
 use Rattle.totals.proofs.Corners.{corner-down, corner-last}
 use Rattle.totals.proofs.Whole.{column-is, diagonal-is}
-use Rattle.separation.specs.Walk.{TotalsOf, CornersOf}
+use Rattle.corners.specs.Corners.{TotalsOf, CornersOf}
 
 -- T_{h−1}, by T_h = c above the column v
 next-corner : (t : ℤ) (c v d : ℕ) → t +ℤ pos v ≡ pos c +ℤ pos d → v < c → t ≡ pos (c - v + d)
