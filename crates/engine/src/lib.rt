@@ -8,7 +8,7 @@ use reserving::finish;
 use rules::ACCEPTED;
 use separation::separate_totals;
 use tail::carry_tail;
-use triangle::fill_rows;
+use triangle_rows::fill_rows;
 ghost use mathlib.Core.Path.{_≡_};
 ghost use mathlib.Core.List.{_++_};
 ghost use Prim.Native.Nat.{_≤_};

@@ -12,7 +12,7 @@ use listing::starts_of;
 use opening::last_year_of;
 use reading::read;
 use rules::MOST_ENTRIES;
-use triangle::fill_rows;
+use triangle_rows::fill_rows;
 ghost use mathlib.Core.Path.{_≡_};
 ghost use mathlib.Core.Bool.{true};
 ghost use Prim.Native.Nat.{_+_, _*_, _≤_, _<_};

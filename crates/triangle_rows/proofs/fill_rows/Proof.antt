@@ -17,10 +17,10 @@ use Rattle.laws.proofs.Padded.{filled-none, filled-more, rest-at}
 use Rattle.laws.proofs.TriangleRows.{row-room, row-start-more}
 use Rattle.entries.proofs.Leading.{leading-stop}
 use Rattle.totals.proofs.SoFar.{none-passed}
 use Rattle.triangle.specs.Columns.{columnSum, rowsPassing}
 use Rattle.triangle.proofs.Passed.{rows-all}
-use Rattle.triangle.proofs.fill_rows.Statement.{statement}
-use Rattle.triangle.proofs.fill_rows.Tie as tie
+use Rattle.triangle_rows.proofs.fill_rows.Statement.{statement}
+use Rattle.triangle_rows.proofs.fill_rows.Tie as tie
 
 -- how many rows pass where row i is the first that does not
 stops : (k : ℕ) (p : List ℤ) (i : ℕ) → i ≤ k → every (rowPasses k p) (below i) ≡ true → rowPasses k p i ≡ false → rowsPassing k p ≡ i

@@ -5,8 +5,8 @@ use mir.Syntax.{w64}
 use mir.Facts.{toZ-ofZ}
 use Rattle.rules.specs.Triangle.{averageOf}
 use Rattle.laws.proofs.Signed.{held}
-use Rattle.triangle.proofs.add_average.Statement.{statement}
-use Rattle.triangle.proofs.add_average.Tie as tie
+use Rattle.row_averages.proofs.add_average.Statement.{statement}
+use Rattle.row_averages.proofs.add_average.Tie as tie
 
 average-requires : tie.Need-average-requires
 average-requires c κs = (rw (toZ-ofZ (c .fits .paid)) (c .pre .0 .0), c .pre .0 .1)

@@ -19,12 +19,12 @@ use Rattle.laws.proofs.TriangleRows.{row-room}
 use Rattle.laws.proofs.Signed.{held}
 use Rattle.totals.proofs.Square.{cell-inside, zero-outside}
 use Rattle.totals.proofs.SoFar.{row-end, totals-small}
 use Rattle.triangle.specs.Columns.{columnSum}
-use Rattle.triangle.proofs.Added.{mixed, mixed-after, mixed-none, mixed-more, mixed-all}
+use Rattle.row_averages.proofs.Added.{mixed, mixed-after, mixed-none, mixed-more, mixed-all}
 use Rattle.triangle.proofs.Cumulatives.{increment-most, increment-read, more-fits, more-is, more-read, last-read, cell-is, cell-most, column-most, sum-given, sum-past}
 use Rattle.triangle.proofs.Square.{cells-bounded}
-use Rattle.triangle.proofs.fill_row.Statement.{statement}
-use Rattle.triangle.proofs.fill_row.Tie as tie
+use Rattle.row_averages.proofs.fill_row.Statement.{statement}
+use Rattle.row_averages.proofs.fill_row.Tie as tie
 
 abbrev Inv-loop : tie.InvT-loop
 Inv-loop row₀ sums₀ columns₀ diagonals₀ increments exposures k i at claims sum₀ cells j₀ row sums columns diagonals sum j =
