@@ -1,10 +1,10 @@
 // From figures whose separation was accepted, with their tail payments and development factors, to the result list: questions 11, 12, 15, 16, 17 and 14.
 use completion::fill_levels;
+use correcting::used_ratio;
 use entries::sum_of;
 use expense::plain_ratio;
 use expense::put_reserves;
 use expense::ratio_passes;
-use growth::used_ratio;
 use listing::put_completion;
 use listing::put_last;
 use listing::put_separation;

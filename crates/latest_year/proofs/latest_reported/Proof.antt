@@ -9,9 +9,9 @@ use Rattle.rules.specs.Record.{million}
 use Rattle.rules.specs.Completion.{mostUltimate, ultimate}
 use Rattle.rules.specs.Growth.{latestReported}
 use Rattle.laws.proofs.Totals.{total-more}
-use Rattle.growth.proofs.Reported.{term, sum-most}
-use Rattle.growth.proofs.latest_reported.Statement.{statement}
-use Rattle.growth.proofs.latest_reported.Tie as tie
+use Rattle.latest_year.proofs.Reported.{term, sum-most}
+use Rattle.latest_year.proofs.latest_reported.Statement.{statement}
+use Rattle.latest_year.proofs.latest_reported.Tie as tie
 
 abbrev Inv-loop : tie.InvT-loop
 Inv-loop k reporting paid provisions n sum₀ j₀ sum j = (j ≤ n) × (sum ≡ total (upTo (λ j. getD reporting j 0 * ultimate paid provisions (k - j)) j))

@@ -13,8 +13,8 @@ use Rattle.rules.specs.Growth.{latestPaid}
 use Rattle.laws.proofs.Signed.{held}
 use Rattle.laws.proofs.Adding.{sumTo-size, sumTo-read, sumTo-step, step-fits}
 use Rattle.laws.proofs.TriangleRows.{row-room, row-start-more}
-use Rattle.growth.proofs.latest_paid.Statement.{statement}
-use Rattle.growth.proofs.latest_paid.Tie as tie
+use Rattle.latest_year.proofs.latest_paid.Statement.{statement}
+use Rattle.latest_year.proofs.latest_paid.Tie as tie
 
 -- the last increment of row i
 abbrev latest : ℕ → List ℤ → ℕ → ℤ

@@ -1,2 +1,1 @@
 pub mod Reported
-pub mod Asked

@@ -13,7 +13,7 @@ use mir.Val.{Fits}
 use Rattle.rules.specs.Questions.{firstNo, afterCall}
 use Rattle.rules.specs.Record.{million}
 use Rattle.rules.specs.Growth.{corrects, latestPaidPasses, divisorPasses, correctedRatio, correctedRatioPasses, growthQuestions, usedRatio}
-use Rattle.growth.specs.UsedRatio.{RatioAnswers}
+use Rattle.correcting.specs.UsedRatio.{RatioAnswers}
 
 -- the size of a number that is not below 1
 pub one-least : (z : ℤ) → ltZ z (pos 1) ≡ false → 1 ≤ natAbs z

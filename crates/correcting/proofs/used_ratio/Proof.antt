@@ -12,9 +12,9 @@ use Rattle.rules.specs.Growth.{corrects, latestReported, latestPaid, divisorOf}
 use mir.Facts.{toZ-ofZ}
 use Rattle.laws.proofs.Order.{less-yes, less-no}
 use Rattle.laws.proofs.Signed.{held, size-fits}
-use Rattle.growth.proofs.Asked.{one-least, whole-fits, earlier, fifteen, sixteen, seventeen, corrected}
-use Rattle.growth.proofs.used_ratio.Statement.{statement}
-use Rattle.growth.proofs.used_ratio.Tie as tie
+use Rattle.correcting.proofs.Asked.{one-least, whole-fits, earlier, fifteen, sixteen, seventeen, corrected}
+use Rattle.correcting.proofs.used_ratio.Statement.{statement}
+use Rattle.correcting.proofs.used_ratio.Tie as tie
 
 -- Y, B and the divisor of the arguments
 abbrev paid : tie.Start → ℤ
