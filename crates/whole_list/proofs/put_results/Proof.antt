@@ -16,9 +16,9 @@ use Rattle.laws.proofs.Lists.{length-upTo}
 use Rattle.laws.proofs.TriangleRows.{cells-least}
 use Rattle.laws.proofs.Joined.{sets-append, joined-both}
 use Rattle.listing.proofs.Counts.{results-count}
-use Rattle.reserving.specs.Stages.{printedList}
-use Rattle.reserving.proofs.put_results.Statement.{statement}
-use Rattle.reserving.proofs.put_results.Tie as tie
+use Rattle.whole_list.specs.Printed.{printedList}
+use Rattle.whole_list.proofs.put_results.Statement.{statement}
+use Rattle.whole_list.proofs.put_results.Tie as tie
 
 -- four runs of stores, one after another
 four-runs : (a b d e : List (List ℤ)) (l : List ℤ) {p q r : ℕ} → p ≡ length (joined a) → q ≡ p + length (joined b) → r ≡ q + length (joined d)
