@@ -1,4 +1,4 @@
--- Questions 6 and 13, the separation, the tail and what follows it are asked in turn, and each answer is that of a segment of the questions. Assumes nothing.
+-- Questions 6 and 13, the separation and what follows it are asked in turn, and each answer is that of a segment of the questions. Assumes nothing.
 use borrow.Author.Needs.{needs}
 use borrow.Author.Tests.{not-true, not-false}
 use native.Mathlib.Omega.{arith}
@@ -11,18 +11,17 @@ use Rattle.rules.specs.Lists.{upTo, every}
 use Rattle.rules.specs.Record.{figures, Figures}
 use Rattle.rules.specs.Triangle.{cumulativesPass}
 use Rattle.rules.specs.Separation.{separationQuestions, separateAnswer}
-use Rattle.rules.specs.Tail.{tailQuestions}
-use Rattle.rules.specs.Results.{squareOf, firstTailAverageOf, paidIn, developmentIn}
+use Rattle.rules.specs.Results.{squareOf, paidIn, developmentIn}
 use Rattle.rules.specs.declared.Factors.{Factors}
-use Rattle.rules.specs.Engine.{developmentPasses, developmentQuestions, figureQuestions, lastQuestions, laterQuestions}
+use Rattle.rules.specs.Engine.{developmentPasses, developmentQuestions, figureQuestions, laterQuestions}
 use Rattle.reserving.proofs.Answering.{one-no, one-yes, first-refused, later}
 use Rattle.triangle.specs.Columns.{columnSum}
 use Rattle.totals.specs.Summed.{Summed}
-use Rattle.reserving.specs.Stages.{Tailed, Answers}
-use Rattle.engine.proofs.Before as stage
-use Rattle.engine.proofs.Development as ladder
-use Rattle.engine.proofs.run_figures.Statement.{statement}
-use Rattle.engine.proofs.run_figures.Tie as tie
+use Rattle.reserving.specs.Stages.{Answers}
+use Rattle.figures_run.proofs.Before as stage
+use Rattle.figures_run.proofs.Development as ladder
+use Rattle.figures_run.proofs.run_figures.Statement.{statement}
+use Rattle.figures_run.proofs.run_figures.Tie as tie
 
 abbrev F : tie.Start → Figures
 F s =
@@ -159,45 +158,9 @@ accepted-is : (c : tie.Else3) →
     separateAnswer (squareOf (F s)) (F s .k) ≡ 0
 accepted-is c = sym (answer-is (separate3 c)) ∙ c .if3 .left
 
--- questions 18 and 19
-carry-tail-requires : tie.Need-carry-tail-requires
-carry-tail-requires c κs =
-    let s = start2 (separate3 (c .before)) in
-    let good = s .pre .0 in
-    record {
-      years = record { few = good .few; exposures = good .exposures-most; firstIndex = good .firstIndex; indices = good .indices };
-      tail = good .tail;
-      claims = good .exposures 0 (omega arith) .0;
-    }
-
-returns-4 : tie.Need-returns-4
-unfolding figureQuestions laterQuestions firstTailAverageOf separateAnswer separationQuestions every
-returns-4 c =
-    let carried = c .before in
-    let three = carried .before .before in
-    let at = separate3 three in
-    let s = start2 at in
-    let f = F s in
-    let out = s .args .out .now in
-    let n = carried .carry-tail .result in
-    after-13 (yes13 at) _ _ n
-    (later (s .args .year) f out (separationQuestions (squareOf f) (f .k)) _ out n refl (accepted-is three)
-    (first-refused (s .args .year) f out (tailQuestions (f .k) (firstTailAverageOf f) (f .indices)) _ n (sym (carried .carry-tail .ensures .0)) (c .if4 .taken)))
-
--- the tail is carried on
-tailed-is : (c : tie.Else4) →
-    let s = start2 (separate3 (c .before .before .before)) in
-    Tailed (F s) (c .before .carry-tail .last .1 .1 .1 .1 .0)
-unfolding firstTailAverageOf
-tailed-is c =
-    let carried = c .before in
-    let s = start2 (separate3 (carried .before .before)) in
-    stage.tails-are (F s) (s .pre .0 .few) _ (carried .carry-tail .ensures .1) (sym (carried .carry-tail .ensures .0) ∙ c .if4 .left)
-
-finish-requires : tie.Need-finish-requires
-finish-requires c κs =
-    let four = c .before .before .before .before .before .before .before .before .before in
-    let three = four .before .before .before in
+run-separated-requires : tie.Need-run-separated-requires
+run-separated-requires c κs =
+    let three = c .before .before .before .before .before .before .before .before in
     let at = separate3 three in
     let yes = yes13 at in
     let six = six13 (yes .before) in
@@ -215,25 +178,22 @@ finish-requires c κs =
         shares = ap (λ (g : Factors). g .shares) factors;
         levels = ap (λ (g : Factors). g .levels) factors;
       },
-      (tailed-is four, s .pre .1),
+      s .pre .1,
     )
 
 same-length : tie.Need-same-length
 same-length c = search needs
 
-returns-5 : tie.Need-returns-5
-unfolding figureQuestions laterQuestions separateAnswer separationQuestions tailQuestions every
-returns-5 c =
+returns-4 : tie.Need-returns-4
+unfolding figureQuestions separateAnswer separationQuestions every
+returns-4 c =
     let call = c .before in
-    let four = call .before .before .before .before .before .before .before .before .before .before in
-    let three = four .before .before .before in
+    let three = call .before .before .before .before .before .before .before .before .before in
     let at = separate3 three in
     let s = start2 at in
     let f = F s in
-    let out = s .args .out .now in
     after-13 (yes13 at) _ _ _
-    (later (s .args .year) f out (separationQuestions (squareOf f) (f .k)) (laterQuestions (s .args .year) f) _ _ refl (accepted-is three)
-    (later (s .args .year) f out (tailQuestions (f .k) (firstTailAverageOf f) (f .indices)) (lastQuestions (s .args .year) f) _ _ refl (tailed-is four .passed) (call .finish .ensures)))
+    (later (s .args .year) f (s .args .out .now) (separationQuestions (squareOf f) (f .k)) (laterQuestions (s .args .year) f) _ _ refl (accepted-is three) (call .run-separated .ensures))
 
 pub run-figures-spec : {M : Type 1} → statement M
 run-figures-spec =
@@ -245,8 +205,6 @@ run-figures-spec =
     returns-2
     separate-totals-requires
     returns-3
-    carry-tail-requires
-    returns-4
-    finish-requires
+    run-separated-requires
     same-length
-    returns-5)
+    returns-4)
