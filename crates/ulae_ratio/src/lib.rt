@@ -37,6 +37,13 @@ pub fn ratio_of(
     }
     let plain = plain_ratio(total, spent);
     used_ratio(
-        year, k, increments, reporting, weight, paid, provisions, plain,
+        year,
+        k,
+        increments,
+        reporting,
+        weight,
+        paid,
+        provisions,
+        plain,
     )
 }
