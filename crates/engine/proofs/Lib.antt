@@ -1,4 +1,3 @@
 pub mod RunQuestions
-pub mod Before
-pub mod Development
+pub mod Figures
 pub mod Run

@@ -1,94 +1,21 @@
 // The engine: from a valuation year and a record to the result list, under questions 1 to 19. It asks every question before it writes.
-use ladder::development_factors;
+use figures_run::run_figures;
 use listing::entries_of;
 use opening::last_year_of;
 use opening::opens;
 use reading::read;
-use reserving::finish;
 use rules::ACCEPTED;
-use separation::separate_totals;
-use tail::carry_tail;
-use triangle::fill_rows;
 ghost use mathlib.Core.Path.{_≡_};
 ghost use mathlib.Core.List.{_++_};
 ghost use Prim.Native.Nat.{_≤_};
 ghost use lib.ListN.{length};
 ghost use Rattle.rules.specs.Questions.{firstNo};
-ghost use Rattle.rules.specs.Record.{figures, lastYearOf, figuresOf};
+ghost use Rattle.rules.specs.Record.{lastYearOf, figuresOf};
 ghost use Rattle.rules.specs.Reading.{openingQuestions, fieldQuestions};
 ghost use Rattle.rules.specs.Results.{resultCount};
 ghost use Rattle.rules.specs.Engine.{figureQuestions, holdsList, runAnswer, runInto};
 ghost use Rattle.rules.specs.Demand.{ThirdDemand};
-ghost use Rattle.reading.specs.Reading.{Sound};
 ghost use Rattle.reserving.specs.Stages.{Answers};
-
-// The questions from 6 on of figures that have passed 4 and 5, for a buffer that holds their list, and the list where all say yes.
-pub fn run_figures(
-    year: u64,
-    k: usize,
-    exposures: &[u64; 16],
-    increments: &[i64; 136],
-    indices: &[u64; 16],
-    reporting: &[u64; 16],
-    weight: u64,
-    ulae: &[u64; 16],
-    tail: u64,
-    out: &mut [i64],
-) -> u64
-    requires { ⌜ Sound (figures k (now exposures) (now increments) (now indices) (now reporting) weight (now ulae) tail) × (resultCount k ≤ length (now out)) ⌝ }
-    ensures { λ r. ⌜ Answers (figureQuestions year (figures k (now (exposures .entry)) (now (increments .entry)) (now (indices .entry)) (now (reporting .entry)) weight (now (ulae .entry)) tail))
-        year (figures k (now (exposures .entry)) (now (increments .entry)) (now (indices .entry)) (now (reporting .entry)) weight (now (ulae .entry)) tail) (now (out .entry)) (now (out .exit)) r ⌝ }
-{
-    let mut square = [[0i64; 16]; 16];
-    let mut sums = [0u64; 16];
-    let mut paid = [0u64; 16];
-    let mut columns = [0i64; 16];
-    let mut diagonals = [0i64; 16];
-    if !fill_rows(
-        k,
-        exposures,
-        increments,
-        &mut square,
-        &mut sums,
-        &mut paid,
-        &mut columns,
-        &mut diagonals,
-    ) {
-        return 6;
-    }
-    let mut development = [0u64; 16];
-    if !development_factors(k, &sums, &paid, &mut development) {
-        return 13;
-    }
-    let separation = separate_totals(&columns, &diagonals, k);
-    if separation.answer != ACCEPTED {
-        return separation.answer;
-    }
-    let mut tails = [0u64; 16];
-    let carried = carry_tail(k, tail, exposures, indices, &mut tails);
-    if carried != ACCEPTED {
-        return carried;
-    }
-    let factors = separation.factors;
-    finish(
-        year,
-        k,
-        exposures,
-        increments,
-        indices,
-        reporting,
-        weight,
-        ulae,
-        tail,
-        &square,
-        &development,
-        &paid,
-        &factors.shares,
-        &factors.levels,
-        &tails,
-        out,
-    )
-}
 
 // The questions from 4 on of a record that has passed 1, 2 and 3, and the list where all say yes.
 fn run_record(year: u64, packed: &[u8], out: &mut [i64]) -> u64

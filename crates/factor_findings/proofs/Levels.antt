@@ -24,8 +24,9 @@ use Rattle.laws.proofs.Joined.{padded-all, upTo-all}
 use Rattle.laws.proofs.Totals.{total-more}
 use Rattle.totals.proofs.TotalsMost.{running-most, diagonal-most}
 use Rattle.totals.proofs.Whole.{diagonal-is}
-use Rattle.separation.specs.Walk.{Summed, totalsAnswer}
-use Rattle.separation.proofs.FactorQuestions.{answer-none}
+use Rattle.totals.specs.Summed.{Summed}
+use Rattle.total_questions.specs.TotalQuestions.{totalsAnswer}
+use Rattle.total_questions.proofs.TotalQuestions.{answer-none}
 use Rattle.reasons.proofs.Counted.{leading-same, counted, stops-below}
 use Rattle.finding.specs.Places.{paymentYear, found}
 use Rattle.triangle_findings.proofs.Totals.{diagonal-at}

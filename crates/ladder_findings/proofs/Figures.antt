@@ -17,7 +17,7 @@ use Rattle.triangle.proofs.Passed.{paid-most}
 use Rattle.results.proofs.Limits.{factors-most}
 use Rattle.entries.specs.Leading.{leading}
 use Rattle.ladder.specs.Columns.{developedIn, baseIn, Ladderable}
-use Rattle.engine.proofs.Development.{ladderable, development-are}
+use Rattle.figures_run.proofs.Development.{ladderable, development-are}
 use Rattle.ladder_findings.specs.LadderFindings.{cellFinding, completedFinding, Developing}
 
 paid-low : (f : Figures) → cumulativesPass (f .k) (f .increments) ≡ true → (i : ℕ) → getD (paidIn f) i 0 ≤ mostCumulative

@@ -10,7 +10,7 @@ use Rattle.rules.specs.Triangle.{cumulativesPass, averagesOf, paidTo, TotalsIn,
 use Rattle.rules.specs.Results.{squareOf, paidIn}
 use Rattle.triangle.specs.Columns.{Increments, Exposures, columnSum, rowsPassing}
 use Rattle.reading.specs.Reading.{Sound}
-use Rattle.engine.proofs.Before.{paid-are, sums-are, totals-are}
+use Rattle.figures_run.proofs.Before.{paid-are, sums-are, totals-are}
 
 module _ (f : Figures) (k : ℕ) (n : List ℕ) (p : List ℤ) (ek : k ≡ f .k) (en : n ≡ f .exposures) (ep : p ≡ f .increments) where
   pub rows-ready : Sound f → (k < 16) × (Exposures k n × Increments p)

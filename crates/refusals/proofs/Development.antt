@@ -12,7 +12,7 @@ use Rattle.triangle.specs.Columns.{columnSum}
 use Rattle.ladder.specs.Columns.{developedIn, baseIn, Ladderable}
 use Rattle.reasons.specs.Reasons.{developmentReason}
 use Rattle.reasons.proofs.Stored.{development-same}
-use Rattle.engine.proofs.Development.{developed-is, base-is, ladderable, thirteen-is}
+use Rattle.figures_run.proofs.Development.{developed-is, base-is, ladderable, thirteen-is}
 
 module _ (f : Figures) (no13 : factorsPass (f .k) (developed (f .k) (f .increments)) (base (f .k) (f .increments)) ≡ false) (k : ℕ) (v c : List ℕ) (ek : k ≡ f .k) (few : k < 16)
     (ev : v ≡ upTo (columnSum (f .k) (f .increments) (f .k + 1)) 16) (ec : c ≡ paidIn f) where

@@ -20,12 +20,13 @@ use Rattle.rules.specs.declared.Factors.{Factors}
 use Rattle.reading.specs.Reading.{Sound}
 use Rattle.triangle.proofs.Square.{cells-bounded}
 use Rattle.totals.proofs.Square.{zero-outside}
-use Rattle.separation.specs.Walk.{Summed}
+use Rattle.totals.specs.Summed.{Summed}
 use Rattle.tail.specs.Tailable.{Tailable, tailsCarried}
 use Rattle.completion.specs.Asked.{Completable, mostPayment, rowsAsked}
 use Rattle.reserving.specs.Stages.{Separated, Tailed}
 use Rattle.reserving.proofs.Later as stage
-use Rattle.engine.proofs.Before.{factors-are, tails-are}
+use Rattle.figures_run.proofs.Before.{factors-are}
+use Rattle.separated_run.proofs.Tails.{tails-are}
 use Rattle.reserve_findings.specs.Provided.{provisionsAsked}
 
 -- the totals of the averages are those of a square within its limits

@@ -5,9 +5,9 @@ use native.Mathlib.Omega.{arith}
 use borrow.Author.Tests.{leb-true}
 use mathlib.Core.Path.{_≡_, refl, sym, _∙_}
 use mathlib.Core.Bool.{true}
-use mathlib.Core.List.{List}
+use mathlib.Core.List.{List, _++_}
 use lib.Dec.{leb}
-use lib.IntN.{ℤ}
+use lib.IntN.{ℤ, pos}
 use lib.ListN.{getD, take, replicate}
 use lib.Seq.{sets}
 use Rattle.rules.specs.Lists.{total, upTo, padded, joined, every}
@@ -17,26 +17,29 @@ use Rattle.rules.specs.Triangle.{mostCumulative}
 use Rattle.rules.specs.Separation.{billion, shareOf, levelOf, factorsOf, levelsPass, totalsPass, separationQuestions, separateAnswer}
 use Rattle.rules.specs.Tail.{tailAverage, tailPayment, tailPayments, mostTailAverage, tailAveragesPass, tailQuestions}
 use Rattle.rules.specs.Completion.{futureLevel, futureLevels, paymentRow, payments, provision, provisions, ultimate, mostUltimate, ultimatesPass}
-use Rattle.rules.specs.Expense.{paidTotal, ulaeTotal, ratioPass}
-use Rattle.rules.specs.Growth.{latestReported, latestPaid, divisorOf, growthQuestions, usedRatio}
+use Rattle.rules.specs.Expense.{paidTotal, ulaeTotal, ratioPass, plainRatio}
+use Rattle.rules.specs.Growth.{latestReported, latestPaid, divisorOf, growthQuestions}
 use Rattle.rules.specs.Ladder.{developed, base, developmentFactor, developmentFactors, mostFactor, completedRow, completedAll, completedPass}
 use Rattle.rules.specs.Results.{squareOf, latestDiagonalOf, factorsIn, firstTailAverageOf, paidIn, levelsIn, tailsIn, provisionsIn, developmentIn, plainRatioIn, latestReportedIn, latestPaidIn, divisorIn, usedRatioIn, sections, resultsOf}
-use Rattle.rules.specs.Engine.{correctionQuestions}
+use Rattle.rules.specs.Engine.{ratioQuestions, correctionQuestions}
 use Rattle.laws.proofs.Lists.{length-upTo, every-upTo, take-padded}
 use Rattle.laws.proofs.Padded.{filled-at}
 use Rattle.laws.proofs.Joined.{sets-filled, future-length, future-cells, future-most}
-use Rattle.laws.proofs.Questions.{said, yes-said}
+use Rattle.laws.proofs.Questions.{said, yes-said, both-zero}
 use Rattle.totals.proofs.TotalsMost.{diagonal-most, latest-level}
 use Rattle.totals.proofs.Square.{zero-outside}
 use Rattle.triangle.proofs.Passed.{paid-most}
 use Rattle.completion.specs.Asked.{Completable, mostPayment, rowsAsked}
 use Rattle.entries.specs.Leading.{passing}
 use Rattle.entries.proofs.Leading.{asked-all, passing-all}
-use Rattle.expense.specs.Reservable.{Reservable}
 use Rattle.allowance.proofs.Rates.{ratio-most, used-most}
 use Rattle.results.proofs.SectionPlaces.{length-payments, length-completed}
 use Rattle.results.proofs.Limits.{shares-most, levels-most, ahead-most, ultimates-most, addable-payments, addable-tails, addable-provisions, factors-most, addable-completed, most-list}
-use Rattle.reserving.specs.Stages.{Separated, Tailed, Printable, printedList}
+use Rattle.whole_list.specs.Printed.{Printable, printedList}
+use Rattle.ulae_ratio.specs.AskedRatio.{Rateable, RatioAsked}
+use Rattle.reserving.specs.Stages.{Separated, Tailed}
+use Rattle.reserving.proofs.Answering.{one-said}
+use Rattle.reserving.proofs.PlainRatio as ratio
 
 module _ (f : Figures) (s : List (List ℤ)) (m c r l : List ℕ) (h : Separated f s m c r l) where
   abbrev k : ℕ
@@ -125,37 +128,52 @@ module _ (f : Figures) (s : List (List ℤ)) (m c r l : List ℕ) (h : Separated
       let low = leb-true (tailAverage (firstTailAverageOf f) (f .indices) i) mostTailAverage (every-upTo (λ i. leb (tailAverage (firstTailAverageOf f) (f .indices) i) mostTailAverage) (λ i. i) (k + 1) i nineteen l) in
       omega (arith, mul-le-mul (h .sound .exposures-most i) low)))
 
-  -- the total of the paid cumulatives
-  pub paid-sum : (n : ℕ) → n ≡ total (take (f .k + 1) c) → n ≡ total (take (f .k + 1) (paidIn f))
-  paid-sum n e = rw (h .paid) at e
-
-  -- questions 15, 16 and 17, of the provisions q and the plain ratio p
-  module _ (q : List ℕ) (p : ℕ) (provisions : q ≡ provisionsIn f) (plain : p ≡ plainRatioIn f) where
-    pub reservable : ultimatesPass (f .k) (paidIn f) (provisionsIn f) ≡ true → ratioPass (paidTotal (f .k) (f .increments)) (ulaeTotal (f .k) (f .ulae)) ≡ true
-        → Reservable (f .k) c q (f .reporting) (f .weight) p
-    unfolding plainRatioIn
-    reservable q11 q12 = record {
+  -- questions 12, 15, 16 and 17, of the provisions q
+  module _ (q : List ℕ) (provisions : q ≡ provisionsIn f) where
+    pub rateable : ultimatesPass (f .k) (paidIn f) (provisionsIn f) ≡ true → Rateable (f .k) c q (f .reporting) (f .ulae) (f .weight)
+    rateable q11 = record {
       few = h .sound .few;
       ultimates = rw (h .paid, provisions) (ultimates-most f q11);
       reporting = h .sound .reporting-sum;
+      ulae = h .sound .ulae;
       weight = h .sound .weight;
-      ratio = rw plain (ratio-most (paidTotal (f .k) (f .increments)) (ulaeTotal (f .k) (f .ulae)) q12);
     }
+
+    paid-sum : total (take (f .k + 1) c) ≡ total (take (f .k + 1) (paidIn f))
+    paid-sum = rw (h .paid)
+
+    twelve-is : ratioPass (pos (total (take (f .k + 1) c))) (total (take (f .k + 1) (f .ulae))) ≡ ratioPass (paidTotal (f .k) (f .increments)) (ulaeTotal (f .k) (f .ulae))
+    twelve-is = ratio.twelve-is f (h .sound) (h .cumulatives) _ _ paid-sum refl
+
+    plain-is : plainRatio (pos (total (take (f .k + 1) c))) (total (take (f .k + 1) (f .ulae))) ≡ plainRatioIn f
+    plain-is = ratio.plain-is f (h .sound) (h .cumulatives) _ _ paid-sum refl
 
     divisor-is : divisorOf (f .weight) (latestReported (f .k) (f .reporting) c q) (latestPaid (f .k) (f .increments)) ≡ divisorIn f
     unfolding divisorIn latestReportedIn latestPaidIn
     divisor-is = rw (h .paid, provisions)
 
-    pub correction-is : (year n : ℕ)
-        → n ≡ firstNo (growthQuestions year p (latestPaid (f .k) (f .increments)) (divisorOf (f .weight) (latestReported (f .k) (f .reporting) c q) (latestPaid (f .k) (f .increments))))
-        → firstNo (correctionQuestions year f) ≡ n
-    unfolding correctionQuestions latestPaidIn
-    correction-is year n e = sym (rw (divisor-is, plain) at e)
+    module _ (year n x : ℕ) (asked : RatioAsked year (total (take (f .k + 1) c)) (total (take (f .k + 1) (f .ulae))) (latestPaid (f .k) (f .increments))
+        (divisorOf (f .weight) (latestReported (f .k) (f .reporting) c q) (latestPaid (f .k) (f .increments))) n x) where
+      pub asked-is : firstNo (ratioQuestions f ++ correctionQuestions year f) ≡ n
+      unfolding ratioQuestions correctionQuestions latestPaidIn
+      asked-is = sym (rw (divisor-is, plain-is, twelve-is) at (asked .0))
 
-    pub used-is : (year n x : ℕ) → n ≡ 0
-        → x ≡ afterCall n (usedRatio year p (divisorOf (f .weight) (latestReported (f .k) (f .reporting) c q) (latestPaid (f .k) (f .increments)))) p → x ≡ usedRatioIn year f
-    unfolding usedRatioIn afterCall
-    used-is year n x z e = rw (divisor-is, plain, z) at e
+      -- where all of them say yes
+      module _ (none : n ≡ 0) where
+        both : (firstNo (ratioQuestions f) ≡ 0) × (firstNo (correctionQuestions year f) ≡ 0)
+        unfolding ratioQuestions every
+        both = both-zero (ratioQuestions f) (correctionQuestions year f) refl (asked-is ∙ none)
+
+        pub yes-twelve : ratioPass (paidTotal (f .k) (f .increments)) (ulaeTotal (f .k) (f .ulae)) ≡ true
+        unfolding ratioQuestions
+        yes-twelve = one-said 11 _ (both .0)
+
+        pub yes-correction : firstNo (correctionQuestions year f) ≡ 0
+        yes-correction = both .1
+
+        pub used-is : x ≡ usedRatioIn year f
+        unfolding usedRatioIn afterCall
+        used-is = rw (divisor-is, plain-is, twelve-is, yes-twelve, none) at (asked .1)
 
   -- no development factor is above 50 × M
   pub factors-fit : (j : ℕ) → getD m j 0 ≤ mostFactor

@@ -1,53 +1,14 @@
 // From figures whose separation was accepted, with their tail payments and development factors, to the result list: questions 11, 12, 15, 16, 17 and 14.
 use completion::fill_levels;
-use entries::sum_of;
-use expense::plain_ratio;
-use expense::put_reserves;
-use expense::ratio_passes;
-use growth::used_ratio;
-use listing::put_completion;
-use listing::put_last;
-use listing::put_separation;
 use rules::ACCEPTED;
-ghost use mathlib.Core.Path.{_≡_};
+use ulae_ratio::ratio_of;
+use whole_list::put_results;
 ghost use Prim.Native.Nat.{_≤_};
 ghost use lib.ListN.{length};
-ghost use lib.Seq.{sets};
 ghost use Rattle.rules.specs.Record.{figures};
 ghost use Rattle.rules.specs.Results.{resultCount};
 ghost use Rattle.rules.specs.Engine.{lastQuestions};
-ghost use Rattle.reserving.specs.Stages.{Separated, Tailed, Printable, printedList, Answers};
-
-// The whole list.
-fn put_results<'a>(
-    out: &mut [i64],
-    k: usize,
-    square: &[[i64; 16]; 16],
-    shares: &'a [u64; 16],
-    levels: &'a [u64; 16],
-    ahead: &[u64; 16],
-    payments: &[u64; 120],
-    provisions: &[u64; 16],
-    paid: &[u64; 16],
-    reporting: &[u64; 16],
-    weight: u64,
-    ratio: u64,
-    factors: &[u64; 16],
-    completed: &[u64; 120],
-    tails: &[u64; 16],
-)
-    requires { ⌜ Printable k (now shares) (now levels) (now ahead) (now payments) (now provisions) (now paid) (now reporting) weight ratio (now factors) (now completed) (now tails)
-        × (resultCount k ≤ length (now out)) ⌝ }
-    ensures { λ _. ⌜ now (out .exit)
-        ≡ sets (now (out .entry)) 0
-        (printedList k (now (square .entry)) (now (shares .entry)) (now (levels .entry)) (now (ahead .entry)) (now (payments .entry)) (now (provisions .entry)) (now (paid .entry))
-        (now (reporting .entry)) weight ratio (now (factors .entry)) (now (completed .entry)) (now (tails .entry))) ⌝ }
-{
-    let a = put_separation(out, square, shares, levels, k);
-    let b = put_completion(out, a, ahead, payments, provisions, k);
-    let c = put_reserves(out, b, k, paid, provisions, reporting, weight, ratio);
-    put_last(out, c, factors, completed, tails, k);
-}
+ghost use Rattle.reserving.specs.Stages.{Separated, Tailed, Answers};
 
 // The questions from 11 on of figures whose development factors and separation were accepted and whose tail was carried on, and the list where all say yes. The
 // latest diagonal is the latest level.
@@ -74,7 +35,6 @@ pub fn finish<'a>(
     ensures { λ r. ⌜ Answers (lastQuestions year (figures k (now (exposures .entry)) (now (increments .entry)) (now (indices .entry)) (now (reporting .entry)) weight (now (ulae .entry)) tail))
         year (figures k (now (exposures .entry)) (now (increments .entry)) (now (indices .entry)) (now (reporting .entry)) weight (now (ulae .entry)) tail) (now (out .entry)) (now (out .exit)) r ⌝ }
 {
-    let n = k + 1;
     let mut ahead = [0u64; 16];
     let mut payments = [0u64; 120];
     let mut provisions = [0u64; 16];
@@ -91,21 +51,15 @@ pub fn finish<'a>(
     ) {
         return 11;
     }
-    let total = sum_of(paid, n);
-    let spent = sum_of(ulae, n);
-    if !ratio_passes(total, spent) {
-        return 12;
-    }
-    let plain = plain_ratio(total, spent);
-    let used = used_ratio(
+    let used = ratio_of(
         year,
         k,
         increments,
         reporting,
         weight,
+        ulae,
         paid,
         &provisions,
-        plain,
     );
     if used.answer != ACCEPTED {
         return used.answer;

@@ -16,7 +16,7 @@ use Rattle.table_heads.specs.Heads.{Fits}
 use Rattle.table.specs.Table.{table}
 use Rattle.totals.specs.CellSizes.{TotalsSmall}
 use Rattle.triangle_findings.specs.TriangleFindings.{cornerBy, mostCorner}
-use Rattle.separation.specs.Walk.{Summed}
+use Rattle.totals.specs.Summed.{Summed}
 use Rattle.triangle_findings.proofs.Totals.{columns-small, diagonals-small}
 use Rattle.triangle_findings.proofs.Rests.{corner-size, corner-of}
 use Rattle.rest_years.specs.RestYears.{CornersSmall, refusedYears, mostLabels, yearLabels, allValues, yearShape, yearWords, yearTable}

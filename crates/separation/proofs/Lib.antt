@@ -1,5 +1,2 @@
-pub mod Passing
-pub mod Totals
-pub mod Corners
 pub mod Steps
 pub mod FactorQuestions

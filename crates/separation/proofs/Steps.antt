@@ -11,7 +11,9 @@ use Rattle.rules.specs.Separation.{billion, columnOf, cornerOf, runningDown, ru
 use Rattle.rules.specs.declared.Factors.{Factors}
 use Rattle.laws.proofs.Padded.{filled-more}
 use Rattle.factors.proofs.Parts.{below-part-most}
-use Rattle.separation.specs.Walk.{TotalsOf, Ready, withYear, factorsTo, FactorsFound}
+use Rattle.corners.specs.Corners.{TotalsOf}
+use Rattle.total_questions.specs.TotalQuestions.{Ready}
+use Rattle.separation.specs.Walk.{withYear, factorsTo, FactorsFound}
 
 -- what the walk asks up to a year, it asks up to the year below
 pub ready-below : (v d t : List ℕ) (h n : ℕ) → n ≤ h → Ready v d t h → Ready v d t n

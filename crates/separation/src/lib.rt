@@ -6,82 +6,25 @@ use factors::running_below;
 use rules::ACCEPTED;
 use rules::BILLION;
 use rules::Factors;
+use total_questions::totals_answer;
 use totals::fill_totals;
 ghost use mathlib.Core.Path.{_≡_};
-ghost use mathlib.Core.Bool.{true, _&&_};
 ghost use mathlib.Core.List.{List};
-ghost use Prim.Native.Nat.{ℕ, _+_, _-_, _*_, _/_, _≤_, _<_};
-ghost use lib.IntN.{ℤ, pos, natAbs};
-ghost use lib.ListN.{length, getD};
-ghost use lib.Signed.{leZ};
-ghost use Rattle.rules.specs.Lists.{below, every};
-ghost use Rattle.rules.specs.Triangle.{sumTo, ZeroOutside};
+ghost use Prim.Native.Nat.{_-_, _*_, _/_, _≤_, _<_};
+ghost use lib.IntN.{ℤ};
+ghost use lib.ListN.{getD};
+ghost use Rattle.rules.specs.Triangle.{ZeroOutside};
 ghost use Rattle.rules.specs.Questions.{afterCall};
 ghost use Rattle.rules.specs.Separation.{billion, noFactors, factorsOf, separateAnswer, separated};
-ghost use Rattle.totals.specs.CellSizes.{Cells, mostTotal};
-ghost use Rattle.separation.specs.Walk.{Summed, SizesOf, CornersFound, Ready, FactorsFound, withYear, totalsAnswer, TotalsAnswered};
+ghost use Rattle.totals.specs.CellSizes.{Cells};
+ghost use Rattle.totals.specs.Summed.{Summed};
+ghost use Rattle.total_questions.specs.TotalQuestions.{Ready, totalsAnswer};
+ghost use Rattle.separation.specs.Walk.{FactorsFound, withYear};
 
 // The number that the separation answers, and the factors: zeros where it is not 0.
 pub struct Separation {
     pub answer: u64,
     pub factors: Factors,
-}
-
-// Question 7, of the first n totals; where it says yes, their sizes are in v and d.
-fn totals_pass(
-    columns: &[i64; 16],
-    diagonals: &[i64; 16],
-    n: usize,
-    v: &mut [u64; 16],
-    d: &mut [u64; 16],
-) -> bool
-    requires { ⌜ (n ≤ 16)
-        × (((i : ℕ) → i < n → natAbs (getD (now columns) i (pos 0)) ≤ mostTotal) × ((length (now v) ≡ 16) × (length (now d) ≡ 16))) ⌝ }
-    ensures { λ r. ⌜ (r ≡ every (λ i. leZ (pos 0) (getD (now (columns .entry)) i (pos 0))) (below n)
-        && (every (λ i. leZ (pos 0) (getD (now (diagonals .entry)) i (pos 0))) (below n)
-        && leZ (sumTo (λ i. getD (now (columns .entry)) i (pos 0)) n) (pos billion)))
-        × (r ≡ true → SizesOf n (now (columns .entry)) (now (v .exit)) × SizesOf n (now (diagonals .entry)) (now (d .exit))) ⌝ }
-{
-    let mut sum: u64 = 0;
-    for i in 0..n {
-        let a = columns[i];
-        if a < 0 {
-            return false;
-        }
-        let b = diagonals[i];
-        if b < 0 {
-            return false;
-        }
-        let x = a as u64;
-        v[i] = x;
-        d[i] = b as u64;
-        sum += x;
-    }
-    sum <= BILLION
-}
-
-// The totals T from k down to 0 go into the list as far as question 8 says yes; whether it does in every year.
-fn fill_corners(
-    columns: &[u64; 16],
-    diagonals: &[u64; 16],
-    k: usize,
-    totals: &mut [u64; 16],
-) -> bool
-    requires { ⌜ (k < 16) × (((i : ℕ) → i ≤ k → getD (now diagonals) i 0 ≤ billion) × (length (now totals) ≡ 16)) ⌝ }
-    ensures { λ r. ⌜ CornersFound k (now (columns .entry)) (now (diagonals .entry)) (now (totals .exit)) r ⌝ }
-{
-    let mut t = diagonals[k];
-    totals[k] = t;
-    let mut h = k;
-    while h > 0 {
-        if t <= columns[h] {
-            return false;
-        }
-        t = t - columns[h] + diagonals[h - 1];
-        h -= 1;
-        totals[h] = t;
-    }
-    true
 }
 
 // The share of a year: what its running share is above that of the year below.
@@ -147,28 +90,6 @@ fn refused(answer: u64, k: usize) -> Separation
 {
     let factors = no_factors(k);
     Separation { answer, factors }
-}
-
-// Questions 7 and 8 of the totals of a square of averages: where both say yes, the sizes of the totals are in v and d and the totals T in corners, for the walk.
-fn totals_answer(
-    columns: &[i64; 16],
-    diagonals: &[i64; 16],
-    k: usize,
-    v: &mut [u64; 16],
-    d: &mut [u64; 16],
-    corners: &mut [u64; 16],
-) -> u64
-    requires { ⌜ (k < 16) × (((s : List (List ℤ)) × Summed s k (now columns) (now diagonals))
-        × ((length (now v) ≡ 16) × ((length (now d) ≡ 16) × (length (now corners) ≡ 16)))) ⌝ }
-    ensures { λ r. ⌜ TotalsAnswered k (now (columns .entry)) (now (diagonals .entry)) (now (v .exit)) (now (d .exit)) (now (corners .exit)) r ⌝ }
-{
-    if !totals_pass(columns, diagonals, k + 1, v, d) {
-        return 7;
-    }
-    if !fill_corners(v, d, k, corners) {
-        return 8;
-    }
-    ACCEPTED
 }
 
 // The factors of a square of averages from its totals, where questions 7 and 8 say yes, before 9 and 10 are put to them; none where 7 or 8 says no.

@@ -1,1 +1,2 @@
 pub mod CellSizes
+pub mod Summed

@@ -1,4 +1,3 @@
-pub mod Added
 pub mod Cumulatives
 pub mod Square
 pub mod Passed

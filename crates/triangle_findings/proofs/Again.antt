@@ -10,7 +10,7 @@ use Rattle.rules.specs.Reading.{openingQuestions, fieldQuestions}
 use Rattle.rules.specs.Triangle.{cumulativesPass, TotalsIn}
 use Rattle.rules.specs.Results.{mostEntries, squareOf}
 use Rattle.rules.specs.Engine.{runAnswer}
-use Rattle.separation.specs.Walk.{Summed}
+use Rattle.totals.specs.Summed.{Summed}
 use Rattle.totals.proofs.Square.{zero-outside}
 use Rattle.triangle.proofs.Square.{cells-bounded}
 use Rattle.reading.specs.Reading.{Sound}

@@ -17,7 +17,7 @@ use Rattle.ladder.specs.Columns.{developedIn, baseIn, Ladderable}
 use Rattle.reasons.specs.Reasons.{firstRefused}
 use Rattle.reasons.proofs.Counted.{leading-same}
 use Rattle.reasons.proofs.Why.{refused-below}
-use Rattle.engine.proofs.Development.{developed-is, base-is, ladderable, thirteen-is}
+use Rattle.figures_run.proofs.Development.{developed-is, base-is, ladderable, thirteen-is}
 use Rattle.finding.specs.Places.{developmentYear, found}
 use Rattle.triangle_findings.specs.TriangleFindings.{developmentFound, developmentFinding}
 

@@ -21,7 +21,7 @@ use Rattle.laws.proofs.Sums.{sumTo-same}
 use Rattle.laws.proofs.Signed.{held, size-fits}
 use Rattle.totals.specs.CellSizes.{mostTotal, TotalsSmall}
 use Rattle.totals.proofs.Walk.{corner-sums}
-use Rattle.separation.specs.Walk.{Summed}
+use Rattle.totals.specs.Summed.{Summed}
 use Rattle.entries.proofs.Leading.{leading-stop}
 use Rattle.reasons.proofs.Counted.{leading-same, stops-below}
 use Rattle.finding.specs.Places.{developmentYear, found}

@@ -17,7 +17,7 @@ use Rattle.laws.proofs.Sums.{sumTo-same}
 use Rattle.totals.specs.CellSizes.{Cells, mostTotal, TotalsSmall}
 use Rattle.totals.proofs.Cells.{cells-size}
 use Rattle.totals.proofs.Walk.{all-columns-to}
-use Rattle.separation.specs.Walk.{Summed}
+use Rattle.totals.specs.Summed.{Summed}
 use Rattle.reasons.specs.Reasons.{firstBelow}
 use Rattle.reasons.proofs.Counted.{leading-same}
 use Rattle.finding.specs.Places.{nowhere, developmentYear, paymentYear, found}

@@ -29,7 +29,7 @@ ghost use Rattle.rules.specs.Results.{mostEntries, squareOf};
 ghost use Rattle.rules.specs.Engine.{runAnswer};
 ghost use Rattle.totals.specs.CellSizes.{TotalsSmall};
 ghost use Rattle.triangle.specs.Columns.{Increments};
-ghost use Rattle.separation.specs.Walk.{Summed};
+ghost use Rattle.totals.specs.Summed.{Summed};
 ghost use Rattle.ladder.specs.Columns.{developedIn, baseIn, Ladderable};
 ghost use Rattle.triangle_findings.specs.TriangleFindings.{refusedColumn, cumulativeFinding, developmentFound, developmentFinding, totalsFound, totalsFinding, restPassesOf, restFound, restFinding, cornerBy, mostCorner};
 

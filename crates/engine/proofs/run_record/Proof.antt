@@ -10,7 +10,7 @@ use Rattle.rules.specs.Reading.{fieldQuestions}
 use Rattle.opening.proofs.Opened.{years-known, opening-yes}
 use Rattle.reading.proofs.FiguresRead.{figures-filled, sound-figures}
 use Rattle.reserving.proofs.Answering.{first-refused, later}
-use Rattle.engine.proofs.Before.{figures-are}
+use Rattle.engine.proofs.Figures.{figures-are}
 use Rattle.engine.proofs.run_record.Statement.{statement}
 use Rattle.engine.proofs.run_record.Tie as tie
 

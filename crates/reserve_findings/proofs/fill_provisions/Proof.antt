@@ -6,7 +6,7 @@ use Rattle.rules.specs.Packing.{Fit}
 use Rattle.rules.specs.Record.{Figures, figuresOf}
 use Rattle.rules.specs.Results.{squareOf, factorsIn, levelsIn}
 use Rattle.rules.specs.declared.Factors.{Factors}
-use Rattle.separation.specs.Walk.{Summed}
+use Rattle.totals.specs.Summed.{Summed}
 use Rattle.reading.specs.Reading.{Sound}
 use Rattle.reading.proofs.FiguresRead.{sound-figures}
 use Rattle.opening.proofs.Opened.{years-known, opening-yes}

@@ -1,6 +1,6 @@
 -- The totals of the square are those that are separated. Assumes nothing.
 use borrow.Author.Needs.{needs}
-use Rattle.separation.specs.Walk.{Summed}
+use Rattle.totals.specs.Summed.{Summed}
 use Rattle.separation.proofs.separate.Statement.{statement}
 use Rattle.separation.proofs.separate.Tie as tie
 

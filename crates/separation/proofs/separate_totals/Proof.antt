@@ -6,7 +6,8 @@ use native.Mathlib.Omega.{arith}
 use borrow.Author.Needs.{needs}
 use lib.IntN.{ℤ}
 use Rattle.rules.specs.Separation.{separateAnswer, factorsOf}
-use Rattle.separation.specs.Walk.{Summed, factorsTo}
+use Rattle.totals.specs.Summed.{Summed}
+use Rattle.separation.specs.Walk.{factorsTo}
 use Rattle.separation.proofs.Steps.{latest-running}
 use Rattle.separation.proofs.FactorQuestions.{first-gives, factors-give, none-back, factors-back}
 use Rattle.separation.proofs.separate_totals.Statement.{statement}
