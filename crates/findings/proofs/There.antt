@@ -17,7 +17,11 @@ use Rattle.finding.specs.Places.{nowhere, developmentYear, paymentYear, field, 
 use Rattle.outcomes.proofs.Said as said
 use Rattle.field_findings.specs.Fields.{givenFinding, lengthFinding, sharesFinding, firstRow, firstField, spotOf, findingAt, fieldFinding}
 use Rattle.field_findings.proofs.Named.{FieldFound, field-no}
-use Rattle.triangle_findings.specs.TriangleFindings.{cumulativeFinding, developmentFound, developmentFinding, totalsFound, totalsFinding, restFound, restFinding}
+use Rattle.cumulative_findings.specs.CumulativeFindings.{cumulativeFinding}
+use Rattle.development_findings.specs.DevelopmentFindings.{developmentFound, developmentFinding}
+use Rattle.triangle_findings.specs.TriangleFindings.{totalsFound, totalsFinding, restFound, restFinding}
+use Rattle.cumulative_findings.proofs.Cumulatives as cumulative
+use Rattle.development_findings.proofs.Development as development
 use Rattle.triangle_findings.proofs.No as triangle
 use Rattle.factor_findings.specs.FactorFindings.{runningFinding, levelFound, levelFinding}
 use Rattle.factor_findings.proofs.Running as running
@@ -68,11 +72,11 @@ module _ (year : ℕ) (s : List ℕ) where
 
   asked-6 : Run year s 6 → PlaceAsked s 6 (findingOf s 6)
   unfolding PlaceAsked findingOf figuresOf cumulativeFinding
-  asked-6 run = (refl, triangle.cumulative-no (figuresOf s .k) (figuresOf s .increments) (said.cumulatives-no year s run) .1)
+  asked-6 run = (refl, cumulative.cumulative-no (figuresOf s .k) (figuresOf s .increments) (said.cumulatives-no year s run) .1)
 
   asked-13 : Run year s 13 → PlaceAsked s 13 (findingOf s 13)
   unfolding PlaceAsked findingOf figuresOf developmentFinding developmentFound
-  asked-13 run = (refl, triangle.development-no (figuresOf s .k) (figuresOf s .increments) (said.development-no year s run) .1)
+  asked-13 run = (refl, development.development-no (figuresOf s .k) (figuresOf s .increments) (said.development-no year s run) .1)
 
   asked-7 : Run year s 7 → PlaceAsked s 7 (findingOf s 7)
   unfolding PlaceAsked findingOf figuresOf

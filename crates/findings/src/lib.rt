@@ -1,4 +1,6 @@
 // Where the question that refuses a record says no, and the figures there.
+use cumulative_findings::cumulative_finding;
+use development_findings::development_finding;
 use factor_findings::level_finding;
 use factor_findings::running_finding;
 use field_findings::field_finding;
@@ -15,8 +17,6 @@ use reserve_findings::ratio_finding;
 use reserve_findings::ultimate_finding;
 use tail_findings::tail_average_finding;
 use tail_findings::tail_finding;
-use triangle_findings::cumulative_finding;
-use triangle_findings::development_finding;
 use triangle_findings::rest_finding;
 use triangle_findings::totals_finding;
 ghost use mathlib.Core.Path.{_≡_};
