@@ -23,7 +23,8 @@ use Rattle.reasons.specs.Reasons.{firstBelow, firstRefused}
 use Rattle.reasons.proofs.Counted.{counted, all-pass}
 use Rattle.finding.specs.declared.Finding.{Finding}
 use Rattle.finding.specs.Places.{nowhere, developmentYear, paymentYear, field, found}
-use Rattle.field_findings.specs.Fields.{firstRow, firstField, spotOf, findingAt, fieldFinding}
+use Rattle.field_spots.specs.Spots.{spotOf}
+use Rattle.field_findings.specs.Fields.{firstRow, firstField, findingAt, fieldFinding}
 use Rattle.field_findings.proofs.Named.{field-no}
 use Rattle.cumulative_findings.specs.CumulativeFindings.{cellPasses, refusedRow, refusedColumn, cumulativeFinding}
 use Rattle.development_findings.specs.DevelopmentFindings.{developmentFound, developmentFinding}

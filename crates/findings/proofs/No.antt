@@ -17,8 +17,9 @@ use Rattle.reasons.specs.Reasons.{firstBelow}
 use Rattle.finding.specs.declared.Finding.{Finding}
 use Rattle.finding.specs.Places.{nowhere, developmentYear, paymentYear, field, found}
 use Rattle.outcomes.proofs.Said as said
-use Rattle.field_findings.specs.Fields.{firstRow, firstField, cellRow, spotOf, findingAt, fieldFinding}
-use Rattle.field_findings.proofs.Cells.{CellAt}
+use Rattle.field_spots.specs.Spots.{cellRow, spotOf}
+use Rattle.field_findings.specs.Fields.{firstRow, firstField, findingAt, fieldFinding}
+use Rattle.field_spots.proofs.Cells.{CellAt}
 use Rattle.field_findings.proofs.Named.{FieldFound, field-no, cell-named}
 use Rattle.triangle_findings.specs.TriangleFindings.{totalPasses, totalsFound, totalsFinding}
 use Rattle.cumulative_findings.proofs.Cumulatives as cumulative

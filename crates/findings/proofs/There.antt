@@ -15,7 +15,9 @@ use Rattle.reasons.specs.Reasons.{firstBelow}
 use Rattle.finding.specs.declared.Finding.{Finding}
 use Rattle.finding.specs.Places.{nowhere, developmentYear, paymentYear, field, found}
 use Rattle.outcomes.proofs.Said as said
-use Rattle.field_findings.specs.Fields.{givenFinding, lengthFinding, sharesFinding, firstRow, firstField, spotOf, findingAt, fieldFinding}
+use Rattle.record_findings.specs.RecordFindings.{givenFinding, lengthFinding, sharesFinding}
+use Rattle.field_spots.specs.Spots.{spotOf}
+use Rattle.field_findings.specs.Fields.{firstRow, firstField, findingAt, fieldFinding}
 use Rattle.field_findings.proofs.Named.{FieldFound, field-no}
 use Rattle.cumulative_findings.specs.CumulativeFindings.{cumulativeFinding}
 use Rattle.development_findings.specs.DevelopmentFindings.{developmentFound, developmentFinding}

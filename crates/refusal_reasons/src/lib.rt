@@ -1,10 +1,10 @@
 // Why question 7 or 13 says no, in words in a lent buffer.
 use composing::put_bytes;
-use reasons::first_below;
-use reasons::first_refused;
 use reason_words::put_base_reason;
 use reason_words::put_factor_reason;
 use reason_words::put_year_reason;
+use reasons::first_below;
+use reasons::first_refused;
 ghost use mathlib.Core.Path.{_≡_};
 ghost use mathlib.Core.Bool.{false};
 ghost use Prim.Native.Nat.{_<_};
