@@ -14,7 +14,8 @@ use Rattle.development_findings.specs.DevelopmentFindings.{developmentFinding}
 use Rattle.triangle_findings.specs.TriangleFindings.{totalsFinding, restFinding}
 use Rattle.factor_findings.specs.FactorFindings.{runningFinding, levelFinding}
 use Rattle.tail_findings.specs.TailFindings.{tailFinding, tailAverageFinding}
-use Rattle.reserve_findings.specs.ReserveFindings.{ultimateFinding, ratioFinding, latestFinding, divisorFinding, correctedFinding}
+use Rattle.reserve_findings.specs.ReserveFindings.{ultimateFinding, ratioFinding, latestFinding}
+use Rattle.correction_findings.specs.CorrectionFindings.{divisorFinding, correctedFinding}
 use Rattle.ladder_findings.specs.LadderFindings.{completedFinding}
 use Rattle.findings.specs.Findings.{findingOf}
 

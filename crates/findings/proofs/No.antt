@@ -31,7 +31,7 @@ use Rattle.tail_findings.specs.TailFindings.{tailAverageFinding}
 use Rattle.tail_findings.proofs.Told as tail
 use Rattle.reserve_findings.specs.ReserveFindings.{ultimateFinding}
 use Rattle.reserve_findings.proofs.Over as over
-use Rattle.reserve_findings.proofs.Passing.{latest-refused, divisor-refused, corrected-refused}
+use Rattle.provisions_again.proofs.Passing.{latest-refused, divisor-refused, corrected-refused}
 use Rattle.ladder_findings.specs.LadderFindings.{firstRowOver, yearsWithin, cellFinding, completedFinding}
 use Rattle.ladder_findings.proofs.Within as ladder
 use Rattle.findings.specs.Findings.{findingOf}

@@ -30,7 +30,8 @@ use Rattle.factor_findings.proofs.Running as running
 use Rattle.factor_findings.proofs.Levels as level
 use Rattle.tail_findings.specs.TailFindings.{tailFinding, tailAverageFinding}
 use Rattle.tail_findings.proofs.Told as tail
-use Rattle.reserve_findings.specs.ReserveFindings.{ultimateFinding, ratioFinding, latestFinding, divisorFinding, correctedFinding}
+use Rattle.reserve_findings.specs.ReserveFindings.{ultimateFinding, ratioFinding, latestFinding}
+use Rattle.correction_findings.specs.CorrectionFindings.{divisorFinding, correctedFinding}
 use Rattle.reserve_findings.proofs.Over as over
 use Rattle.ladder_findings.specs.LadderFindings.{firstRowOver, yearsWithin, cellFinding, completedFinding}
 use Rattle.ladder_findings.proofs.Within as ladder

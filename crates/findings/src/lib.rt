@@ -1,4 +1,6 @@
 // Where the question that refuses a record says no, and the figures there.
+use correction_findings::corrected_finding;
+use correction_findings::divisor_finding;
 use cumulative_findings::cumulative_finding;
 use development_findings::development_finding;
 use factor_findings::level_finding;
@@ -10,8 +12,6 @@ use ladder_findings::completed_finding;
 use record_findings::given_finding;
 use record_findings::length_finding;
 use record_findings::shares_finding;
-use reserve_findings::corrected_finding;
-use reserve_findings::divisor_finding;
 use reserve_findings::latest_finding;
 use reserve_findings::ratio_finding;
 use reserve_findings::ultimate_finding;

@@ -10,9 +10,8 @@ use Rattle.rules.specs.Record.{Figures, million}
 use Rattle.rules.specs.Growth.{latestPaidPasses, correctedRatio}
 use Rattle.rules.specs.Results.{plainRatioIn, latestReportedIn, latestPaidIn, divisorIn}
 use Rattle.finding.specs.Places.{nowhere, found}
-use Rattle.reserve_findings.specs.declared.Parts.{Parts}
-use Rattle.reserve_findings.specs.ReserveFindings.{divisorFinding, correctedFinding}
-use Rattle.reserve_findings.specs.Provided.{partsIn, Small}
+use Rattle.correction_findings.specs.declared.Parts.{Parts}
+use Rattle.correction_findings.specs.CorrectionFindings.{divisorFinding, correctedFinding, partsIn, Small}
 
 pub parts-are : (f : Figures) (w p b y d : ℕ) → w ≡ f .weight → p ≡ plainRatioIn f → b ≡ latestReportedIn f → y ≡ natAbs (latestPaidIn f) → d ≡ divisorIn f
     → record { weight = w; plain = p; reported = b; paid = y; divisor = d } ≡ partsIn f

@@ -1,8 +1,8 @@
 -- What is read again are the figures' own arrays (read_again), from which the provisions are worked out. Assumes nothing.
 use borrow.Author.Needs.{needs}
 use mathlib.Core.Path.{refl}
-use Rattle.reserve_findings.proofs.read_provided.Statement.{statement}
-use Rattle.reserve_findings.proofs.read_provided.Tie as tie
+use Rattle.provisions_again.proofs.read_provided.Statement.{statement}
+use Rattle.provisions_again.proofs.read_provided.Tie as tie
 
 read-again-requires : tie.Need-read-again-requires
 read-again-requires c κs =

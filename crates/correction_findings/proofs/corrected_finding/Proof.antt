@@ -2,10 +2,10 @@
 use native.Mathlib.Omega.{arith}
 use mathlib.Core.Path.{refl, _∙_}
 use Rattle.rules.specs.Record.{figuresOf}
-use Rattle.reserve_findings.proofs.Passing.{correcting, after-17, corrected-refused, divisor-some}
-use Rattle.reserve_findings.proofs.Correcting.{corrected-found, corrected-fits, divisor-is}
-use Rattle.reserve_findings.proofs.corrected_finding.Statement.{statement}
-use Rattle.reserve_findings.proofs.corrected_finding.Tie as tie
+use Rattle.provisions_again.proofs.Passing.{correcting, after-17, corrected-refused, divisor-some}
+use Rattle.correction_findings.proofs.Correcting.{corrected-found, corrected-fits, divisor-is}
+use Rattle.correction_findings.proofs.corrected_finding.Statement.{statement}
+use Rattle.correction_findings.proofs.corrected_finding.Tie as tie
 
 parts-again-requires : tie.Need-parts-again-requires
 parts-again-requires c κs =

@@ -1,26 +1,23 @@
--- What is worked out again of a record s that is refused by a question from 11 on: what it has passed, its provisions, and what corrects its ratio. Assumes nothing.
-use Prim.Native.Nat.{ℕ, _*_, _≤_}
+-- What is worked out again of a record s that is refused by a question from 11 on: what it has passed, and its provisions. Assumes nothing.
+use Prim.Native.Nat.{ℕ}
 use mathlib.Core.Path.{_≡_}
 use mathlib.Core.Bool.{true}
 use mathlib.Core.List.{List}
-use lib.IntN.{natAbs}
 use lib.ListN.{replicate}
 use lib.Seq.{sets}
 use Rattle.rules.specs.Lists.{upTo}
 use Rattle.rules.specs.Questions.{firstNo}
-use Rattle.rules.specs.Record.{Figures, figuresOf, million, mostAmount}
+use Rattle.rules.specs.Record.{Figures, figuresOf}
 use Rattle.rules.specs.Reading.{openingQuestions, fieldQuestions}
 use Rattle.rules.specs.Triangle.{cumulativesPass}
 use Rattle.rules.specs.Separation.{separateAnswer}
 use Rattle.rules.specs.Tail.{tailQuestions}
-use Rattle.rules.specs.Completion.{mostUltimate, provision, ultimatesPass}
+use Rattle.rules.specs.Completion.{provision, ultimatesPass}
 use Rattle.rules.specs.Expense.{paidTotal, ulaeTotal, ratioPass}
 use Rattle.rules.specs.Growth.{latestPaidPasses}
-use Rattle.rules.specs.Results.{squareOf, factorsIn, firstTailAverageOf, paidIn, levelsIn, tailsIn, provisionsIn, plainRatioIn, latestReportedIn, latestPaidIn, divisorIn}
+use Rattle.rules.specs.Results.{squareOf, factorsIn, firstTailAverageOf, paidIn, levelsIn, tailsIn, provisionsIn, latestPaidIn}
 use Rattle.rules.specs.Engine.{developmentPasses}
 use Rattle.completion.specs.Asked.{rowsAsked}
-use Rattle.outcomes.specs.Outcome.{mostCorrection}
-use Rattle.reserve_findings.specs.declared.Parts.{Parts}
 
 -- a record that has passed the questions before 11
 pub record Carried (s : List ℕ) : Type 0 where
@@ -44,21 +41,3 @@ provisionsAsked f =
     let n = f .exposures in
     let r = factorsIn f .shares in
     sets (replicate 16 0) 0 (upTo (provision (f .k) n r (levelsIn f) (tailsIn f)) (rowsAsked (f .k) n r (levelsIn f) (tailsIn f) (paidIn f)))
-
--- the weight, the plain ratio, B, Y, which is at least 1, and the divisor
-unfoldable pub partsIn : Figures → Parts
-partsIn f = record {
-  weight = f .weight;
-  plain = plainRatioIn f;
-  reported = latestReportedIn f;
-  paid = natAbs (latestPaidIn f);
-  divisor = divisorIn f;
-}
-
--- each within its limit
-pub record Small (x : Parts) : Type 0 where
-  pub weight : x .weight ≤ million
-  pub plain : x .plain ≤ million
-  pub reported : x .reported ≤ mostUltimate
-  pub paid : x .paid ≤ 16 * mostAmount
-  pub divisor : x .divisor ≤ mostCorrection

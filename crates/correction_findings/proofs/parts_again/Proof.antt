@@ -15,11 +15,11 @@ use Rattle.reading.proofs.FiguresRead.{sound-figures}
 use Rattle.opening.proofs.Opened.{years-known, opening-yes}
 use Rattle.allowance.proofs.Rates.{ratio-most}
 use Rattle.outcomes.proofs.Corrected.{latest-least, divisor-most, ratio-ready, plain-is, ultimates-fit, shares-sum, reported-is, latest-is, divisor-is}
-use Rattle.reserve_findings.specs.Provided.{Corrects}
-use Rattle.reserve_findings.proofs.Provisions.{all-provisions}
-use Rattle.reserve_findings.proofs.Correcting.{parts-are}
-use Rattle.reserve_findings.proofs.parts_again.Statement.{statement}
-use Rattle.reserve_findings.proofs.parts_again.Tie as tie
+use Rattle.provisions_again.specs.Provided.{Corrects}
+use Rattle.provisions_again.proofs.Provisions.{all-provisions}
+use Rattle.correction_findings.proofs.Correcting.{parts-are}
+use Rattle.correction_findings.proofs.parts_again.Statement.{statement}
+use Rattle.correction_findings.proofs.parts_again.Tie as tie
 
 read-provided-requires : tie.Need-read-provided-requires
 read-provided-requires c κs = (c .before .before .before .before .before .before .pre .carried, (refl, (refl, (refl, (refl, refl)))))

@@ -17,7 +17,7 @@ use Rattle.laws.proofs.Questions.{precedes}
 use Rattle.outcomes.proofs.Passed.{Late, opening, fields, cumulatives}
 use Rattle.outcomes.proofs.Said.{order, development-yes, totals-yes, rests-yes, running-yes, levels-yes, tail-yes, tails-yes, ultimates-yes, ratio-yes, latest-no, latest-yes, divisor-no, divisor-yes, corrected-no}
 use Rattle.reasons.proofs.Counted.{no-both}
-use Rattle.reserve_findings.specs.Provided.{Carried, Corrects}
+use Rattle.provisions_again.specs.Provided.{Carried, Corrects}
 
 -- questions 7 to 10, and 18 and 19, where each says yes
 separation-yes : (s : List (List ℤ)) (k : ℕ) → totalsPass s k ≡ true → restsPass s k ≡ true → runningPass s k ≡ true → levelsPass s k ≡ true → separateAnswer s k ≡ 0

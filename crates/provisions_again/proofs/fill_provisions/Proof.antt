@@ -11,10 +11,10 @@ use Rattle.reading.specs.Reading.{Sound}
 use Rattle.reading.proofs.FiguresRead.{sound-figures}
 use Rattle.opening.proofs.Opened.{years-known, opening-yes}
 use Rattle.reserving.specs.Stages.{Tailed}
-use Rattle.reserve_findings.specs.Provided.{Carried}
-use Rattle.reserve_findings.proofs.Provisions.{summed, tail-ready, tails-found, factors-found, levels-ready, levels-found, provisions-ready, provisions-found}
-use Rattle.reserve_findings.proofs.fill_provisions.Statement.{statement}
-use Rattle.reserve_findings.proofs.fill_provisions.Tie as tie
+use Rattle.provisions_again.specs.Provided.{Carried}
+use Rattle.provisions_again.proofs.Provisions.{summed, tail-ready, tails-found, factors-found, levels-ready, levels-found, provisions-ready, provisions-found}
+use Rattle.provisions_again.proofs.fill_provisions.Statement.{statement}
+use Rattle.provisions_again.proofs.fill_provisions.Tie as tie
 
 abbrev start : tie.After-read-tail → tie.Start
 start c = c .before .before .before .before

@@ -26,7 +26,7 @@ use Rattle.completion.specs.Asked.{Completable, mostPayment, rowsAsked}
 use Rattle.reserving.specs.Stages.{Separated, Tailed}
 use Rattle.reserving.proofs.Later as stage
 use Rattle.engine.proofs.Before.{factors-are, tails-are}
-use Rattle.reserve_findings.specs.Provided.{provisionsAsked}
+use Rattle.provisions_again.specs.Provided.{provisionsAsked}
 
 -- the totals of the averages are those of a square within its limits
 pub summed : (f : Figures) → Sound f → (k : ℕ) (v d : List ℤ) → k ≡ f .k → TotalsIn (squareOf f) v d → Summed (squareOf f) k v d

@@ -2,11 +2,11 @@
 use native.Mathlib.Omega.{arith}
 use mathlib.Core.Path.{refl, _∙_}
 use Rattle.rules.specs.Record.{figuresOf}
-use Rattle.reserve_findings.specs.Provided.{Corrects}
-use Rattle.reserve_findings.proofs.Passing.{correcting, after-16, divisor-refused}
-use Rattle.reserve_findings.proofs.Correcting.{divisor-found}
-use Rattle.reserve_findings.proofs.divisor_finding.Statement.{statement}
-use Rattle.reserve_findings.proofs.divisor_finding.Tie as tie
+use Rattle.provisions_again.specs.Provided.{Corrects}
+use Rattle.provisions_again.proofs.Passing.{correcting, after-16, divisor-refused}
+use Rattle.correction_findings.proofs.Correcting.{divisor-found}
+use Rattle.correction_findings.proofs.divisor_finding.Statement.{statement}
+use Rattle.correction_findings.proofs.divisor_finding.Tie as tie
 
 passed : (s : tie.Start) → Corrects (s .args .packed .now)
 passed s =
