@@ -1,4 +1,4 @@
-// What stands in a plot, in a lent buffer.
+// What stands in a plot by its scale, in a lent buffer: ticks and bars.
 use axis::Scale;
 use axis::foot_line;
 use axis::height_of;
@@ -6,23 +6,17 @@ use axis::side_of;
 use axis::zero_line;
 use composing::put_byte;
 use composing::put_bytes;
-use composing::put_decimal;
 use entries::size_of;
 use numerals::put_spaced;
+use shapes::put_shape;
+use shapes::put_tick_line;
+use shapes::put_told;
 ghost use mathlib.Core.Bool.{false};
-ghost use Prim.Native.Nat.{_+_, _*_, _<_, _≤_};
+ghost use Prim.Native.Nat.{_+_, _*_, _≤_};
 ghost use lib.IntN.{natAbs};
 ghost use Rattle.composing.specs.Text.{Put};
 ghost use Rattle.axis.specs.Axis.{mostPlotted, sideOf, Sound};
-ghost use Rattle.drawing.specs.Drawing.{numbered, tickNumber, tickLine, tickAt, ticks, shape, told, bar, slotLabel};
-
-// Words and a number behind them.
-pub fn put_numbered(out: &mut [u8], at: usize, words: &[u8], n: u64) -> usize
-    ensures { λ r. ⌜ Put (now (out .entry)) (now (out .exit)) at r (numbered (now (words .entry)) n) ⌝ }
-{
-    let end = put_bytes(out, at, words);
-    put_decimal(out, end, n)
-}
+ghost use Rattle.drawing.specs.Drawing.{tickNumber, tickAt, ticks, bar};
 
 // The number at tick t from below.
 fn put_tick_number(out: &mut [u8], at: usize, down: u64, t: u64, q: u64) -> usize
@@ -35,16 +29,6 @@ fn put_tick_number(out: &mut [u8], at: usize, down: u64, t: u64, q: u64) -> usiz
     } else {
         put_spaced(out, at, 0, ((t - down) * q) as i64)
     }
-}
-
-// The line of a tick, and where its number stands.
-fn put_tick_line(out: &mut [u8], at: usize, wide: u64, y: u64) -> usize
-    requires { ⌜ y ≤ 204 ⌝ }
-    ensures { λ r. ⌜ Put (now (out .entry)) (now (out .exit)) at r (tickLine wide y) ⌝ }
-{
-    let a = put_numbered(out, at, b"<path d=\"M50 ", y);
-    let b = put_numbered(out, a, b"H", wide);
-    put_numbered(out, b, b"\"/><text x=\"46\" y=\"", y + 4)
 }
 
 // Tick t from below.
@@ -72,29 +56,6 @@ pub fn put_ticks(out: &mut [u8], at: usize, s: Scale, wide: u64, q: u64) -> usiz
     end
 }
 
-// A bar with its left upper corner at x and y.
-fn put_shape(out: &mut [u8], at: usize, mark: u8, x: u64, y: u64, w: u64, height: u64) -> usize
-    ensures { λ r. ⌜ Put (now (out .entry)) (now (out .exit)) at r (shape mark x y w height) ⌝ }
-{
-    let a = put_bytes(out, at, b"<rect class=\"");
-    let b = put_byte(out, a, mark);
-    let c = put_numbered(out, b, b"\" x=\"", x);
-    let d = put_numbered(out, c, b"\" y=\"", y);
-    let e = put_numbered(out, d, b"\" width=\"", w);
-    let f = put_numbered(out, e, b"\" height=\"", height);
-    put_bytes(out, f, b"\">")
-}
-
-// What a bar is of.
-fn put_told(out: &mut [u8], at: usize, label: u64, d: usize, z: i64) -> usize
-    ensures { λ r. ⌜ Put (now (out .entry)) (now (out .exit)) at r (told label d z) ⌝ }
-{
-    let a = put_numbered(out, at, b"<title>", label);
-    let b = put_bytes(out, a, b": ");
-    let c = put_spaced(out, b, d, z);
-    put_bytes(out, c, b"</title></rect>\n")
-}
-
 // The bar of a value.
 pub fn put_bar(
     out: &mut [u8],
@@ -114,14 +75,4 @@ pub fn put_bar(
     let height = height_of(s, size_of(z));
     let end = put_shape(out, at, mark, x, top, w, height);
     put_told(out, end, label, d, z)
-}
-
-// The label of a slot.
-pub fn put_slot_label(out: &mut [u8], at: usize, x: u64, y: u64, label: u64) -> usize
-    ensures { λ r. ⌜ Put (now (out .entry)) (now (out .exit)) at r (slotLabel x y label) ⌝ }
-{
-    let a = put_numbered(out, at, b"<text class=\"m\" x=\"", x);
-    let b = put_numbered(out, a, b"\" y=\"", y);
-    let c = put_numbered(out, b, b"\">", label);
-    put_bytes(out, c, b"</text>\n")
 }

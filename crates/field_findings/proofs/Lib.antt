@@ -1,4 +1,3 @@
 pub mod Placed
-pub mod Cells
 pub mod Named
 pub mod Limits

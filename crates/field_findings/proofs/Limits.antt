@@ -10,7 +10,8 @@ use lib.IntN.{ℤ, pos, negsuc, negℤ, natAbs}
 use lib.Signed.{leZ}
 use Rattle.rules.specs.Record.{Kind, layout, increment, mostAmount, valueOf, inRange, negativeZero, bitsInRange, lastYearOf}
 use Rattle.reasons.proofs.Counted.{no-both}
-use Rattle.field_findings.specs.Fields.{kindOf, codeAt, fieldPasses, firstRow, firstField, leastOf, findingAt, fieldFinding}
+use Rattle.field_rows.specs.Rows.{kindOf}
+use Rattle.field_findings.specs.Fields.{codeAt, fieldPasses, firstRow, firstField, leastOf, findingAt, fieldFinding}
 use Rattle.field_findings.proofs.Placed.{by-row}
 use Rattle.field_findings.proofs.Named.{FieldFound}
 

@@ -1,31 +1,28 @@
--- What the findings say is so: the field that is named is the first that is not in range, and its row and column are years of the record; the length, the first bits and the
--- sum of the reporting shares are those that the questions refuse. Assumes nothing.
+-- What the finding says is so: the field that is named is the first that is not in range, and its row and column are years of the record. Assumes nothing.
 use Prim.Native.Nat.{ℕ, _-_, _≤_, _<_}
 use native.Mathlib.Decide.{ℕ-discrete}
 use native.Mathlib.Omega.{arith}
-use borrow.Author.Tests.{le-leb, eq-eqb, leb-false, eqb-false}
 use mathlib.Core.Path.{_≡_, refl, sym, _∙_}
 use mathlib.Core.Bool.{Bool, true, false}
 use mathlib.Core.List.{List}
-use lib.ListN.{length}
-use Rattle.rules.specs.Lists.{below, every, total}
+use Rattle.rules.specs.Lists.{below, every}
 use Rattle.rules.specs.Packing.{Fit}
-use Rattle.rules.specs.Questions.{firstNo}
-use Rattle.rules.specs.Record.{million, layout, countOf, byteCount, lastYearOf, fillingOf, fieldsOf, reportingIn}
-use Rattle.rules.specs.Reading.{hasLastYear, hasLength, inRanges, sharesSum, openingQuestions}
+use Rattle.rules.specs.Record.{layout, countOf, lastYearOf}
+use Rattle.rules.specs.Reading.{inRanges}
 use Rattle.rules.specs.Triangle.{rowStart}
 use Rattle.rules.specs.Results.{mostEntries}
 use Rattle.rules.specs.Engine.{runAnswer}
 use Rattle.laws.proofs.Lists.{every-upTo}
-use Rattle.laws.proofs.Questions.{precedes}
 use Rattle.reasons.proofs.Counted.{no-both, counted, stops-below}
 use Rattle.layout.proofs.RecordSizes.{years-lt}
-use Rattle.opening.proofs.Opened.{WholeRecord, whole-record, years-known}
+use Rattle.opening.proofs.Opened.{WholeRecord, whole-record}
 use Rattle.reading.proofs.Ranges.{in-ranges, passed-first}
-use Rattle.outcomes.proofs.Said.{order, first-byte-no, first-byte-yes, length-no, length-yes, ranges-no, shares-no}
-use Rattle.field_findings.specs.Fields.{fieldPasses, rowInRange, firstRow, firstField, spotOf, findingAt, fieldFinding}
+use Rattle.outcomes.proofs.Said.{ranges-no}
+use Rattle.record_findings.proofs.Refused.{opened}
+use Rattle.field_spots.specs.Spots.{spotOf}
+use Rattle.field_spots.proofs.Cells.{CellAt, cell-at}
+use Rattle.field_findings.specs.Fields.{fieldPasses, rowInRange, firstRow, firstField, findingAt, fieldFinding}
 use Rattle.field_findings.proofs.Placed.{by-row, row-is}
-use Rattle.field_findings.proofs.Cells.{CellAt, cell-at}
 
 -- field m of row r is not in range, and every field before it is
 pub record FieldFound (s : List ℕ) (r m : ℕ) : Type 0 where
@@ -94,36 +91,7 @@ module _ (s : List ℕ) (f : FieldFound s (firstRow s) (firstField s (firstRow s
   unfolding fieldFinding findingAt spotOf layout
   cell-named e = let inside = rw e at (f .inside) in rw e (cell-at (lastYearOf s) (firstField s 2) inside, refl)
 
--- where questions 1 and 2 say yes
-both-yes : (s : List ℕ) → hasLastYear s ≡ true → hasLength s ≡ true → firstNo (openingQuestions s) ≡ 0
-unfolding firstNo openingQuestions
-both-yes s e f = rw (e, f)
-
 module _ (year : ℕ) (s : List ℕ) where
-  -- question 1: no byte, or k is 0
-  pub given-no : runAnswer year s mostEntries ≡ 1 → 1 ≤ length s → lastYearOf s ≡ 0
-  unfolding hasLastYear
-  given-no run l =
-      let no = leb-false 1 (lastYearOf s) (rw (le-leb 1 (length s) l) at (first-byte-no year s run)) in
-      omega arith
-
-  -- question 2: there is a first byte, and another length than k calls for or a filling bit that is not zero
-  pub some-bytes : runAnswer year s mostEntries ≡ 2 → 1 ≤ length s
-  some-bytes run = years-known s (first-byte-yes year s 2 refl run) .0
-
-  pub length-other : runAnswer year s mostEntries ≡ 2 → length s ≡ byteCount (lastYearOf s) → fillingOf s ≡ 0 → ⊥
-  unfolding hasLength
-  length-other run e f = no-both (hasLength s) (rw (eq-eqb (length s) (byteCount (lastYearOf s)) e, eq-eqb (fillingOf s) 0 f)) (length-no year s run)
-
-  -- question 5: the reporting shares do not add up to M
-  pub shares-other : runAnswer year s mostEntries ≡ 5 → total (reportingIn (lastYearOf s) (fieldsOf s)) ≡ million → ⊥
-  unfolding sharesSum
-  shares-other run = eqb-false (total (reportingIn (lastYearOf s) (fieldsOf s))) million (shares-no year s run)
-
-  -- questions 1 and 2 say yes where the answer is 4 or 5
-  pub opened : (n : ℕ) → precedes 1 n order ≡ true → precedes 2 n order ≡ true → runAnswer year s mostEntries ≡ n → firstNo (openingQuestions s) ≡ 0
-  opened n a b run = both-yes s (first-byte-yes year s n a run) (length-yes year s n b run)
-
   -- question 4: the field that is named is the first that is not in range
   pub field-no : Fit 8 s → runAnswer year s mostEntries ≡ 4 → FieldFound s (firstRow s) (firstField s (firstRow s))
-  field-no b run = field-found s (whole-record s b (opened 4 refl refl run)) (ranges-no year s run)
+  field-no b run = field-found s (whole-record s b (opened year s 4 refl refl run)) (ranges-no year s run)

@@ -18,9 +18,9 @@ use Rattle.reading.specs.Reading.{RowInside}
 use Rattle.reading.proofs.Reached.{rowFits}
 use Rattle.reading.proofs.ListsRead.{codes}
 use Rattle.reading.proofs.Ranges.{fits, within}
-use Rattle.field_findings.specs.declared.Row.{Row}
-use Rattle.field_findings.specs.Fields.{kindOf, codeAt, fieldPasses, rowInRange, leastOf}
-use Rattle.field_findings.specs.Rows.{rowOf, passesIn, valueIn, leastIn}
+use Rattle.field_rows.specs.declared.Row.{Row}
+use Rattle.field_rows.specs.Rows.{kindOf, rowOf, passesIn, valueIn, leastIn}
+use Rattle.field_findings.specs.Fields.{codeAt, fieldPasses, rowInRange, leastOf}
 
 -- what holds of each of the rows 0 to 7
 pub by-row : (P : ℕ → Type 0) → P 0 → P 1 → P 2 → P 3 → P 4 → P 5 → P 6 → P 7 → (r : ℕ) → r < 8 → P r

@@ -1,37 +1,13 @@
 -- A plot's figure around what stands in it. Its words are lines of one text: 0 the title, 1 the description, 2 a word for the axis or none, 3 and 4 the words
 -- of the dark and of the light bars in the legend, or none. Assumes nothing.
-use Prim.Native.Nat.{ℕ, _+_, _*_, _/_, max}
-use mathlib.Core.Bool.{cond}
-use mathlib.Core.List.{List, [], _∷_, _++_}
-use lib.Dec.{eqb}
+use Prim.Native.Nat.{ℕ, _+_}
+use mathlib.Core.List.{List, _++_}
 use lib.ListN.{length}
 use Rattle.composing.specs.Text.{ascii}
 use Rattle.lines.specs.Lines.{lineOf}
-use Rattle.drawing.specs.Drawing.{numbered}
-
--- how wide a plot of n slots is, and the least that it may be drawn at
-unfoldable pub wideOf : ℕ → ℕ
-wideOf n = max 300 (56 + 30 * n)
-
-unfoldable pub leastOf : ℕ → ℕ
-leastOf n = 2 * wideOf n / 3
-
--- the marks of dark and of light bars, a and b
-abbrev pub dark : ℕ
-dark = 97
-
-abbrev pub light : ℕ
-light = 98
-
--- a mark and its word in the legend, or nothing without a word
-unfoldable pub legend : ℕ → List ℕ → List ℕ
-legend mark word = cond (eqb (length word) 0) [] (ascii " <b class=\"" ++ ((mark ∷ []) ++ (ascii "\"></b> " ++ word)))
-
--- the title above the plot, with the legend
-unfoldable pub caption : List ℕ → ℕ → List ℕ
-caption words n =
-    numbered (ascii "<figure style=\"flex-basis:") (leastOf n)
-    ++ (ascii "px\"><figcaption>" ++ (lineOf 0 words ++ (legend dark (lineOf 3 words) ++ (legend light (lineOf 4 words) ++ ascii "</figcaption>\n"))))
+use Rattle.shapes.specs.Shapes.{numbered}
+use Rattle.figure_caption.specs.Caption.{wideOf, leastOf, caption}
+use Rattle.axis_words.specs.AxisWords.{unitWord, wordGap}
 
 -- the plot's sizes
 unfoldable pub canvas : ℕ → ℕ → List ℕ
@@ -44,14 +20,7 @@ canvas n foot =
 unfoldable pub description : List ℕ → List ℕ
 description words = ascii "<title>" ++ (lineOf 0 words ++ (ascii "</title>\n<desc>" ++ (lineOf 1 words ++ ascii "</desc>\n")))
 
--- what the axis is in: a unit above 1 in words, then the word for the axis, a space between
-unfoldable pub unitWord : ℕ → List ℕ
-unitWord unit =
-    cond (eqb unit 1) [] (cond (eqb unit 1000) (ascii "thousands") (cond (eqb unit 1000000) (ascii "millions") (ascii "thousand millions")))
-
-unfoldable pub wordGap : ℕ → ℕ → List ℕ
-wordGap unit size = cond (eqb unit 1) [] (cond (eqb size 0) [] (ascii " "))
-
+-- what the axis is in: the unit, then the word for the axis, a space between
 unfoldable pub axisText : ℕ → List ℕ → List ℕ
 axisText unit word = unitWord unit ++ (wordGap unit (length word) ++ word)
 

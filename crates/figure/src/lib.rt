@@ -1,63 +1,16 @@
 // A plot's figure around what stands in it, in a lent buffer.
-use composing::put_byte;
+use axis_words::put_unit_word;
+use axis_words::put_word_gap;
 use composing::put_bytes;
-use drawing::put_numbered;
+use figure_caption::least_of;
+use figure_caption::put_caption;
+use figure_caption::wide_of;
 use lines::line_length;
 use lines::put_line;
-ghost use mathlib.Core.Path.{_≡_};
+use shapes::put_numbered;
 ghost use Prim.Native.Nat.{_≤_};
 ghost use Rattle.composing.specs.Text.{Put};
-ghost use Rattle.lines.specs.Lines.{lineOf};
-ghost use Rattle.figure.specs.Figure.{wideOf, leastOf, legend, caption, canvas, description, unitWord, wordGap, axisLabel, figureStart, figureEnd};
-
-// The marks of dark and of light bars.
-pub const DARK: u8 = 97;
-
-pub const LIGHT: u8 = 98;
-
-// How wide a plot of n slots is.
-pub fn wide_of(n: u64) -> u64
-    requires { ⌜ n ≤ 32 ⌝ }
-    ensures { λ r. ⌜ r ≡ wideOf n ⌝ }
-{
-    let wide = 56 + 30 * n;
-    if wide < 300 { 300 } else { wide }
-}
-
-// The least that it may be drawn at.
-fn least_of(n: u64) -> u64
-    requires { ⌜ n ≤ 32 ⌝ }
-    ensures { λ r. ⌜ r ≡ leastOf n ⌝ }
-{
-    2 * wide_of(n) / 3
-}
-
-// A mark and its word in the legend, line `line` of the words.
-fn put_legend(out: &mut [u8], at: usize, mark: u8, words: &[u8], line: u64) -> usize
-    ensures { λ r. ⌜ Put (now (out .entry)) (now (out .exit)) at r (legend mark (lineOf line (now (words .entry)))) ⌝ }
-{
-    if line_length(words, line) == 0 {
-        at
-    } else {
-        let a = put_bytes(out, at, b" <b class=\"");
-        let b = put_byte(out, a, mark);
-        let c = put_bytes(out, b, b"\"></b> ");
-        put_line(out, c, words, line)
-    }
-}
-
-// The title above the plot, with the legend.
-fn put_caption(out: &mut [u8], at: usize, words: &[u8], n: u64) -> usize
-    requires { ⌜ n ≤ 32 ⌝ }
-    ensures { λ r. ⌜ Put (now (out .entry)) (now (out .exit)) at r (caption (now (words .entry)) n) ⌝ }
-{
-    let a = put_numbered(out, at, b"<figure style=\"flex-basis:", least_of(n));
-    let b = put_bytes(out, a, b"px\"><figcaption>");
-    let c = put_line(out, b, words, 0);
-    let d = put_legend(out, c, DARK, words, 3);
-    let e = put_legend(out, d, LIGHT, words, 4);
-    put_bytes(out, e, b"</figcaption>\n")
-}
+ghost use Rattle.figure.specs.Figure.{canvas, description, axisLabel, figureStart, figureEnd};
 
 // The plot's sizes.
 fn put_canvas(out: &mut [u8], at: usize, n: u64, foot: u64) -> usize
@@ -80,34 +33,6 @@ fn put_description(out: &mut [u8], at: usize, words: &[u8]) -> usize
     let c = put_bytes(out, b, b"</title>\n<desc>");
     let d = put_line(out, c, words, 1);
     put_bytes(out, d, b"</desc>\n")
-}
-
-// A unit above 1 in words.
-fn put_unit_word(out: &mut [u8], at: usize, unit: u64) -> usize
-    ensures { λ r. ⌜ Put (now (out .entry)) (now (out .exit)) at r (unitWord unit) ⌝ }
-{
-    if unit == 1 {
-        at
-    } else if unit == 1000 {
-        put_bytes(out, at, b"thousands")
-    } else if unit == 1_000_000 {
-        put_bytes(out, at, b"millions")
-    } else {
-        put_bytes(out, at, b"thousand millions")
-    }
-}
-
-// The space between it and a word for the axis.
-fn put_word_gap(out: &mut [u8], at: usize, unit: u64, size: usize) -> usize
-    ensures { λ r. ⌜ Put (now (out .entry)) (now (out .exit)) at r (wordGap unit size) ⌝ }
-{
-    if unit == 1 {
-        at
-    } else if size == 0 {
-        at
-    } else {
-        put_byte(out, at, 32)
-    }
 }
 
 // What the axis is in.

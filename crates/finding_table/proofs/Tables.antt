@@ -5,7 +5,8 @@ use mathlib.Core.Path.{_≡_}
 use mathlib.Core.Bool.{Bool}
 use mathlib.Core.List.{[]}
 use Rattle.finding.specs.declared.Finding.{Finding}
-use Rattle.finding_table.specs.FindingTable.{fieldTable, developmentTable, givenTable, lengthTable, sharesTable, cumulativeTable, totalsTable, restTable, runningTable, levelTable, tailTable, tailAverageTable, ultimateTable, totalTable, latestTable, divisorTable, correctedTable, completedTable, recordTable, triangleTable, reserveTable}
+use Rattle.question_figures.specs.QuestionFigures.{fieldTable, developmentTable}
+use Rattle.finding_table.specs.FindingTable.{givenTable, lengthTable, sharesTable, cumulativeTable, totalsTable, restTable, runningTable, levelTable, tailTable, tailAverageTable, ultimateTable, totalTable, latestTable, divisorTable, correctedTable, completedTable, recordTable, triangleTable, reserveTable}
 
 module _ (html : Bool) (n : ℕ) (f : Finding) where
   pub at-1 : n ≡ 1 → givenTable html f ≡ recordTable html n f

@@ -23,9 +23,12 @@ use Rattle.reasons.specs.Reasons.{firstBelow, firstRefused}
 use Rattle.reasons.proofs.Counted.{counted, all-pass}
 use Rattle.finding.specs.declared.Finding.{Finding}
 use Rattle.finding.specs.Places.{nowhere, developmentYear, paymentYear, field, found}
-use Rattle.field_findings.specs.Fields.{firstRow, firstField, spotOf, findingAt, fieldFinding}
+use Rattle.field_spots.specs.Spots.{spotOf}
+use Rattle.field_findings.specs.Fields.{firstRow, firstField, findingAt, fieldFinding}
 use Rattle.field_findings.proofs.Named.{field-no}
-use Rattle.triangle_findings.specs.TriangleFindings.{cellPasses, refusedRow, refusedColumn, cumulativeFinding, developmentFound, developmentFinding, totalsFound, totalsFinding, restPasses, refusedRest, restFound, restFinding}
+use Rattle.cumulative_findings.specs.CumulativeFindings.{cellPasses, refusedRow, refusedColumn, cumulativeFinding}
+use Rattle.development_findings.specs.DevelopmentFindings.{developmentFound, developmentFinding}
+use Rattle.triangle_findings.specs.TriangleFindings.{totalsFound, totalsFinding, restPasses, refusedRest, restFound, restFinding}
 use Rattle.factor_findings.specs.FactorFindings.{refusedRunning, runningFinding, refusedLevel, levelFound, levelFinding}
 use Rattle.tail_findings.specs.TailFindings.{firstAverageOver, tailAverageFinding}
 use Rattle.reserve_findings.specs.ReserveFindings.{firstUltimateOver, ultimateFinding}

@@ -17,10 +17,13 @@ use Rattle.reasons.specs.Reasons.{firstBelow}
 use Rattle.finding.specs.declared.Finding.{Finding}
 use Rattle.finding.specs.Places.{nowhere, developmentYear, paymentYear, field, found}
 use Rattle.outcomes.proofs.Said as said
-use Rattle.field_findings.specs.Fields.{firstRow, firstField, cellRow, spotOf, findingAt, fieldFinding}
-use Rattle.field_findings.proofs.Cells.{CellAt}
+use Rattle.field_spots.specs.Spots.{cellRow, spotOf}
+use Rattle.field_findings.specs.Fields.{firstRow, firstField, findingAt, fieldFinding}
+use Rattle.field_spots.proofs.Cells.{CellAt}
 use Rattle.field_findings.proofs.Named.{FieldFound, field-no, cell-named}
 use Rattle.triangle_findings.specs.TriangleFindings.{totalPasses, totalsFound, totalsFinding}
+use Rattle.cumulative_findings.proofs.Cumulatives as cumulative
+use Rattle.development_findings.proofs.Development as development
 use Rattle.triangle_findings.proofs.No as triangle
 use Rattle.factor_findings.proofs.Running as running
 use Rattle.factor_findings.proofs.Levels as level
@@ -28,7 +31,7 @@ use Rattle.tail_findings.specs.TailFindings.{tailAverageFinding}
 use Rattle.tail_findings.proofs.Told as tail
 use Rattle.reserve_findings.specs.ReserveFindings.{ultimateFinding}
 use Rattle.reserve_findings.proofs.Over as over
-use Rattle.reserve_findings.proofs.Passing.{latest-refused, divisor-refused, corrected-refused}
+use Rattle.provisions_again.proofs.Passing.{latest-refused, divisor-refused, corrected-refused}
 use Rattle.ladder_findings.specs.LadderFindings.{firstRowOver, yearsWithin, cellFinding, completedFinding}
 use Rattle.ladder_findings.proofs.Within as ladder
 use Rattle.findings.specs.Findings.{findingOf}
@@ -102,11 +105,11 @@ module _ (year : ℕ) (s : List ℕ) where
 
   no-6 : Run year s 6 → placePasses s 6 (findingOf s 6) ≡ false
   unfolding placePasses figurePasses findingOf
-  no-6 run = triangle.cumulative-no (figuresOf s .k) (figuresOf s .increments) (said.cumulatives-no year s run) .0
+  no-6 run = cumulative.cumulative-no (figuresOf s .k) (figuresOf s .increments) (said.cumulatives-no year s run) .0
 
   no-13 : Run year s 13 → placePasses s 13 (findingOf s 13) ≡ false
   unfolding placePasses figurePasses findingOf
-  no-13 run = triangle.development-no (figuresOf s .k) (figuresOf s .increments) (said.development-no year s run) .0
+  no-13 run = development.development-no (figuresOf s .k) (figuresOf s .increments) (said.development-no year s run) .0
 
   no-7 : Run year s 7 → placePasses s 7 (findingOf s 7) ≡ false
   unfolding placePasses figurePasses findingOf

@@ -15,16 +15,23 @@ use Rattle.reasons.specs.Reasons.{firstBelow}
 use Rattle.finding.specs.declared.Finding.{Finding}
 use Rattle.finding.specs.Places.{nowhere, developmentYear, paymentYear, field, found}
 use Rattle.outcomes.proofs.Said as said
-use Rattle.field_findings.specs.Fields.{givenFinding, lengthFinding, sharesFinding, firstRow, firstField, spotOf, findingAt, fieldFinding}
+use Rattle.record_findings.specs.RecordFindings.{givenFinding, lengthFinding, sharesFinding}
+use Rattle.field_spots.specs.Spots.{spotOf}
+use Rattle.field_findings.specs.Fields.{firstRow, firstField, findingAt, fieldFinding}
 use Rattle.field_findings.proofs.Named.{FieldFound, field-no}
-use Rattle.triangle_findings.specs.TriangleFindings.{cumulativeFinding, developmentFound, developmentFinding, totalsFound, totalsFinding, restFound, restFinding}
+use Rattle.cumulative_findings.specs.CumulativeFindings.{cumulativeFinding}
+use Rattle.development_findings.specs.DevelopmentFindings.{developmentFound, developmentFinding}
+use Rattle.triangle_findings.specs.TriangleFindings.{totalsFound, totalsFinding, restFound, restFinding}
+use Rattle.cumulative_findings.proofs.Cumulatives as cumulative
+use Rattle.development_findings.proofs.Development as development
 use Rattle.triangle_findings.proofs.No as triangle
 use Rattle.factor_findings.specs.FactorFindings.{runningFinding, levelFound, levelFinding}
 use Rattle.factor_findings.proofs.Running as running
 use Rattle.factor_findings.proofs.Levels as level
 use Rattle.tail_findings.specs.TailFindings.{tailFinding, tailAverageFinding}
 use Rattle.tail_findings.proofs.Told as tail
-use Rattle.reserve_findings.specs.ReserveFindings.{ultimateFinding, ratioFinding, latestFinding, divisorFinding, correctedFinding}
+use Rattle.reserve_findings.specs.ReserveFindings.{ultimateFinding, ratioFinding, latestFinding}
+use Rattle.correction_findings.specs.CorrectionFindings.{divisorFinding, correctedFinding}
 use Rattle.reserve_findings.proofs.Over as over
 use Rattle.ladder_findings.specs.LadderFindings.{firstRowOver, yearsWithin, cellFinding, completedFinding}
 use Rattle.ladder_findings.proofs.Within as ladder
@@ -68,11 +75,11 @@ module _ (year : ℕ) (s : List ℕ) where
 
   asked-6 : Run year s 6 → PlaceAsked s 6 (findingOf s 6)
   unfolding PlaceAsked findingOf figuresOf cumulativeFinding
-  asked-6 run = (refl, triangle.cumulative-no (figuresOf s .k) (figuresOf s .increments) (said.cumulatives-no year s run) .1)
+  asked-6 run = (refl, cumulative.cumulative-no (figuresOf s .k) (figuresOf s .increments) (said.cumulatives-no year s run) .1)
 
   asked-13 : Run year s 13 → PlaceAsked s 13 (findingOf s 13)
   unfolding PlaceAsked findingOf figuresOf developmentFinding developmentFound
-  asked-13 run = (refl, triangle.development-no (figuresOf s .k) (figuresOf s .increments) (said.development-no year s run) .1)
+  asked-13 run = (refl, development.development-no (figuresOf s .k) (figuresOf s .increments) (said.development-no year s run) .1)
 
   asked-7 : Run year s 7 → PlaceAsked s 7 (findingOf s 7)
   unfolding PlaceAsked findingOf figuresOf

@@ -20,7 +20,8 @@ use Rattle.rules.specs.Results.{squareOf, firstTailAverageOf, paidIn, provision
 use Rattle.finding.specs.declared.Finding.{Finding}
 use Rattle.finding.specs.Places.{nowhere, originYear, developmentYear, paymentYear, cell, field}
 use Rattle.field_findings.specs.Fields.{fieldPasses, rowInRange}
-use Rattle.triangle_findings.specs.TriangleFindings.{cellPasses, restPasses}
+use Rattle.cumulative_findings.specs.CumulativeFindings.{cellPasses}
+use Rattle.triangle_findings.specs.TriangleFindings.{restPasses}
 
 -- which field of row r of the layout stands at a row and a column: an increment by its cell, a reporting share by its development year
 unfoldable pub fieldIndex : ℕ → ℕ → ℕ → ℕ → ℕ

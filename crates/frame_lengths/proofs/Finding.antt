@@ -18,7 +18,8 @@ use Rattle.table_lengths.proofs.Tables.{table-most}
 use Rattle.finding.specs.declared.Finding.{Finding}
 use Rattle.finding.specs.Places.{originYear, developmentYear, paymentYear, cell, field}
 use Rattle.place_words.specs.PlaceWords.{originText, developmentText, paymentText, cellText, indexText, fieldTexts, fieldText, yearsText, placeText}
-use Rattle.finding_table.specs.FindingTable.{figureShape, figureTable, sumsTable, fieldTable, developmentTable, givenTable, lengthTable, sharesTable, cumulativeTable, totalsTable, restTable, runningTable, levelTable, tailTable, tailAverageTable, ultimateTable, totalTable, latestTable, divisorTable, correctedTable, completedTable, recordTable, triangleTable, reserveTable, findingTable}
+use Rattle.question_figures.specs.QuestionFigures.{figureShape, figureTable, sumsTable, fieldTable, developmentTable}
+use Rattle.finding_table.specs.FindingTable.{givenTable, lengthTable, sharesTable, cumulativeTable, totalsTable, restTable, runningTable, levelTable, tailTable, tailAverageTable, ultimateTable, totalTable, latestTable, divisorTable, correctedTable, completedTable, recordTable, triangleTable, reserveTable, findingTable}
 use Rattle.frame_lengths.proofs.Texts.{each-most}
 
 -- one of two texts

@@ -14,7 +14,7 @@ use Rattle.page_figures.specs.Given.{mostShown, Figured}
 use Rattle.page_figures.proofs.Numbers.{numbers}
 use Rattle.page_figures.proofs.Bases.{sized-part}
 use Rattle.column_table.proofs.Places.{standing}
-use Rattle.level_tables.specs.Levels.{placedColumn, placedFuture}
+use Rattle.level_columns.specs.LevelColumns.{placedColumn, placedFuture}
 
 -- one column more
 column-small : (k d first c start n : ℕ) (xs : List ℤ) (g : Grid) → Figured k xs → start + n ≤ addedAt k .sums + (k + 1) → Totalling g → Totalling (placedColumn d first c start n xs g)

@@ -10,8 +10,10 @@ use lib.ListN.{length, getD}
 use Rattle.rules.specs.Lists.{upTo, joined}
 use Rattle.axis.specs.declared.Scale.{Scale}
 use Rattle.axis.specs.Axis.{mostPlotted, sideOf, scaleOf, zeroLine, footLine, unitOf, shownStep}
-use Rattle.drawing.specs.Drawing.{ticks, bar, slotLabel}
-use Rattle.figure.specs.Figure.{wideOf, dark, light, figureStart, figureEnd}
+use Rattle.drawing.specs.Drawing.{ticks, bar}
+use Rattle.shapes.specs.Shapes.{slotLabel}
+use Rattle.figure_caption.specs.Caption.{wideOf, dark, light}
+use Rattle.figure.specs.Figure.{figureStart, figureEnd}
 use Rattle.plot.specs.declared.Series.{Series}
 
 -- the values of slot c

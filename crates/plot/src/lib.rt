@@ -8,13 +8,13 @@ use axis::side_of;
 use axis::unit_of;
 use axis::zero_line;
 use drawing::put_bar;
-use drawing::put_slot_label;
 use drawing::put_ticks;
-use figure::DARK;
-use figure::LIGHT;
 use figure::put_figure_end;
 use figure::put_figure_start;
-use figure::wide_of;
+use figure_caption::DARK;
+use figure_caption::LIGHT;
+use figure_caption::wide_of;
+use shapes::put_slot_label;
 ghost use mathlib.Core.Path.{_≡_};
 ghost use mathlib.Core.Bool.{cond};
 ghost use Prim.Native.Nat.{_<_, _≤_};
@@ -22,7 +22,7 @@ ghost use lib.Dec.{ltb};
 ghost use Rattle.rules.specs.Lists.{upTo, joined};
 ghost use Rattle.composing.specs.Text.{Put};
 ghost use Rattle.axis.specs.Axis.{mostOne, Sound};
-ghost use Rattle.figure.specs.Figure.{dark, light};
+ghost use Rattle.figure_caption.specs.Caption.{dark, light};
 ghost use Rattle.plot.specs.Plot.{slotLargest, largestIn, scaleFor, slotBars, slot, plotBy, plot, Plotted, Reached, AllPlotted, AllReached};
 
 // Where the values of the first slot stand, how far those of the next are from them, the bars of a slot, how many slots of one bar are dark, and the slots.

@@ -17,7 +17,8 @@ use Rattle.numerals.proofs.Lengths.{spaced-most}
 use Rattle.axis.specs.declared.Scale.{Scale}
 use Rattle.axis.specs.Axis.{sideOf, zeroLine, footLine, heightOf, Sound}
 use Rattle.axis.proofs.Axis.{foot-most}
-use Rattle.drawing.specs.Drawing.{numbered, tickNumber, tickLine, tickAt, ticks, shape, told, bar, slotLabel}
+use Rattle.shapes.specs.Shapes.{numbered, tickLine, shape, told, slotLabel}
+use Rattle.drawing.specs.Drawing.{tickNumber, tickAt, ticks, bar}
 
 -- texts, each at most so long, one after another
 pub joined-most : (f : ℕ → List ℕ) (b n : ℕ) → ((i : ℕ) → i < n → length (f i) ≤ b) → length (joined (upTo f n)) ≤ b * n

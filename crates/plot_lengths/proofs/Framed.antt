@@ -8,9 +8,11 @@ use lib.ListN.{length, length-append}
 use Rattle.entries.specs.Leading.{passing}
 use Rattle.composing.specs.Text.{ascii}
 use Rattle.lines.specs.Lines.{inLine, firstLine, fromLine, lineOf}
-use Rattle.drawing.specs.Drawing.{numbered}
+use Rattle.shapes.specs.Shapes.{numbered}
 use Rattle.plot_lengths.proofs.Drawn.{numbered-most, three, four}
-use Rattle.figure.specs.Figure.{wideOf, leastOf, dark, light, legend, caption, canvas, description, unitWord, wordGap, axisText, axisLabel, figureStart, figureEnd}
+use Rattle.figure_caption.specs.Caption.{wideOf, leastOf, dark, light, legend, caption}
+use Rattle.figure.specs.Figure.{canvas, description, axisText, axisLabel, figureStart, figureEnd}
+use Rattle.axis_words.specs.AxisWords.{unitWord, wordGap}
 
 -- a line is no longer than the text
 passing-most : (p : ℕ → Bool) (xs : List ℕ) → length (passing p xs) ≤ length xs

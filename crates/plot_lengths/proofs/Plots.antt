@@ -13,9 +13,11 @@ use Rattle.rules.specs.Lists.{upTo, joined}
 use Rattle.axis.specs.declared.Scale.{Scale}
 use Rattle.axis.specs.Axis.{mostOne, zeroLine, footLine, unitOf, shownStep, Sound}
 use Rattle.axis.proofs.Axis.{sides, scale-reaches, foot-most}
-use Rattle.drawing.specs.Drawing.{ticks, bar, slotLabel}
+use Rattle.drawing.specs.Drawing.{ticks, bar}
+use Rattle.shapes.specs.Shapes.{slotLabel}
 use Rattle.plot_lengths.proofs.Drawn.{joined-most, three, four, top-most, bar-most, label-most, ticks-most}
-use Rattle.figure.specs.Figure.{wideOf, dark, light, figureStart, figureEnd}
+use Rattle.figure_caption.specs.Caption.{wideOf, dark, light}
+use Rattle.figure.specs.Figure.{figureStart, figureEnd}
 use Rattle.plot_lengths.proofs.Framed.{wide-most, start-most, end-most}
 use Rattle.plot.specs.declared.Series.{Series}
 use Rattle.plot.specs.Plot.{firstBar, secondBar, largestIn, scaleFor, left, slotBars, slot, plotBy, plot, AllPlotted}

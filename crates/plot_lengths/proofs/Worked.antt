@@ -8,8 +8,11 @@ use Rattle.composing.specs.Text.{ascii, lastDigits, decimalIn, decimal, sign, w
 use Rattle.numerals.specs.Numerals.{groupedIn, grouped, numeral, spaced}
 use Rattle.lines.specs.Lines.{firstLine, fromLine, lineOf}
 use Rattle.axis.specs.Axis.{sideOf, inDecade, stepIn, stepFor, scaleWith, scaleOf, zeroLine, footLine, heightOf, unitOf, shownStep}
-use Rattle.drawing.specs.Drawing.{numbered, tickNumber, tickLine, tickAt, ticks, shape, told, bar, slotLabel}
-use Rattle.figure.specs.Figure.{wideOf, leastOf, legend, caption, canvas, description, unitWord, wordGap, axisText, axisLabel, figureStart, figureEnd}
+use Rattle.shapes.specs.Shapes.{numbered, tickLine, shape, told, slotLabel}
+use Rattle.drawing.specs.Drawing.{tickNumber, tickAt, ticks, bar}
+use Rattle.figure_caption.specs.Caption.{wideOf, leastOf, legend, caption}
+use Rattle.figure.specs.Figure.{canvas, description, axisText, axisLabel, figureStart, figureEnd}
+use Rattle.axis_words.specs.AxisWords.{unitWord, wordGap}
 use Rattle.plot.specs.Plot.{slotLargest, largestIn, scaleFor, slotBars, slot, plotBy, plot}
 
 pub worked-two : plot (ascii "Provision by origin year\nBars.\n\nseparation\nchain ladder\n") 1 0 2012 (pos 0 ∷ pos 0 ∷ pos 52 ∷ negsuc 52 ∷ pos 166 ∷ pos 160 ∷ []) (record { start = 0; stride = 2; bars = 2; split = 0; slots = 3 })

@@ -1,4 +1,3 @@
-pub mod Below
 pub mod Counted
 pub mod Why
 pub mod Stored

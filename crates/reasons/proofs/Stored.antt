@@ -1,11 +1,11 @@
--- The first development year of which question 13 says no, by the factors that the ladder stores before it in an array of factors above the most; and its reason.
+-- The first development year of which question 13 says no, by the factors that the ladder stores before it in an array of factors above the most.
 -- Assumes nothing.
-use mathlib.Core.Path.{_≡_, sym, ap₂, _∙_}
+use mathlib.Core.Path.{_≡_, _∙_}
 use mathlib.Core.Bool.{true, false}
 use mathlib.Core.List.{List}
 use Prim.Native.Nat.{ℕ, _+_, _≤_, _<_}
 use native.Mathlib.Omega.{arith}
-use borrow.Author.Tests.{lt-leb, lt-ltb, le-ltb}
+use borrow.Author.Tests.{lt-leb}
 use lib.Dec.{leb}
 use lib.ListN.{getD, replicate}
 use lib.Seq.{sets}
@@ -16,8 +16,8 @@ use Rattle.laws.proofs.Padded.{filled-at, rest-at}
 use Rattle.laws.proofs.Joined.{sets-filled}
 use Rattle.entries.specs.Leading.{leading}
 use Rattle.entries.proofs.Leading.{leading-stop}
-use Rattle.reasons.specs.Reasons.{firstRefused, baseReason, factorReason, developmentReason}
-use Rattle.reasons.proofs.Counted.{leading-same, counted}
+use Rattle.reasons.specs.Reasons.{firstRefused}
+use Rattle.reasons.proofs.Counted.{counted}
 use Rattle.reasons.proofs.Why.{refused-below}
 
 module _ (a b : ℕ → ℕ) (k : ℕ) where
@@ -42,19 +42,3 @@ module _ (a b : ℕ → ℕ) (k : ℕ) where
       (leading-stop _ k n less
       (every-yes _ (λ h. h) n (λ h l. rw (filled-at 16 (mostFactor + 1) factor n h 0 l) (fits h (every-upTo (λ h. factorPasses (a h) (b h)) (λ h. h) n h passed l))))
       (rw (rest-at 16 (mostFactor + 1) factor n n 0 (omega arith) (omega arith)) (lt-leb (mostFactor + 1) mostFactor (omega arith))))
-
-  -- the reason where its B is below 1, and where it is not
-  pub base-reason : (h : ℕ) → h ≡ firstRefused a b k → b h < 1 → baseReason h ≡ developmentReason a b k
-  unfolding developmentReason
-  base-reason h e l = rw (sym e, lt-ltb (b h) 1 l)
-
-  pub factor-reason : (h : ℕ) → h ≡ firstRefused a b k → 1 ≤ b h → factorReason h ≡ developmentReason a b k
-  unfolding developmentReason
-  factor-reason h e l = rw (sym e, le-ltb (b h) 1 l)
-
--- of the same sums the same reason
-pub development-same : (a c b d : ℕ → ℕ) (k : ℕ) → ((h : ℕ) → h < k → a h ≡ c h) → ((h : ℕ) → h < k → b h ≡ d h) → factorsPass k c d ≡ false
-    → developmentReason a b k ≡ developmentReason c d k
-unfolding developmentReason firstRefused
-development-same a c b d k e g f =
-    rw (leading-same (λ h. factorPasses (a h) (b h)) (λ h. factorPasses (c h) (d h)) k (λ h l. ap₂ factorPasses (e h l) (g h l)), g (firstRefused c d k) (refused-below c d k f))

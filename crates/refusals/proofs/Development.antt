@@ -10,8 +10,8 @@ use Rattle.rules.specs.Ladder.{developed, base, factorsPass}
 use Rattle.rules.specs.Results.{paidIn}
 use Rattle.triangle.specs.Columns.{columnSum}
 use Rattle.ladder.specs.Columns.{developedIn, baseIn, Ladderable}
-use Rattle.reasons.specs.Reasons.{developmentReason}
-use Rattle.reasons.proofs.Stored.{development-same}
+use Rattle.refusal_reasons.specs.RefusalReasons.{developmentReason}
+use Rattle.refusal_reasons.proofs.Development.{development-same}
 use Rattle.figures_run.proofs.Development.{developed-is, base-is, ladderable, thirteen-is}
 
 module _ (f : Figures) (no13 : factorsPass (f .k) (developed (f .k) (f .increments)) (base (f .k) (f .increments)) ≡ false) (k : ℕ) (v c : List ℕ) (ek : k ≡ f .k) (few : k < 16)

@@ -8,8 +8,8 @@ use lib.ListN.{getD}
 use Rattle.rules.specs.Lists.{upTo}
 use Rattle.rules.specs.Triangle.{columnTotal, diagonalTotal}
 use Rattle.laws.proofs.Lists.{getD-upTo}
-use Rattle.reasons.specs.Reasons.{totalsReason}
-use Rattle.reasons.proofs.Below.{reason-same}
+use Rattle.refusal_reasons.specs.RefusalReasons.{totalsReason}
+use Rattle.refusal_reasons.proofs.Below.{reason-same}
 
 -- the reason by the totals in the arrays is that by the totals of the square
 pub reason-is : (q : List (List ℤ)) (k m : ℕ) (c d : List ℤ) → k ≡ m → k < 16

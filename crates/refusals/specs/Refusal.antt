@@ -13,7 +13,7 @@ use Rattle.rules.specs.Results.{squareOf}
 use Rattle.rules.specs.Engine.{developmentPasses}
 use Rattle.composing.specs.Text.{ascii, decimal}
 use Rattle.wording.specs.Wording.{questionText}
-use Rattle.reasons.specs.Reasons.{totalsReason, developmentReason}
+use Rattle.refusal_reasons.specs.RefusalReasons.{totalsReason, developmentReason}
 
 -- that the record has passed questions 1, 2, 4, 5 and 6, as any has that question 7 or 13 refuses
 abbrev pub PassedToSix : List ℕ → Type 0

@@ -30,8 +30,8 @@ use Rattle.entries.proofs.Leading.{leading-stop}
 use Rattle.reasons.proofs.Counted.{counted, stops-below}
 use Rattle.finding.specs.Places.{originYear, found}
 use Rattle.reserve_findings.specs.ReserveFindings.{firstUltimateOver, ultimateFinding}
-use Rattle.reserve_findings.specs.Provided.{provisionsAsked}
-use Rattle.reserve_findings.proofs.Provisions.{provisions-ready}
+use Rattle.provisions_again.specs.Provided.{provisionsAsked}
+use Rattle.provisions_again.proofs.Provisions.{provisions-ready}
 
 module _ (f : Figures) where
   -- the ultimate of year i is not above the most

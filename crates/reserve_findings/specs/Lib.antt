@@ -1,2 +1,1 @@
 pub mod ReserveFindings
-pub mod Provided

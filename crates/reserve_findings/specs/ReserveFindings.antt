@@ -1,4 +1,4 @@
--- Where questions 11, 12, 15, 16 and 17 say no of the figures f, and the figures there. Assumes nothing.
+-- Where questions 11, 12 and 15 say no of the figures f, and the figures there. Assumes nothing.
 use Prim.Native.Nat.{ℕ, _+_}
 use lib.Dec.{leb}
 use lib.IntN.{pos}
@@ -6,8 +6,7 @@ use lib.ListN.{getD}
 use Rattle.rules.specs.Record.{Figures}
 use Rattle.rules.specs.Completion.{ultimate, mostUltimate}
 use Rattle.rules.specs.Expense.{paidTotal, ulaeTotal}
-use Rattle.rules.specs.Growth.{correctedRatio}
-use Rattle.rules.specs.Results.{paidIn, provisionsIn, plainRatioIn, latestReportedIn, latestPaidIn, divisorIn}
+use Rattle.rules.specs.Results.{paidIn, provisionsIn, latestPaidIn}
 use Rattle.entries.specs.Leading.{leading}
 use Rattle.finding.specs.Places.{nowhere, originYear, paymentYear, found}
 use Rattle.finding.specs.declared.Finding.{Finding}
@@ -29,11 +28,3 @@ ratioFinding f = found nowhere 0 0 (paidTotal (f .k) (f .increments)) (pos (ulae
 -- 15, of the latest payment year: Y
 unfoldable pub latestFinding : Figures → Finding
 latestFinding f = found paymentYear (f .k) 0 (latestPaidIn f) (pos 0) (pos 0)
-
--- 16: the weight, B and Y
-unfoldable pub divisorFinding : Figures → Finding
-divisorFinding f = found nowhere 0 0 (pos (f .weight)) (pos (latestReportedIn f)) (latestPaidIn f)
-
--- 17: the plain ratio, the divisor and the corrected ratio
-unfoldable pub correctedFinding : Figures → Finding
-correctedFinding f = found nowhere 0 0 (pos (plainRatioIn f)) (pos (divisorIn f)) (pos (correctedRatio (plainRatioIn f) (divisorIn f)))

@@ -15,7 +15,9 @@ use Rattle.parts.specs.Parts.{either}
 use Rattle.parts.proofs.Lengths.{either-most, section-end-most}
 use Rattle.table_lengths.proofs.Most.{tableMost}
 use Rattle.fit_tables.specs.Fit.{averageTable, gapTable}
-use Rattle.fit_section.specs.FitSection.{hundredths, fitSums, lostPayments, fitWords, fitSection}
+use Rattle.fit_sums.specs.FitSums.{hundredths, fitSums}
+use Rattle.fit_words.specs.FitWords.{lostPayments, fitWords}
+use Rattle.fit_section.specs.FitSection.{fitSection}
 use Rattle.section_lengths.proofs.Tables.{summed-most}
 use Rattle.section_lengths.proofs.Opened.{opened-most}
 

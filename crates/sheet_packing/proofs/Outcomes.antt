@@ -17,8 +17,8 @@ use Rattle.wording.specs.Wording.{refusalText}
 use Rattle.sheet.specs.declared.Found.{Found}
 use Rattle.sheet.specs.Table.{dueAt}
 use Rattle.sheet.specs.Sheet.{Typed, lastYearIn, readSheet, packAnswer, packInto}
-use Rattle.sheet_reading.specs.Reads.{Reads}
-use Rattle.sheet_reading.proofs.Known.{sheet-known}
+use Rattle.line_reading.specs.Reads.{Reads}
+use Rattle.line_reading.proofs.Known.{sheet-known}
 use Rattle.sheet_fields.proofs.FieldSections.{given-front}
 use Rattle.sheet_wording.specs.Problem.{problemLine, problemText}
 use Rattle.sheet_packing.specs.Said.{refusedFront, saidOf, sizeOf}

@@ -1,12 +1,12 @@
 // Figures typed as text, packed into a record, or in words what is wrong with them.
 use composing::put_bytes;
 use layout::bytes_of;
+use line_reading::last_year;
 use rules::MOST_BYTES;
 use rules::MOST_FIELDS;
 use sheet::Found;
 use sheet::due_at;
 use sheet_fields::write_fields;
-use sheet_reading::last_year;
 use sheet_reading::read_sheet;
 use sheet_wording::put_problem;
 use wording::put_refusal;

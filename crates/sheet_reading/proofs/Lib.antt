@@ -1,3 +1,1 @@
-pub mod LinesRead
-pub mod Known
 pub mod Turns

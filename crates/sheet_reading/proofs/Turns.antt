@@ -2,23 +2,24 @@
 use mathlib.Core.Path.{_≡_, refl, sym, ap, _∙_}
 use mathlib.Core.Bool.{Bool, true, false, cond}
 use mathlib.Core.List.{List, [], _∷_}
-use Prim.Native.Nat.{ℕ, _+_}
+use Prim.Native.Nat.{ℕ, _+_, _≤_}
 use native.Mathlib.Numerals.{add-one}
 use native.Mathlib.Omega.{arith}
 use borrow.Author.Tests.{eq-eqb, ne-eqb}
 use lib.Dec.{eqb}
 use lib.IntN.{ℤ}
-use lib.ListN.{length, take}
+use lib.ListN.{length, take, drop, length-drop}
 use lib.Seq.{sets}
 use Rattle.rules.specs.Record.{mostFields}
 use Rattle.laws.proofs.Joined.{sets-append, take-sets}
 use Rattle.cells.specs.Cells.{contentOf}
+use Rattle.kinds.specs.Kinds.{marked}
 use Rattle.sheet.specs.declared.Found.{Found}
 use Rattle.sheet.specs.Table.{lineCount}
 use Rattle.sheet.specs.Sheet.{Typed, typed, fine, lastYearIn, unmarked, lines, readLine, readLines, readSheet}
-use Rattle.sheet_reading.specs.Reads.{found, Reads, Good}
-use Rattle.sheet_reading.proofs.LinesRead.{sets-same}
-use Rattle.sheet_reading.proofs.Known.{Step, line-step, good-none, good-most}
+use Rattle.line_reading.specs.Reads.{found, Reads, Good}
+use Rattle.line_reading.proofs.LinesRead.{sets-same}
+use Rattle.line_reading.proofs.Known.{Step, line-step, good-none, good-most}
 
 -- before the lines ls, nothing wrong so far
 pub record State (text : List ℕ) (list₀ : List ℤ) (word₀ : List ℕ) (ls : List (List ℕ)) (list : List ℤ) (word : List ℕ) (f : Found) : Type 0 where
@@ -118,3 +119,12 @@ state-end text list₀ word₀ list word f r s h =
       stored = s .stored ∙ ap (sets list₀ 0) (sym (end-numbers (fine (f .line) (f .place) (take (f .count) list))));
       put = rw (s .kept) (h .put);
     })
+
+-- the mark counts for its own length only
+pub unmarked-most : (xs : List ℕ) → length (unmarked xs) ≤ length xs
+unfolding unmarked
+unmarked-most xs = go (marked xs)
+  where
+    go : (b : Bool) → length (cond b (drop 3 xs) xs) ≤ length xs
+    go true = omega (arith, length-drop 3 xs)
+    go false = omega arith

@@ -21,7 +21,7 @@ use Rattle.sheet.specs.declared.Due.{Due}
 use Rattle.sheet.specs.Table.{labels, labelDue, lineCount, dueAt, dueLines}
 use Rattle.sheet.specs.Sheet.{spaced, lineOf, linesOf, lastYearIn, sameText, wrong, wrongIn, lines, fine, readLine, readLines}
 use Rattle.sheet_writing.proofs.LinesPut.{countsOf}
-use Rattle.sheet_reading.proofs.LinesRead.{line-fine}
+use Rattle.line_reading.proofs.LinesRead.{line-fine}
 use Rattle.sheet_record.proofs.NumbersBack.{integer-number, integer-value}
 use Rattle.sheet_record.proofs.Words.{Word, line-ends, line-content, line-filled, line-label, line-cells}
 

@@ -1,4 +1,1 @@
 pub mod Sections
-pub mod Segments
-pub mod Most
-pub mod Standing

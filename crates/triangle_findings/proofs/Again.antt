@@ -1,6 +1,6 @@
--- What a record has passed whose run answers 6, 13, 7 or 8, and the totals of the square of its averages. Assumes nothing.
+-- What a record has passed whose run answers 7 or a question after it, and the totals of the square of its averages. Assumes nothing.
 use Prim.Native.Nat.{ℕ, _≤_}
-use mathlib.Core.Path.{_≡_, refl}
+use mathlib.Core.Path.{_≡_}
 use mathlib.Core.List.{List}
 use mathlib.Core.Bool.{true}
 use lib.IntN.{ℤ}
@@ -15,7 +15,6 @@ use Rattle.totals.proofs.Square.{zero-outside}
 use Rattle.triangle.proofs.Square.{cells-bounded}
 use Rattle.reading.specs.Reading.{Sound}
 use Rattle.outcomes.proofs.Passed.{answered, opening, fields, cumulatives}
-use Rattle.outcomes.proofs.Said.{first-byte-yes, length-yes, ranges-yes, shares-yes}
 
 -- questions 1, 2, 4, 5 and 6
 pub late : (year : ℕ) (s : List ℕ) (n : ℕ) → 7 ≤ n → runAnswer year s mostEntries ≡ n
@@ -23,12 +22,6 @@ pub late : (year : ℕ) (s : List ℕ) (n : ℕ) → 7 ≤ n → runAnswer year 
 late year s n l h =
     let run = answered year s n l h in
     (opening year s run, (fields year s run, cumulatives year s run))
-
--- questions 1, 2, 4 and 5
-pub read-passed : (year : ℕ) (s : List ℕ) → runAnswer year s mostEntries ≡ 6 → (firstNo (openingQuestions s) ≡ 0) × (firstNo (fieldQuestions s) ≡ 0)
-unfolding openingQuestions fieldQuestions firstNo
-read-passed year s h =
-    (rw (first-byte-yes year s 6 refl h, length-yes year s 6 refl h), rw (ranges-yes year s 6 refl h, shares-yes year s 6 refl h))
 
 -- totals of the square of sound figures
 pub summed : (f : Figures) → Sound f → (v d : List ℤ) → TotalsIn (squareOf f) v d → Summed (squareOf f) (f .k) v d

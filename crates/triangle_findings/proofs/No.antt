@@ -1,39 +1,20 @@
--- Where a question says no, it says no at the place that is found: of questions 6, 13, 7 and 8. Assumes nothing.
+-- Where a question says no, it says no at the place that is found: of questions 7 and 8. Assumes nothing.
 use mathlib.Core.Path.{_≡_, refl, sym}
 use mathlib.Core.Bool.{false}
 use mathlib.Core.List.{List}
-use Prim.Native.Nat.{ℕ, _+_, _-_, _≤_, _<_}
+use Prim.Native.Nat.{ℕ, _+_, _≤_, _<_}
 use native.Mathlib.Decide.{decLt}
 use native.Mathlib.Omega.{arith}
 use lib.IntN.{ℤ, pos}
 use lib.Signed.{leZ}
-use Rattle.rules.specs.Triangle.{cumulativesPass, columnTotal, diagonalTotal, cornerTotal, allTotal}
+use Rattle.rules.specs.Triangle.{columnTotal, diagonalTotal, cornerTotal, allTotal}
 use Rattle.rules.specs.Separation.{totalsPass, restsPass}
-use Rattle.rules.specs.Ladder.{developed, base, factorPasses, factorsPass}
-use Rattle.reasons.specs.Reasons.{firstBelow, firstRefused}
+use Rattle.reasons.specs.Reasons.{firstBelow}
 use Rattle.reasons.proofs.Counted.{counted}
-use Rattle.reasons.proofs.Why.{named-below, none-named, refused-below}
-use Rattle.triangle_findings.specs.TriangleFindings.{cellPasses, refusedRow, refusedColumn, cumulativeFinding, developmentFinding, developmentFound, totalsFinding, totalPasses, restPassesOf, refusedRest, restPasses, restFinding, restFound}
+use Rattle.reasons.proofs.Why.{named-below, none-named}
+use Rattle.triangle_findings.specs.TriangleFindings.{totalsFinding, totalPasses, restPassesOf, refusedRest, restPasses, restFinding, restFound}
 use Rattle.triangle_findings.proofs.Totals.{column-found, diagonal-found, all-found}
-use Rattle.triangle_findings.proofs.Cumulatives.{row-below, column-below}
 use Rattle.triangle_findings.proofs.Rests.{rests-no, rest-below}
-
--- 6: the cumulative of the row and column that are found is not from 0 to the most, and it is a given one
-pub cumulative-no : (k : ℕ) (p : List ℤ) → cumulativesPass k p ≡ false
-    → (cellPasses k p (cumulativeFinding k p .row) (cumulativeFinding k p .column) ≡ false) × (cumulativeFinding k p .row + cumulativeFinding k p .column ≤ k)
-unfolding cumulativeFinding refusedColumn
-cumulative-no k p no6 =
-    let i = refusedRow k p in
-    let l = column-below k p no6 in
-    (counted (cellPasses k p i) (k + 1 - i) .stop l, omega (arith, l, row-below k p no6))
-
--- 13: the development year that is found fails
-pub development-no : (k : ℕ) (p : List ℤ) → factorsPass k (developed k p) (base k p) ≡ false
-    → (factorPasses (developed k p (developmentFinding k p .column)) (base k p (developmentFinding k p .column)) ≡ false) × (developmentFinding k p .column < k)
-unfolding developmentFinding developmentFound firstRefused
-development-no k p no13 =
-    let l = refused-below (developed k p) (base k p) k no13 in
-    (counted (λ h. factorPasses (developed k p h) (base k p h)) k .stop l, l)
 
 -- 7: the total that is found is below 0, or that of all is above S
 module _ (q : List (List ℤ)) (k : ℕ) (no7 : totalsPass q k ≡ false) where

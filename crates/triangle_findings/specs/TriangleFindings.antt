@@ -1,46 +1,17 @@
--- Where questions 6, 13, 7 and 8 say no of the increments p of the years 0 to k and of their square q of averages, and the figures there. Assumes nothing.
-use Prim.Native.Nat.{ℕ, _+_, _-_, _*_}
-use mathlib.Core.Bool.{Bool, _&&_, cond}
+-- Where questions 7 and 8 say no of the square q of averages of the years 0 to k, and the figures there. Assumes nothing.
+use Prim.Native.Nat.{ℕ, _+_, _*_}
+use mathlib.Core.Bool.{Bool, cond}
 use mathlib.Core.List.{List}
 use lib.Dec.{eqb, ltb}
 use lib.IntN.{ℤ, pos, _-ℤ_}
 use lib.Signed.{leZ}
-use Rattle.rules.specs.Triangle.{sumTo, cumulativeOf, mostCumulative, rowPasses, columnTotal, diagonalTotal, cornerTotal, allTotal}
+use Rattle.rules.specs.Triangle.{sumTo, columnTotal, diagonalTotal, cornerTotal, allTotal}
 use Rattle.rules.specs.Separation.{billion}
-use Rattle.rules.specs.Ladder.{developed, base, developmentFactor}
 use Rattle.totals.specs.CellSizes.{mostTotal}
 use Rattle.entries.specs.Leading.{leading}
-use Rattle.reasons.specs.Reasons.{firstBelow, firstRefused}
-use Rattle.finding.specs.Places.{nowhere, developmentYear, paymentYear, cell, found}
+use Rattle.reasons.specs.Reasons.{firstBelow}
+use Rattle.finding.specs.Places.{nowhere, developmentYear, paymentYear, found}
 use Rattle.finding.specs.declared.Finding.{Finding}
-
--- whether C_ij is from 0 to 10^11
-unfoldable pub cellPasses : ℕ → List ℤ → ℕ → ℕ → Bool
-cellPasses k p i j = leZ (pos 0) (cumulativeOf k p i j) && leZ (cumulativeOf k p i j) (pos mostCumulative)
-
--- the first row with a cell of which question 6 says no, k + 1 where there is none; and the first such cell of row i, k + 1 − i where there is none
-unfoldable pub refusedRow : ℕ → List ℤ → ℕ
-refusedRow k p = leading (rowPasses k p) (k + 1)
-
-unfoldable pub refusedColumn : ℕ → List ℤ → ℕ → ℕ
-refusedColumn k p i = leading (cellPasses k p i) (k + 1 - i)
-
--- 6: the first such cell by row, and its cumulative
-unfoldable pub cumulativeFinding : ℕ → List ℤ → Finding
-cumulativeFinding k p =
-    let i = refusedRow k p in
-    let j = refusedColumn k p i in
-    found cell i j (cumulativeOf k p i j) (pos 0) (pos 0)
-
--- the first development year of which question 13 says no, with its B, its A and its factor, which is 0 where B is; a and b are the sums A and B of each year
-unfoldable pub developmentFound : (ℕ → ℕ) → (ℕ → ℕ) → ℕ → Finding
-developmentFound a b k =
-    let h = firstRefused a b k in
-    found developmentYear 0 h (pos (b h)) (pos (a h)) (pos (developmentFactor (a h) (b h)))
-
--- 13
-unfoldable pub developmentFinding : ℕ → List ℤ → Finding
-developmentFinding k p = developmentFound (developed k p) (base k p) k
 
 -- the first column that is below 0, or else the first diagonal, with its total, or else the total of all; v, d and all are these totals
 unfoldable pub totalsFound : (ℕ → ℤ) → (ℕ → ℤ) → ℤ → ℕ → Finding

@@ -1,37 +1,29 @@
-// Where questions 6, 13, 7 and 8 say no of a record, and the figures there.
-use finding::CELL;
+// Where questions 7 and 8 say no of a record, and the figures there.
 use finding::DEVELOPMENT_YEAR;
 use finding::Finding;
 use finding::NOWHERE;
 use finding::PAYMENT_YEAR;
 use opening::last_year_of;
 use outcomes::read_again;
-use reading::read;
 use reasons::first_below;
-use reasons::first_refused;
-use rules::MILLION;
-use rules::MOST_CUMULATIVE;
 use signed_sums::add;
 use signed_sums::subtract;
 use signed_sums::sum_along;
 ghost use mathlib.Core.Path.{_≡_};
 ghost use mathlib.Core.Bool.{true, false};
-ghost use Prim.Native.Nat.{_+_, _-_, _*_, _≤_, _<_};
+ghost use Prim.Native.Nat.{_+_, _≤_, _<_};
 ghost use lib.IntN.{pos, natAbs, _+ℤ_, _-ℤ_};
 ghost use lib.ListN.{getD};
 ghost use Rattle.rules.specs.Lists.{every, below};
 ghost use Rattle.rules.specs.Questions.{firstNo};
-ghost use Rattle.rules.specs.Record.{million, figuresOf};
+ghost use Rattle.rules.specs.Record.{figuresOf};
 ghost use Rattle.rules.specs.Reading.{openingQuestions, fieldQuestions};
-ghost use Rattle.rules.specs.Triangle.{rowStart, sumTo, cumulativeOf, mostCumulative, cumulativesPass};
-ghost use Rattle.rules.specs.Ladder.{developmentFactor, factorsPass};
+ghost use Rattle.rules.specs.Triangle.{sumTo, cumulativesPass};
 ghost use Rattle.rules.specs.Results.{mostEntries, squareOf};
 ghost use Rattle.rules.specs.Engine.{runAnswer};
 ghost use Rattle.totals.specs.CellSizes.{TotalsSmall};
-ghost use Rattle.triangle.specs.Columns.{Increments};
 ghost use Rattle.totals.specs.Summed.{Summed};
-ghost use Rattle.ladder.specs.Columns.{developedIn, baseIn, Ladderable};
-ghost use Rattle.triangle_findings.specs.TriangleFindings.{refusedColumn, cumulativeFinding, developmentFound, developmentFinding, totalsFound, totalsFinding, restPassesOf, restFound, restFinding, cornerBy, mostCorner};
+ghost use Rattle.triangle_findings.specs.TriangleFindings.{totalsFound, totalsFinding, restPassesOf, restFound, restFinding, cornerBy, mostCorner};
 
 // The totals of the columns and diagonals of the averages of a record that has passed questions 1, 2, 4, 5 and 6 go into their lists; answers k.
 pub fn totals_again(packed: &[u8], columns: &mut [i64; 16], diagonals: &mut [i64; 16]) -> usize
@@ -113,63 +105,6 @@ pub fn totals_finding(year: u64, packed: &[u8]) -> Finding
     totals_found(&columns, &diagonals, k)
 }
 
-// A development factor, 0 where the base b is.
-fn factor_of(a: u64, b: u64) -> u64
-    requires { ⌜ a ≤ 16 * mostCumulative ⌝ }
-    ensures { λ r. ⌜ (r ≡ developmentFactor a b) × (r ≤ million * a) ⌝ }
-{
-    if b == 0 {
-        return 0;
-    }
-    MILLION * a / b
-}
-
-// The finding of question 13 by the column sums of the given cumulatives and the paid cumulatives of the years 0 to k.
-fn development_found(columns: &[u64; 16], paid: &[u64; 16], k: usize) -> Finding
-    requires { ⌜ Ladderable k (now columns) (now paid) × (factorsPass k (developedIn (now columns)) (baseIn k (now columns) (now paid)) ≡ false) ⌝ }
-    ensures { λ r. ⌜ (r ≡ developmentFound (developedIn (now (columns .entry))) (baseIn k (now (columns .entry)) (now (paid .entry))) k)
-        × ((r .row < 16) × (r .column < 16)) ⌝ }
-{
-    let h = first_refused(columns, paid, k);
-    let base = columns[h] - paid[k - h];
-    let developed = columns[h + 1];
-    let factor = factor_of(developed, base);
-    Finding {
-        place: DEVELOPMENT_YEAR,
-        row: 0,
-        column: h,
-        one: base as i64,
-        two: developed as i64,
-        three: factor as i64,
-    }
-}
-
-// The finding of question 13.
-pub fn development_finding(year: u64, packed: &[u8]) -> Finding
-    requires { ⌜ runAnswer year (now packed) mostEntries ≡ 13 ⌝ }
-    ensures { λ r. ⌜ (r ≡ developmentFinding (figuresOf (now (packed .entry)) .k) (figuresOf (now (packed .entry)) .increments))
-        × ((r .row < 16) × (r .column < 16)) ⌝ }
-{
-    let mut increments = [0i64; 136];
-    let mut reporting = [0u64; 16];
-    let mut ulae = [0u64; 16];
-    let mut paid = [0u64; 16];
-    let mut sums = [0u64; 16];
-    let mut columns = [0i64; 16];
-    let mut diagonals = [0i64; 16];
-    read_again(
-        packed,
-        &mut increments,
-        &mut reporting,
-        &mut ulae,
-        &mut paid,
-        &mut sums,
-        &mut columns,
-        &mut diagonals,
-    );
-    development_found(&sums, &paid, last_year_of(packed))
-}
-
 // T of the next year: t without the diagonal d of its own year, and the column v of the next.
 pub fn next_corner(t: i64, d: i64, v: i64) -> i64
     requires { ⌜ (natAbs t ≤ mostCorner) × ((natAbs d ≤ mostCorner) × (natAbs v ≤ mostCorner)) ⌝ }
@@ -227,93 +162,4 @@ pub fn rest_finding(year: u64, packed: &[u8]) -> Finding
     let mut diagonals = [0i64; 16];
     let k = totals_again(packed, &mut columns, &mut diagonals);
     rest_found(&columns, &diagonals, k)
-}
-
-// A column and the cumulative there.
-struct Cumulative {
-    column: usize,
-    amount: i64,
-}
-
-// The first cumulative of row i that is not from 0 to the most, or the column after the last; the increments of the row start at place `at`.
-fn first_outside(increments: &[i64; 136], k: usize, i: usize, at: usize) -> Cumulative
-    requires { ⌜ Increments (now increments) × ((k < 16) × ((i ≤ k) × (at ≡ rowStart k i))) ⌝ }
-    ensures { λ r. ⌜ (r .column ≡ refusedColumn k (now (increments .entry)) i)
-        × (r .column < k + 1 - i → r .amount ≡ cumulativeOf k (now (increments .entry)) i (r .column)) ⌝ }
-{
-    let mut sum: i64 = 0;
-    let count = k + 1 - i;
-    for j in 0..count {
-        sum += increments[at + j];
-        if sum < 0 {
-            return Cumulative {
-                column: j,
-                amount: sum,
-            };
-        }
-        if sum > MOST_CUMULATIVE as i64 {
-            return Cumulative {
-                column: j,
-                amount: sum,
-            };
-        }
-    }
-    Cumulative {
-        column: count,
-        amount: 0,
-    }
-}
-
-// The finding of question 6, which says no, by the increments of the years 0 to k.
-fn cumulative_found(increments: &[i64; 136], k: usize) -> Finding
-    requires { ⌜ Increments (now increments) × ((k < 16) × (cumulativesPass k (now increments) ≡ false)) ⌝ }
-    ensures { λ r. ⌜ (r ≡ cumulativeFinding k (now (increments .entry))) × ((r .row < 16) × (r .column < 16)) ⌝ }
-{
-    let mut at: usize = 0;
-    let n = k + 1;
-    for i in 0..n {
-        let first = first_outside(increments, k, i, at);
-        if first.column < n - i {
-            return Finding {
-                place: CELL,
-                row: i,
-                column: first.column,
-                one: first.amount,
-                two: 0,
-                three: 0,
-            };
-        }
-        at += n - i;
-    }
-    // not reached: question 6 says no of a cell
-    Finding {
-        place: NOWHERE,
-        row: 0,
-        column: 0,
-        one: 0,
-        two: 0,
-        three: 0,
-    }
-}
-
-// The finding of question 6.
-pub fn cumulative_finding(year: u64, packed: &[u8]) -> Finding
-    requires { ⌜ runAnswer year (now packed) mostEntries ≡ 6 ⌝ }
-    ensures { λ r. ⌜ (r ≡ cumulativeFinding (figuresOf (now (packed .entry)) .k) (figuresOf (now (packed .entry)) .increments))
-        × ((r .row < 16) × (r .column < 16)) ⌝ }
-{
-    let mut exposures = [0u64; 16];
-    let mut increments = [0i64; 136];
-    let mut indices = [0u64; 16];
-    let mut reporting = [0u64; 16];
-    let mut ulae = [0u64; 16];
-    read(
-        packed,
-        &mut exposures,
-        &mut increments,
-        &mut indices,
-        &mut reporting,
-        &mut ulae,
-    );
-    cumulative_found(&increments, last_year_of(packed))
 }

@@ -8,7 +8,8 @@ use lib.IntN.{natAbs}
 use Rattle.composing.proofs.Puts.{put-append}
 use Rattle.axis.specs.Axis.{sideOf, zeroLine, heightOf}
 use Rattle.axis.proofs.Axis.{side-most, height-most}
-use Rattle.drawing.specs.Drawing.{shape, bar}
+use Rattle.shapes.specs.Shapes.{shape}
+use Rattle.drawing.specs.Drawing.{bar}
 use borrow.Author.Needs.{needs}
 use Rattle.drawing.proofs.put_bar.Statement.{statement}
 use Rattle.drawing.proofs.put_bar.Tie as tie

@@ -8,8 +8,9 @@ use Rattle.rules.specs.Questions.{firstNo}
 use Rattle.rules.specs.Reading.{openingQuestions}
 use Rattle.opening.proofs.Opened.{opening-yes, years-known}
 use Rattle.finding.specs.declared.Finding.{Finding}
+use Rattle.record_findings.proofs.Refused.{opened}
 use Rattle.field_findings.specs.Fields.{firstRow, firstField, findingAt, fieldFinding}
-use Rattle.field_findings.proofs.Named.{FieldFound, opened, field-no, field-small}
+use Rattle.field_findings.proofs.Named.{FieldFound, field-no, field-small}
 use Rattle.field_findings.proofs.field_finding.Statement.{statement}
 use Rattle.field_findings.proofs.field_finding.Tie as tie
 

@@ -12,8 +12,10 @@ use Rattle.packing.proofs.Pack.{room}
 use Rattle.opening.proofs.Opened.{WholeRecord, whole-record}
 use Rattle.reading.specs.Reading.{RowInside}
 use Rattle.finding.specs.Places.{found}
-use Rattle.field_findings.specs.declared.Spot.{Spot}
-use Rattle.field_findings.specs.Fields.{kindOf, codeAt, spotOf, leastOf, findingAt}
+use Rattle.field_spots.specs.declared.Spot.{Spot}
+use Rattle.field_spots.specs.Spots.{spotOf}
+use Rattle.field_rows.specs.Rows.{kindOf}
+use Rattle.field_findings.specs.Fields.{codeAt, leastOf, findingAt}
 use Rattle.field_findings.proofs.Placed.{held-inside, held-count, held-small, held-code, held-value, held-least, held-most, held-limits}
 use borrow.Author.Needs.{needs, sfits-of}
 use Rattle.field_findings.proofs.finding_at.Statement.{statement}

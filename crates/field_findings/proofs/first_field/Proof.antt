@@ -12,7 +12,7 @@ use Rattle.packing.proofs.Pack.{room}
 use Rattle.opening.proofs.Opened.{WholeRecord, whole-record}
 use Rattle.reading.specs.Reading.{RowInside}
 use Rattle.field_findings.specs.Fields.{fieldPasses, firstField}
-use Rattle.field_findings.specs.Rows.{passesIn}
+use Rattle.field_rows.specs.Rows.{passesIn}
 use Rattle.field_findings.proofs.Placed.{held-inside, held-count, held-small, held-passes}
 use borrow.Author.Needs.{needs}
 use Rattle.field_findings.proofs.first_field.Statement.{statement}

@@ -1,8 +1,8 @@
 -- By the number of the question (ByNumber). Assumes nothing.
 use native.Mathlib.Omega.{arith}
 use mathlib.Core.Path.{_∙_}
-use Rattle.field_findings.specs.Fields.{givenFinding, lengthFinding, sharesFinding}
-use Rattle.field_findings.proofs.Named.{some-bytes}
+use Rattle.record_findings.specs.RecordFindings.{givenFinding, lengthFinding, sharesFinding}
+use Rattle.record_findings.proofs.Refused.{some-bytes}
 use Rattle.findings.proofs.ByNumber.{at-1, at-2, at-4, at-5, at-6, at-13, at-7, at-8, at-9, at-10, at-18, at-19, at-11, at-12, at-15, at-16, at-17, at-14, at-none}
 use borrow.Author.Needs.{needs}
 use Rattle.findings.proofs.find.Statement.{statement}

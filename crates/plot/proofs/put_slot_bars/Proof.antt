@@ -6,7 +6,7 @@ use borrow.Author.Needs.{needs, sfits-of}
 use Rattle.composing.proofs.Puts.{put-append}
 use Prim.Native.Nat.{_+_}
 use Rattle.drawing.specs.Drawing.{bar}
-use Rattle.figure.specs.Figure.{dark}
+use Rattle.figure_caption.specs.Caption.{dark}
 use Rattle.plot.specs.Plot.{firstBar, secondBar, left, slotBars}
 use Rattle.plot.proofs.put_slot_bars.Statement.{statement}
 use Rattle.plot.proofs.put_slot_bars.Tie as tie

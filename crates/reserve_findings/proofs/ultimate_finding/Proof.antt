@@ -15,8 +15,8 @@ use Rattle.opening.proofs.Opened.{years-known, opening-yes}
 use Rattle.completion.specs.Asked.{mostPayment}
 use Rattle.outcomes.proofs.Said.{ultimates-no}
 use Rattle.reserve_findings.specs.ReserveFindings.{firstUltimateOver}
-use Rattle.reserve_findings.specs.Provided.{Carried}
-use Rattle.reserve_findings.proofs.Passing.{carried, after-11}
+use Rattle.provisions_again.specs.Provided.{Carried}
+use Rattle.provisions_again.proofs.Passing.{carried, after-11}
 use Rattle.reserve_findings.proofs.Over.{over-year, over-ready, year-found, ultimate-is}
 use Rattle.reserve_findings.proofs.ultimate_finding.Statement.{statement}
 use Rattle.reserve_findings.proofs.ultimate_finding.Tie as tie

@@ -13,9 +13,8 @@ use Rattle.scanning.proofs.Parts.{until-most}
 use Rattle.cells.specs.Cells.{contentOf}
 use Rattle.cells.proofs.CellWalk.{pieces-first, pieces-last, pieces-more, past-shorter, after}
 use Rattle.sheet.specs.Sheet.{lines, readLine}
-use Rattle.sheet_reading.specs.Reads.{Reads}
-use Rattle.sheet_reading.proofs.LinesRead.{unmarked-most}
-use Rattle.sheet_reading.proofs.Turns.{State, state-start, state-wrong, state-next, next-line, state-end}
+use Rattle.line_reading.specs.Reads.{Reads}
+use Rattle.sheet_reading.proofs.Turns.{State, state-start, state-wrong, state-next, next-line, state-end, unmarked-most}
 use Rattle.sheet_reading.proofs.read_sheet.Statement.{statement}
 use Rattle.sheet_reading.proofs.read_sheet.Tie as tie
 

@@ -1,0 +1,3 @@
+pub mod Segments
+pub mod Standing
+pub mod Most
