@@ -25,9 +25,9 @@ asked-most : (n : ℕ) → length (askedText n) ≤ 160
 unfolding askedText askedTexts every
 asked-most n = each-most 160 otherAsked askedTexts (omega arith) refl n
 
-advice-most : (n : ℕ) → length (adviceText n) ≤ 400
+advice-most : (n : ℕ) → length (adviceText n) ≤ 440
 unfolding adviceText adviceTexts every
-advice-most n = each-most 400 otherAdvice adviceTexts (omega arith) refl n
+advice-most n = each-most 440 otherAdvice adviceTexts (omega arith) refl n
 
 -- the place
 words-most : (html : Bool) (first : ℕ) (f : Finding) → length (placeWords html first f) ≤ 140
@@ -48,7 +48,7 @@ unfolding refusedHeading either
 heading-most true first n f = simp length-append (omega (arith, length-most n, at-most true first f))
 heading-most false first n f = simp length-append (omega (arith, length-most n, at-most false first f))
 
-pub refused-most : (html : Bool) (first n : ℕ) (f : Finding) → length (refusedSection html first n f) ≤ 4640
+pub refused-most : (html : Bool) (first n : ℕ) (f : Finding) → length (refusedSection html first n f) ≤ 4680
 unfolding refusedSection either
 refused-most true first n f =
     simp length-append (omega (arith, heading-most true first n f, asked-most n, said-most n, table-of-most true n f, advice-most n, section-end-most true))
