@@ -18,7 +18,7 @@ use Rattle.scanning.specs.Numbers.{wholeOf}
 use Rattle.cells.specs.Cells.{isBare, labelOf, cellsOf}
 use Rattle.sheet.specs.declared.Wrong.{Wrong}
 use Rattle.sheet.specs.Table.{lineCount, dueAt}
-use Rattle.sheet.specs.Sheet.{lastYearIn, wrong, wrongIn, wordIn, Typed, typed, fine, readLine}
+use Rattle.sheet.specs.Sheet.{lastYearIn, wrongIn, wordIn, Typed, typed, fine, readLine}
 use Rattle.line_reading.specs.Reads.{found, Reads}
 
 -- a list whose front is stored again

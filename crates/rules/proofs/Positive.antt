@@ -5,7 +5,6 @@ use native.Mathlib.Omega.{arith}
 use mathlib.Core.Path.{_≡_, refl, ap}
 use mathlib.Core.List.{List, [], _∷_}
 use lib.IntN.{ℤ, pos, _*ℤ_}
-use lib.ListN.{getD}
 use lib.Signed.{_<ℤ_}
 use Rattle.rules.specs.Lists.{upTo, every}
 use Rattle.rules.specs.Questions.{firstNo}

@@ -6,8 +6,7 @@ use mathlib.Core.List.{List, [], _∷_}
 use Prim.Native.Nat.{ℕ, zero, suc, _+_, _-_, _*_, _≤_, _<_}
 use native.Mathlib.Nat.{mul-pos}
 use native.Mathlib.Omega.{arith}
-use lib.IntN.{ℤ, pos, negsuc, _+ℤ_, _-ℤ_, _*ℤ_, *ℤ-comm, *ℤ-zero, zero-*ℤ, pos-ne-negsuc}
-use lib.Signed.{_<ℤ_}
+use lib.IntN.{ℤ, pos, negsuc, _*ℤ_, *ℤ-comm, *ℤ-zero, zero-*ℤ, pos-ne-negsuc}
 use Rattle.rules.specs.Lists.{upTo, every}
 use Rattle.rules.specs.Questions.{firstNo}
 use Rattle.rules.specs.Triangle.{sumTo, cellOf, cellsTotal, columnTotal, diagonalTotal, cornerTotal, allTotal, ZeroOutside}
@@ -17,7 +16,7 @@ use Rattle.rules.specs.Positive.{Positive, Same}
 use Rattle.laws.proofs.Diff.{is-pos, is-mul, is-eqs}
 use Rattle.solutions.proofs.Signs.{cancel}
 use Rattle.solutions.proofs.Identity.{runningShare, levelSum, identity, rest}
-use Rattle.solutions.proofs.Named.{NoneZero, same}
+use Rattle.solutions.proofs.Named.{same}
 use Rattle.solutions.proofs.Refusal.{corners}
 
 -- the averages a b c / d e / f of three years, and the numbers a, b, c of the years 0 to 2

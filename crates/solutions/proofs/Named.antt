@@ -1,6 +1,6 @@
 -- The named sums of an exact solution are positive just where T_h is above v_h; and a solution of whose named sums none is zero is the only one.
 -- Assumes nothing.
-use mathlib.Core.Path.{_≡_, _∙_, ap, subst}
+use mathlib.Core.Path.{_≡_, _∙_, subst}
 use Prim.Native.Nat.{ℕ, zero, suc, _+_, _*_, _-_, _≤_, _<_}
 use native.Mathlib.Nat.{mul-pos, mul-comm}
 use native.Mathlib.Omega.{arith}

@@ -11,7 +11,7 @@ use lib.IntN.{ℤ, pos, _-ℤ_}
 use lib.Signed.{leZ}
 use Rattle.rules.specs.Lists.{every}
 use Rattle.rules.specs.Questions.{firstNo, questionsBefore}
-use Rattle.rules.specs.Record.{lastYearOf, figuresOf}
+use Rattle.rules.specs.Record.{figuresOf}
 use Rattle.rules.specs.Reading.{openingQuestions, fieldQuestions}
 use Rattle.rules.specs.Triangle.{columnTotal, diagonalTotal, cornerTotal, ZeroOutside}
 use Rattle.rules.specs.Separation.{columnOf, diagonalOf, cornerOf, totalsPass, restsPass, separationQuestions, separateAnswer}
@@ -22,7 +22,7 @@ use Rattle.rules.specs.Growth.{growthQuestions}
 use Rattle.rules.specs.Results.{squareOf}
 use Rattle.rules.specs.Engine.{developmentQuestions, completionQuestions, ratioQuestions, correctionQuestions, completedLadderQuestions, lastQuestions, laterQuestions, figureQuestions, questions, runAnswer}
 use Rattle.laws.proofs.Lists.{every-yes}
-use Rattle.laws.proofs.Questions.{numbered, said, once, yes-said, no-said, no-answers, answer-passed}
+use Rattle.laws.proofs.Questions.{said, once, yes-said, no-said, no-answers, answer-passed}
 use Rattle.layout.proofs.RecordSizes.{years-lt}
 use Rattle.totals.proofs.Corners.{corner-down, corner-last}
 use Rattle.totals.proofs.Whole.{totals, column-is, diagonal-is, column-least, rest-least}

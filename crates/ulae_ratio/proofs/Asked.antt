@@ -1,5 +1,5 @@
 -- What question 12 answers together with 15, 16 and 17, and what it says of the two totals. Assumes nothing.
-use Prim.Native.Nat.{ℕ, _+_, _≤_}
+use Prim.Native.Nat.{ℕ, _≤_}
 use native.Mathlib.Omega.{arith}
 use borrow.Author.Tests.{leb-true, le-leb}
 use mathlib.Core.Path.{_≡_, refl}

@@ -1,11 +1,8 @@
 -- The figures of a list of zeros (NoList). Assumes nothing.
 use native.Mathlib.Omega.{arith}
-use mathlib.Core.Path.{_≡_, refl, sym, _∙_}
-use lib.IntN.{pos}
-use lib.ListN.{replicate}
+use mathlib.Core.Path.{_≡_, refl}
 use Rattle.rules.specs.Packing.{Fit}
-use Rattle.rules.specs.Record.{lastYearOf, figuresOf}
-use Rattle.rules.specs.Results.{mostEntries}
+use Rattle.rules.specs.Record.{figuresOf}
 use Rattle.opening.proofs.Opened.{years-known, opening-yes}
 use Rattle.record_figures.proofs.Read.{sound}
 use Rattle.refused_page.specs.RefusedPage.{inputFigures, refusedInputs}

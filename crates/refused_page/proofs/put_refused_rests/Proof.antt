@@ -1,5 +1,4 @@
 -- Of question 8 alone. Assumes nothing.
-use mathlib.Core.Path.{_≡_}
 use borrow.Author.Needs.{needs}
 use borrow.Author.Tests.{eq-eqb, ne-eqb}
 use Rattle.composing.proofs.Puts.{put-none}
