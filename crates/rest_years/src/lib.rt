@@ -29,7 +29,7 @@ ghost use Rattle.triangle_findings.specs.TriangleFindings.{cornerBy};
 ghost use Rattle.rest_years.specs.RestYears.{CornersSmall, leftOf, refusedYears, labelWhere, rowWhere, valuesWhere, yearLabels, allValues, yearTable, yearSection, restSection};
 
 // T_h of the years 0 to 15 from the totals of the columns and of the diagonals: T of year 0 is its column.
-fn fill_corners(columns: &[i64; 16], diagonals: &[i64; 16], corners: &mut [i64; 16])
+fn fill_corner_totals(columns: &[i64; 16], diagonals: &[i64; 16], corners: &mut [i64; 16])
     requires { ⌜ TotalsSmall (now columns) × TotalsSmall (now diagonals) ⌝ }
     ensures { λ r. ⌜ now (corners .exit)
         ≡ sets (now (corners .entry)) 0
@@ -196,6 +196,6 @@ pub fn put_rest_section(out: &mut [u8], at: usize, html: bool, packed: &[u8]) ->
     let mut diagonals = [0i64; 16];
     let k = totals_again(packed, &mut columns, &mut diagonals);
     let mut corners = [0i64; 16];
-    fill_corners(&columns, &diagonals, &mut corners);
+    fill_corner_totals(&columns, &diagonals, &mut corners);
     put_year_section(out, at, html, &corners, &columns, k)
 }

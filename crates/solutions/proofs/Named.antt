@@ -11,7 +11,7 @@ use Rattle.rules.specs.Triangle.{sumTo}
 use Rattle.rules.specs.Exact.{Solves}
 use Rattle.rules.specs.Positive.{Positive, Same}
 use Rattle.laws.proofs.Diff.{is-self, is-pos, is-add, is-minus, is-mul, is-eqs, eq-is, is-le, le-is}
-use Rattle.solutions.proofs.Signs.{whole-above, from-one, above-not-zero, product-above, factor-above, cross}
+use Rattle.solutions.proofs.Signs.{whole-positive, from-one, above-not-zero, product-above, factor-above, cross}
 use Rattle.solutions.proofs.Identity.{Corners, runningShare, levelSum, running-next, identity, rest}
 
 -- T_h, not below what is left of it
@@ -30,7 +30,7 @@ module _ (k D E : ℕ) (v d T r l : ℕ → ℤ) (c : Corners k v d T) (s : Solv
 
   -- all the shares are D, which is positive
   pub all-shares : (h : ℕ) → k ≡ h → pos 0 <ℤ runningShare r h
-  all-shares h e = subst (λ (z : ℕ). pos 0 <ℤ runningShare r z) e (rw (s .whole) (whole-above D (s .shares)))
+  all-shares h e = subst (λ (z : ℕ). pos 0 <ℤ runningShare r z) e (rw (s .whole) (whole-positive D (s .shares)))
 
   module _ (least : (h : ℕ) → h < k → pos 0 ≤ℤ v (suc h)) (rests : (h : ℕ) → h < k → pos 1 ≤ℤ (T (suc h) -ℤ v (suc h))) where
     levels-above : (h : ℕ) → h < k → pos 0 <ℤ runningShare r (suc h) → pos 0 <ℤ levelSum k l (suc h)

@@ -6,7 +6,7 @@ use mathlib.Core.List.{List, [], _∷_}
 use Prim.Native.Nat.{ℕ, suc, _+_, _<_}
 use native.Mathlib.Numerals.{add-one}
 use native.Mathlib.Omega.{arith}
-use lib.Dec.{T}
+use lib.Ieee.Bits.{is-true}
 use lib.IntN.{ℤ, pos, _-ℤ_}
 use lib.Signed.{leZ}
 use Rattle.rules.specs.Lists.{every}
@@ -33,10 +33,6 @@ use Rattle.solutions.proofs.Identity.{Corners}
 use Rattle.solutions.proofs.Named.{rest-above, all-positive, positive-none-zero, same}
 use Rattle.solutions.proofs.Product.{products-solve}
 
-yes : (b : Bool) → T b → b ≡ true
-yes true h = refl
-yes false h = absurd h
-
 module _ (s : List (List ℤ)) (k : ℕ) (out : ZeroOutside s k) where
   pub corners : Corners k (columnTotal s) (diagonalTotal s) (cornerTotal s)
   corners = record { last = corner-last s k out; down = λ h lt. corner-down s h }
@@ -48,7 +44,7 @@ module _ (s : List (List ℤ)) (k : ℕ) (out : ZeroOutside s k) where
       every-yes (λ h. leZ (pos 1) (cornerTotal s h -ℤ columnTotal s h)) (λ h. h + 1) k
       (λ h lt.
       let above = rest-above k (p .D) (p .E) (columnTotal s) (diagonalTotal s) (cornerTotal s) (p .r) (p .l) corners (p .solves) (p .positive) h lt in
-      rw (add-one h) (yes (leZ (pos 1) (cornerTotal s (suc h) -ℤ columnTotal s (suc h))) (above .le)))
+      rw (add-one h) (is-true (leZ (pos 1) (cornerTotal s (suc h) -ℤ columnTotal s (suc h))) (above .le)))
 
   -- where there is such a solution, every exact solution is that one
   pub only-one : (D E : ℕ) (r l : ℕ → ℤ) → Solves k D E (columnTotal s) (diagonalTotal s) r l → Positive k r l

@@ -13,8 +13,8 @@ above-zero : (z : ℤ) → pos 0 <ℤ z → (z ≡ pos (natAbs z)) × (0 < natAb
 above-zero (pos n) h = (refl, ltb→lt 0 n (h .lt))
 above-zero (negsuc n) h = absurd (h .lt)
 
-pub whole-above : (n : ℕ) → 0 < n → pos 0 <ℤ pos n
-whole-above n h = lt-is (is-pos 0) (is-pos n) (omega arith)
+pub whole-positive : (n : ℕ) → 0 < n → pos 0 <ℤ pos n
+whole-positive n h = lt-is (is-pos 0) (is-pos n) (omega arith)
 
 pub from-one : (z : ℤ) → pos 1 ≤ℤ z → pos 0 <ℤ z
 from-one z h = lt-is (is-pos 0) (is-self z) (omega (arith, is-le (is-pos 1) (is-self z) h))

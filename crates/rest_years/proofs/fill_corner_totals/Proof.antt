@@ -12,8 +12,8 @@ use Rattle.rules.specs.Lists.{upTo}
 use Rattle.laws.proofs.Joined.{first-more}
 use Rattle.triangle_findings.specs.TriangleFindings.{cornerBy}
 use Rattle.triangle_findings.proofs.Rests.{corner-start, corner-next, corner-size, corner-held, total-held}
-use Rattle.rest_years.proofs.fill_corners.Statement.{statement}
-use Rattle.rest_years.proofs.fill_corners.Tie as tie
+use Rattle.rest_years.proofs.fill_corner_totals.Statement.{statement}
+use Rattle.rest_years.proofs.fill_corner_totals.Tie as tie
 
 abbrev corner : List ℤ → List ℤ → ℕ → ℤ
 corner v d = cornerBy (λ j. getD v j (pos 0)) (λ h. getD d h (pos 0))
@@ -69,8 +69,8 @@ returns c =
     let e : l .m ≡ 15 = omega arith in
     stored v d _ 15 _ _ (rw e at (l .inv .1 .1)) (corner-held v d (s .pre .0) (s .pre .1) 15 (l .t) (omega arith) (rw e at (l .inv .1 .0)))
 
-pub fill-corners-spec : {M : Type 1} → statement M
-fill-corners-spec =
+pub fill-corner-totals-spec : {M : Type 1} → statement M
+fill-corner-totals-spec =
     tie.close
     (tie.spec
     Inv-loop
