@@ -4,6 +4,7 @@ pub mod Questions
 pub mod Record
 pub mod Reading
 pub mod Writing
+pub mod Inflation
 pub mod Triangle
 pub mod Separation
 pub mod Exact

@@ -1,4 +1,4 @@
-// The factors of a separation as the code holds them, and the limits of the rules. The rules themselves stand in specs/.
+// The factors of a separation and the rates of inflation as the code holds them, and the limits of the rules. The rules themselves stand in specs/.
 
 // What a call answers where every question says yes.
 pub const ACCEPTED: u64 = 0;
@@ -34,4 +34,25 @@ pub struct Factors {
     pub shares: [u64; 16],
     pub levels: [u64; 16],
     pub k: usize,
+}
+
+// Rates of inflation in one of three shapes: a flat rate; a rate that moves halfway each year toward a long-run rate; a shock rate in a named year, the first being
+// year 1, with another rate in the others.
+pub enum Inflation {
+    Flat(f64),
+    Fading(f64, f64),
+    Shock(f64, f64, u64),
+}
+
+// What is handed from year to year: the current rate, and the value of the path before that year.
+pub struct Path {
+    pub rate: f64,
+    pub value: f64,
+}
+
+// The number of the first question that says no, or 0, and sixteen indices in millionths.
+#[repr(C)]
+pub struct Indices {
+    pub refused: u64,
+    pub values: [u64; 16],
 }

@@ -1,0 +1,2 @@
+pub mod Years
+pub mod Answers
