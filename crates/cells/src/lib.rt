@@ -248,3 +248,18 @@ pub fn leading(line: &[u8], ranged: bool, least: i64, most: i64) -> Run
         all: true,
     }
 }
+
+// How many cells a line has.
+pub fn cell_count(line: &[u8]) -> usize
+    ensures { λ r. ⌜ (r ≡ length (cellsOf (now (line .entry)))) × (r < 2 ^ 63) ⌝ }
+{
+    let s = decider_of(line);
+    let mut rest = cells_text(line);
+    let mut count: usize = 0;
+    while from_cell(rest, s).len() > 0 {
+        count += 1;
+        let next = after_cell(rest, s);
+        rest = next;
+    }
+    count
+}

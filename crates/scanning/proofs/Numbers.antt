@@ -70,11 +70,11 @@ unfolding withDigit
 digit-stops n b h = rw (le-ltb n ceiling h)
 
 -- one digit more of a word, and the end of it
-pub size-more : (xs : List ℕ) (i n m : ℕ) → i < length xs → sizeFrom 0 xs ≡ sizeFrom n (drop i xs)
-    → m ≡ withDigit n (getD xs i 0) → sizeFrom 0 xs ≡ sizeFrom m (drop (i + 1) xs)
+pub size-more : (start : ℕ) (xs : List ℕ) (i n m : ℕ) → i < length xs → sizeFrom start xs ≡ sizeFrom n (drop i xs)
+    → m ≡ withDigit n (getD xs i 0) → sizeFrom start xs ≡ sizeFrom m (drop (i + 1) xs)
 unfolding sizeFrom
-size-more xs i n m h e p = rw (p, add-one i) (e ∙ rw (drop-cons xs i 0 h))
+size-more start xs i n m h e p = rw (p, add-one i) (e ∙ rw (drop-cons xs i 0 h))
 
-pub size-end : (xs : List ℕ) (i n : ℕ) → i ≡ length xs → sizeFrom 0 xs ≡ sizeFrom n (drop i xs) → n ≡ sizeFrom 0 xs
+pub size-end : (start : ℕ) (xs : List ℕ) (i n : ℕ) → i ≡ length xs → sizeFrom start xs ≡ sizeFrom n (drop i xs) → n ≡ sizeFrom start xs
 unfolding sizeFrom
-size-end xs i n h e = sym (e ∙ rw (h, drop-length xs))
+size-end start xs i n h e = sym (e ∙ rw (h, drop-length xs))

@@ -1,6 +1,6 @@
 -- Parts of a text: bytes of a set, what stands before and after them, and the pieces between them. Assumes nothing.
 use Prim.Native.Nat.{ℕ, suc}
-use mathlib.Core.Bool.{Bool, false, not, cond, _||_}
+use mathlib.Core.Bool.{Bool, true, false, not, cond, _&&_, _||_}
 use mathlib.Core.List.{List, [], _∷_}
 use lib.Dec.{eqb}
 use lib.ListN.{take, drop}
@@ -42,3 +42,10 @@ onto b (x ∷ xs) = (b ∷ x) ∷ xs
 unfoldable pub pieces : (ℕ → Bool) → List ℕ → List (List ℕ)
 pieces p [] = [] ∷ []
 pieces p (b ∷ bs) = cond (p b) ([] ∷ pieces p bs) (onto b (pieces p bs))
+
+-- whether two texts are the same
+unfoldable pub sameText : List ℕ → List ℕ → Bool
+sameText [] [] = true
+sameText [] (y ∷ ys) = false
+sameText (x ∷ xs) [] = false
+sameText (x ∷ xs) (y ∷ ys) = eqb x y && sameText xs ys

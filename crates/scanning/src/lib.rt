@@ -2,7 +2,7 @@
 ghost use mathlib.Core.Path.{_≡_};
 ghost use Prim.Native.Nat.{_≤_, _<_, _^_};
 ghost use lib.ListN.{length};
-ghost use Rattle.scanning.specs.Parts.{among, before, until, from, past, meets};
+ghost use Rattle.scanning.specs.Parts.{among, before, until, from, past, meets, sameText};
 ghost use Rattle.scanning.specs.Numbers.{isDigit, isNatural, isNumber, withDigit, sizeFrom, wholeOf};
 
 // Whether a byte is one of these.
@@ -69,6 +69,22 @@ pub fn past<'a>(text: &'a [u8], set: &[u8]) -> &'a [u8]
     &text[e..]
 }
 
+// Whether two texts are the same.
+pub fn same_text(a: &[u8], b: &[u8]) -> bool
+    ensures { λ r. ⌜ r ≡ sameText (now (a .entry)) (now (b .entry)) ⌝ }
+{
+    let n = a.len();
+    if n != b.len() {
+        return false;
+    }
+    for i in 0..n {
+        if a[i] != b[i] {
+            return false;
+        }
+    }
+    true
+}
+
 fn is_digit(b: u8) -> bool
     ensures { λ r. ⌜ r ≡ isDigit b ⌝ }
 {
@@ -127,11 +143,12 @@ fn with_digit(n: u64, b: u8) -> u64
     10 * n + wide(b - 48)
 }
 
-// The number that digits make.
-fn size_of_digits(digits: &[u8]) -> u64
-    ensures { λ r. ⌜ (r ≡ sizeFrom 0 (now (digits .entry))) × (r < 2 ^ 60) ⌝ }
+// The number that digits go on to after one.
+pub fn size_from(start: u64, digits: &[u8]) -> u64
+    requires { ⌜ start < 2 ^ 60 ⌝ }
+    ensures { λ r. ⌜ (r ≡ sizeFrom start (now (digits .entry))) × (r < 2 ^ 60) ⌝ }
 {
-    let mut size: u64 = 0;
+    let mut size = start;
     let n = digits.len();
     for i in 0..n {
         size = with_digit(size, digits[i]);
@@ -147,7 +164,7 @@ pub fn number_of(word: &[u8]) -> i64
         return 0;
     }
     if word[0] == 45 {
-        return 0 - (size_of_digits(&word[1..]) as i64);
+        return 0 - (size_from(0, &word[1..]) as i64);
     }
-    size_of_digits(word) as i64
+    size_from(0, word) as i64
 }

@@ -1,6 +1,6 @@
 -- Figures as text, written and read (docs/SHEET.md). Assumes nothing.
 use Prim.Native.Nat.{ℕ, suc, _-_}
-use mathlib.Core.Bool.{Bool, true, false, cond, _&&_}
+use mathlib.Core.Bool.{cond}
 use mathlib.Core.List.{List, [], _∷_, _++_, map}
 use lib.Dec.{eqb}
 use lib.IntN.{ℤ, pos, natAbs}
@@ -10,7 +10,7 @@ use Rattle.rules.specs.Record.{byteCount}
 use Rattle.rules.specs.Writing.{givenIn, writeAnswer, writeInto}
 use Rattle.composing.specs.Text.{ascii, integer}
 use Rattle.kinds.specs.Kinds.{marked}
-use Rattle.scanning.specs.Parts.{among, fails, before, pieces}
+use Rattle.scanning.specs.Parts.{among, fails, before, pieces, sameText}
 use Rattle.scanning.specs.Numbers.{isNumber, wholeOf}
 use Rattle.cells.specs.Cells.{contentOf, isBare, labelOf, cellsOf, isWithin}
 use Rattle.sheet.specs.declared.Due.{Due}
@@ -49,13 +49,6 @@ unmarked text = cond (marked text) (drop 3 text) text
 
 abbrev pub lines : List ℕ → List (List ℕ)
 lines text = pieces (among (ascii "\n")) text
-
--- whether two texts are the same
-unfoldable pub sameText : List ℕ → List ℕ → Bool
-sameText [] [] = true
-sameText [] (y ∷ ys) = false
-sameText (x ∷ xs) [] = false
-sameText (x ∷ xs) (y ∷ ys) = eqb x y && sameText xs ys
 
 -- a problem, and the number of the cell that it is about, counted from 1
 abbrev pub wrong : ℕ → ℕ → Wrong

@@ -4,13 +4,14 @@ use composing::put_bytes;
 use rules::MILLION;
 use rules::MOST_AMOUNT;
 use rules::MOST_INDEX;
+use scanning::same_text;
 ghost use mathlib.Core.Path.{_≡_};
 ghost use mathlib.Core.List.{[]};
 ghost use Prim.Native.Nat.{_<_};
 ghost use lib.ListN.{getD};
 ghost use Rattle.composing.specs.Text.{Put};
 ghost use Rattle.sheet.specs.Table.{labels, dueAt};
-ghost use Rattle.sheet.specs.Sheet.{sameText};
+ghost use Rattle.scanning.specs.Parts.{sameText};
 
 // A line that is due: its row, how many numbers it takes, the least and the most that each may be.
 pub struct Due {
@@ -118,22 +119,6 @@ pub fn put_label(out: &mut [u8], at: usize, row: usize) -> usize
             row,
         ),
     )
-}
-
-// Whether two texts are the same.
-fn same_text(a: &[u8], b: &[u8]) -> bool
-    ensures { λ r. ⌜ r ≡ sameText (now (a .entry)) (now (b .entry)) ⌝ }
-{
-    let n = a.len();
-    if n != b.len() {
-        return false;
-    }
-    for i in 0..n {
-        if a[i] != b[i] {
-            return false;
-        }
-    }
-    true
 }
 
 // Whether a word is the label of a row.

@@ -14,20 +14,20 @@ returns : tie.Need-returns
 returns c = sym (whole-none (c .before .before .args .word .now) (c .if1 .taken))
 
 sub-result : tie.Need-sub-result
-sub-result c = minus-fits (c .size-of-digits .result) (omega (arith, c .size-of-digits .ensures .1))
+sub-result c = minus-fits (c .size-from .result) (omega (arith, c .size-from .ensures .1))
 
 returns-2 : tie.Need-returns-2
 returns-2 c =
     let d = c .before .before in
     let xs = d .before .before .before .before .args .word .now in
-    minus (c .size-of-digits .result) (omega (arith, c .size-of-digits .ensures .1))
-    ∙ (ap (λ n. negℤ (pos n)) (c .size-of-digits .ensures .0) ∙ sym (whole-minus xs (omega arith) (d .if2 .taken)))
+    minus (c .size-from .result) (omega (arith, c .size-from .ensures .1))
+    ∙ (ap (λ n. negℤ (pos n)) (c .size-from .ensures .0) ∙ sym (whole-minus xs (omega arith) (d .if2 .taken)))
 
 returns-3 : tie.Need-returns-3
 returns-3 c =
     let d = c .before in
     let xs = d .before .before .before .before .args .word .now in
-    toZ-pos w64 (c .size-of-digits2 .result) (omega arith) ∙ (ap pos (c .size-of-digits2 .ensures .0) ∙ sym (whole-plain xs (omega arith) (d .if2 .left)))
+    toZ-pos w64 (c .size-from2 .result) (omega arith) ∙ (ap pos (c .size-from2 .ensures .0) ∙ sym (whole-plain xs (omega arith) (d .if2 .left)))
 
 pub number-of-spec : {M : Type 1} → statement M
 number-of-spec =

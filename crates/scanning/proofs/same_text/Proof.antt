@@ -3,11 +3,11 @@ use mathlib.Core.Path.{_≡_, refl, sym}
 use Prim.Native.Nat.{_-_, _≤_}
 use native.Mathlib.Omega.{arith}
 use lib.ListN.{length, drop}
-use Rattle.sheet.specs.Sheet.{sameText}
-use Rattle.sheet.proofs.Texts.{same-length, same-more, same-differs, same-end}
+use Rattle.scanning.specs.Parts.{sameText}
+use Rattle.scanning.proofs.Texts.{same-length, same-more, same-differs, same-end}
 use borrow.Author.Needs.{needs}
-use Rattle.sheet.proofs.same_text.Statement.{statement}
-use Rattle.sheet.proofs.same_text.Tie as tie
+use Rattle.scanning.proofs.same_text.Statement.{statement}
+use Rattle.scanning.proofs.same_text.Tie as tie
 
 abbrev Inv-loop : tie.InvT-loop
 Inv-loop a b n i₀ i = (i ≤ n) × ((n ≡ length a) × ((n ≡ length b) × (sameText a b ≡ sameText (drop i a) (drop i b))))
