@@ -1,10 +1,12 @@
-/* Doonamurk, a reserving engine: from one record of paid claims, exposures and assumptions to its result list for a valuation year.
+/* Doonamurk, a reserving engine: from one record of paid claims, exposures and assumptions to its result list for a valuation year; and from inflation rates to
+ * yearly indices.
  *
  * Link target/lib/libdoonamurk.a or libdoonamurk.so (bindings/build makes both; x86-64 Linux). docs/FORMAT.md has the record, the lists and the
  * questions.
  *
  * Of every function here:
- * - It answers 0, or the number of the first question that says no; then every lent buffer is left as it was.
+ * - It answers 0, or the number of the first question that says no; then every lent buffer is left as it was. flat, fading and shock are lent none: they hand
+ *   back the number and the indices by value.
  * - The caller owns every buffer. Nothing is allocated, kept or freed, and a buffer may be used anew as soon as the call has returned.
  * - Lengths count elements (bytes, 64-bit numbers), not bytes of memory. A pointer must be valid for its length and aligned for its type. None may be
  *   null, not even one of length 0: any non-null pointer will do for that.
@@ -12,6 +14,8 @@
  * - There is no global state: any number of threads may call at once, each with buffers of its own to fill; what is only read may be shared.
  *
  * The questions, asked in this order; the answer is the number of the first that says no:
+ *   20  Is every rate a number from -0.5 to 1.0, a shock's year among the years wanted, and their number from 1 to 16? (flat, fading, shock)
+ *   21  Is every index of a year wanted from 1 to 5,000,000? (flat, fading, shock)
  *    1  Is there a first byte, and is k at least 1? (write: is k from 1 to 15?)
  *    2  Is the length just what k calls for, and every filling bit zero? (write: has the buffer just the length that k calls for, and each list its own?)
  *    3  Does the list that is filled hold all entries? (run, read)
@@ -32,7 +36,8 @@
  *   16  From valuation year 2027 on: is the divisor of the ULAE ratio not 0?
  *   17  From valuation year 2027 on: is the corrected ULAE ratio at most 1,000,000?
  *   14  Is every completed cumulative at most 10^11?
- * run asks all of them, but 15 to 17 only from valuation year 2027 on; read asks 1 to 5, and write 1, 2, 4 and 5.
+ * run asks 1 to 19, but 15 to 17 only from valuation year 2027 on; read asks 1 to 5, and write 1, 2, 4 and 5. flat, fading and shock ask 20 and 21 and no
+ * other, for they come before a record is made.
  */
 #ifndef DOONAMURK_H
 #define DOONAMURK_H
@@ -51,6 +56,9 @@ extern "C" {
 #define DOONAMURK_RECORD_MAX 797
 #define DOONAMURK_FIELDS_MAX 203
 #define DOONAMURK_RESULTS_MAX 505
+
+/* The most years that a call of inflation rates may want. */
+#define DOONAMURK_YEARS_MAX 16
 
 /* For k from 1 to 15: the cells of the triangle, the bytes of the record, its fields, and the entries of the result list. */
 static inline size_t doonamurk_cells(size_t k) { return (k + 1) * (k + 2) / 2; }
@@ -151,6 +159,33 @@ uint64_t doonamurk_read(const uint8_t *record, size_t record_len, int64_t *list,
 uint64_t doonamurk_write(uint64_t k, const uint64_t *exposures, size_t n, const int64_t *increments, size_t c,
                          const uint64_t *indices, size_t e, const uint64_t *reporting, size_t b, uint64_t weight,
                          const uint64_t *ulae, size_t u, uint64_t tail, uint8_t *record, size_t record_len);
+
+/* What flat, fading and shock hand back. */
+typedef struct {
+    uint64_t refused;                     /* 0, or the first question that says no, 20 or 21 */
+    uint64_t values[DOONAMURK_YEARS_MAX]; /* the indices of years 1, 2, ... in millionths; zeros past the years wanted, or where refused is not 0 */
+} doonamurk_indices;
+
+/* From inflation rates to the indices of the years wanted, year 1 being the first: of one flat rate; of a rate that moves halfway each year toward a long-run
+ * rate; and of a shock rate in one named year, with another rate in the others.
+ *
+ * A path starts at 1.0 and is multiplied each year by 1.0 plus that year's rate. The fading rate of year 1 is the rate as sent, and each later one is
+ * long_run + 0.5 * (the rate of the year before - long_run). A year's index is the path times 1,000,000.0 as a whole number, halves up. Every operation is
+ * rounded to a 64-bit float by itself.
+ *
+ * Refused 20 where a rate is not a number or lies outside -0.5 to 1.0, one that no year uses too (the long-run rate of a single year, the other rate of a
+ * shock in the only year), where year is not from 1 to years, and where years is not from 1 to 16; then 21 where an index leaves 1 to 5,000,000. The limits are
+ * inside, and so is -0.0. The sixteen values are zeros on either.
+ *
+ * rate                 the flat rate; the rate of year 1; the rate of the shock: 0.02 is two percent
+ * long_run, other      the long-run rate; the rate of the years without the shock
+ * year                 the year of the shock, 1 to years
+ * years                how many years are wanted, 1 to 16
+ *
+ * Nothing is allocated, kept or freed; any number of threads may call at once. A thread's rounding must be to nearest, as it is where a program starts. */
+doonamurk_indices doonamurk_flat(double rate, uint64_t years);
+doonamurk_indices doonamurk_fading(double rate, double long_run, uint64_t years);
+doonamurk_indices doonamurk_shock(double rate, double other, uint64_t year, uint64_t years);
 
 #ifdef __cplusplus
 }

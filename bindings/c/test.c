@@ -1,5 +1,5 @@
-/* Tests the C functions on Taylor's motor account, on document 01's two years, also with payments after the last year and in other valuation years, on refusals,
- * and from several threads at once. Says which check fails, and ends with status 1. */
+/* Tests the C functions on Taylor's motor account, on document 01's two years, also with payments after the last year and in other valuation years, on
+ * inflation rates, on refusals, and from several threads at once. Says which check fails, and ends with status 1. */
 #include "doonamurk.h"
 
 #include <pthread.h>
@@ -318,10 +318,129 @@ static void refused_writes(void)
     check(answer == 4 && memcmp(record, before, sizeof record) == 0, "write refused 4: an amount still to be paid above 10^10");
 }
 
+enum shape { FLAT, FADING, SHOCK };
+
+/* A call of inflation rates; the second rate and the year are those that its shape has. */
+static doonamurk_indices indices_of(enum shape shape, double rate, double second, uint64_t year, uint64_t years)
+{
+    switch (shape) {
+    case FLAT:
+        return doonamurk_flat(rate, years);
+    case FADING:
+        return doonamurk_fading(rate, second, years);
+    default:
+        return doonamurk_shock(rate, second, year, years);
+    }
+}
+
+static int same(doonamurk_indices got, doonamurk_indices due) { return memcmp(&got, &due, sizeof got) == 0; }
+
+/* Refused, with sixteen zeros. */
+static int refused_rates(uint64_t number, doonamurk_indices got) { return same(got, (doonamurk_indices){number, {0}}); }
+
+/* Accepted, with 1,000,000 in each of the years wanted, and zeros past them. */
+static int millions(uint64_t years, doonamurk_indices got)
+{
+    doonamurk_indices due = {0, {0}};
+    for (uint64_t n = 0; n < years; n++)
+        due.values[n] = 1000000;
+    return same(got, due);
+}
+
+/* Worked values, and what question 21 says of them; a list that is given short ends in zeros. */
+static void worked_indices(void)
+{
+    static const struct { enum shape shape; double rate, second; uint64_t year, years; doonamurk_indices due; const char *what; } calls[] = {
+        {FLAT, 0.02, 0, 0, 4, {0, {1020000, 1040400, 1061208, 1082432}}, "a flat rate"},
+        {FADING, 0.07, 0.02, 0, 5, {0, {1070000, 1118150, 1154490, 1184795, 1212194}}, "a fading rate"},
+        {SHOCK, 0.1, 0.02, 3, 4, {0, {1020000, 1040400, 1144440, 1167329}}, "a shock"},
+        {FLAT, -0.5, 0, 0, 16, {0, {500000, 250000, 125000, 62500, 31250, 15625, 7813, 3906, 1953, 977, 488, 244, 122, 61, 31, 15}}, "half each year"},
+        {FLAT, 1.0, 0, 0, 2, {0, {2000000, 4000000}}, "twice each year"},
+        {FLAT, 1.0, 0, 0, 3, {21, {0}}, "refused 21: a flat rate"},
+        {FADING, 1.0, 1.0, 0, 3, {21, {0}}, "refused 21: a fading rate"},
+        {SHOCK, 1.0, 1.0, 3, 3, {21, {0}}, "refused 21: a shock"},
+        {SHOCK, 0.25, 1.0, 3, 3, {0, {2000000, 4000000, 5000000}}, "an index of 5,000,000"},
+        {SHOCK, 0.25000025, 1.0, 3, 3, {21, {0}}, "refused 21: an index of 5,000,001"},
+        {FLAT, 1.0, 0, 0, 17, {20, {0}}, "refused 20 before 21: too many years"},
+        {FADING, 1.0, 1.5, 0, 3, {20, {0}}, "refused 20 before 21: a rate above 1.0"},
+        {SHOCK, 1.0, 1.0, 4, 3, {20, {0}}, "refused 20 before 21: a shock after the last year"},
+    };
+    for (size_t i = 0; i < sizeof calls / sizeof *calls; i++)
+        check(same(indices_of(calls[i].shape, calls[i].rate, calls[i].second, calls[i].year, calls[i].years), calls[i].due), calls[i].what);
+}
+
+static double of_bits(uint64_t bits)
+{
+    double value;
+    memcpy(&value, &bits, sizeof value);
+    return value;
+}
+
+/* Each rate in each place of each call; for one year, and for a shock in the only one, the second rate is not used. */
+static void rates(void)
+{
+    static const uint64_t outside[] = {
+        0x7ff8000000000000, 0xfff8000000000000, 0x7fffffffffffffff, /* not a number: quiet, negative, of all bits */
+        0x7ff0000000000001, 0xfff0000000000001, 0x7ff7ffffffffffff, /* signalling, negative, of all bits */
+        0x7ff0000000000000, 0xfff0000000000000,                     /* the infinities */
+        0x3ff0000000000001, 0xbfe0000000000001,                     /* the neighbours of 1.0 and -0.5 */
+        0x7fefffffffffffff, 0xffefffffffffffff,                     /* the largest in size */
+    };
+    /* 0.0 and -0.0, the least in size, the largest subnormal and the least above it, each of both signs */
+    static const uint64_t nothing[] = {0, 1, 0x000fffffffffffff, 0x0010000000000000};
+    /* the limits, and their neighbours inside */
+    static const uint64_t limits[] = {0x3ff0000000000000, 0xbfe0000000000000, 0x3fefffffffffffff, 0xbfdfffffffffffff};
+    static const uint64_t wanted[] = {1, 2, DOONAMURK_YEARS_MAX};
+    for (size_t y = 0; y < sizeof wanted / sizeof *wanted; y++) {
+        uint64_t years = wanted[y];
+        for (enum shape shape = FLAT; shape <= SHOCK; shape++) {
+            for (size_t i = 0; i < sizeof outside / sizeof *outside; i++) {
+                double bad = of_bits(outside[i]);
+                check(refused_rates(20, indices_of(shape, bad, 0.0, years, years)), "refused 20: a rate outside");
+                check(shape == FLAT || refused_rates(20, indices_of(shape, 0.0, bad, years, years)), "refused 20: a second rate outside");
+                check(shape == FLAT || refused_rates(20, indices_of(shape, bad, bad, years, years)), "refused 20: both rates outside");
+            }
+            for (size_t i = 0; i < 2 * (sizeof nothing / sizeof *nothing); i++) {
+                double zero = of_bits(nothing[i / 2] | (uint64_t)(i % 2) << 63);
+                check(millions(years, indices_of(shape, zero, 0.0, years, years)), "a rate of nothing");
+                check(millions(years, indices_of(shape, 0.0, zero, years, years)), "a second rate of nothing");
+                check(millions(years, indices_of(shape, zero, zero, years, years)), "rates of nothing");
+            }
+        }
+    }
+    for (size_t i = 0; i < sizeof limits / sizeof *limits; i++) {
+        double limit = of_bits(limits[i]);
+        for (enum shape shape = FLAT; shape <= SHOCK; shape++) {
+            check(indices_of(shape, limit, 0.0, 1, 2).refused == 0, "a rate at a limit");
+            check(indices_of(shape, 0.0, limit, 1, 2).refused == 0, "a second rate at a limit");
+            check(indices_of(shape, limit, limit, 1, 2).refused == 0, "rates at a limit");
+        }
+    }
+}
+
+/* How many years are wanted, and the year of a shock; also numbers whose low 32 bits would be accepted. */
+static void years_wanted(void)
+{
+    static const uint64_t outside[] = {0, DOONAMURK_YEARS_MAX + 1, ((uint64_t)1 << 32) + 1, (uint64_t)1 << 63, UINT64_MAX};
+    for (enum shape shape = FLAT; shape <= SHOCK; shape++)
+        for (size_t i = 0; i < sizeof outside / sizeof *outside; i++)
+            check(refused_rates(20, indices_of(shape, 0.0, 0.0, 1, outside[i])), "refused 20: so many years");
+    for (uint64_t years = 1; years <= DOONAMURK_YEARS_MAX; years++) {
+        check(millions(years, doonamurk_flat(0.0, years)), "years of a flat rate");
+        check(millions(years, doonamurk_fading(0.0, 0.0, years)), "years of a fading rate");
+        for (uint64_t year = 0; year <= DOONAMURK_YEARS_MAX + 1; year++) {
+            doonamurk_indices got = doonamurk_shock(0.0, 0.0, year, years);
+            check(year >= 1 && year <= years ? millions(years, got) : refused_rates(20, got), "the year of a shock");
+        }
+        for (size_t i = 2; i < sizeof outside / sizeof *outside; i++)
+            check(refused_rates(20, doonamurk_shock(0.0, 0.0, outside[i], years)), "refused 20: a shock in a year far off");
+    }
+}
+
 #define THREADS 4
 #define RUNS 2000
 
-/* What a thread is given and hands back: the record and the list are shared and only read, the count of lists that differ is its own. */
+/* What a thread is given and hands back: the record and the list are shared and only read, the count of lists and indices that differ is its own. */
 struct work {
     const uint8_t *record;
     const int64_t *expected;
@@ -337,6 +456,8 @@ static void *run_many(void *given)
         fill(results, DOONAMURK_RESULTS_MAX);
         uint64_t answer = doonamurk_run(2026, work->record, doonamurk_record_bytes(MOTOR_K), results, DOONAMURK_RESULTS_MAX);
         if (answer != 0 || memcmp(results, work->expected, count * sizeof *results) != 0 || !filled(results, count, DOONAMURK_RESULTS_MAX))
+            work->different++;
+        if (!same(doonamurk_shock(0.1, 0.02, 3, 4), (doonamurk_indices){0, {1020000, 1040400, 1144440, 1167329}}))
             work->different++;
     }
     return NULL;
@@ -360,7 +481,7 @@ static void threads(void)
     check(started == THREADS, "every thread starts");
     for (int n = 0; n < started; n++) {
         pthread_join(thread[n], NULL);
-        check(work[n].different == 0, "threads that run at once have the same list");
+        check(work[n].different == 0, "threads that run at once have the same list and the same indices");
     }
 }
 
@@ -378,6 +499,9 @@ int main(void)
     solutions();
     growth_refusals();
     refused_writes();
+    worked_indices();
+    rates();
+    years_wanted();
     threads();
     return failures != 0;
 }

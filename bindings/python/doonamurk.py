@@ -1,8 +1,10 @@
-"""Calls the proved reserving engine from Python: run, read and write, over the shared library that bindings/build makes.
+"""Calls the proved reserving engine from Python: run, read and write, and flat, fading and shock for indices of inflation rates, over the shared library that
+bindings/build makes.
 
     import doonamurk
     results = doonamurk.run(open("examples/motor_account.rec", "rb").read(), year=2026)
     doonamurk.sections(results)["provisions"]        {0: 0, 1: 52, 2: 166, 3: 542}, by origin year
+    doonamurk.flat(0.02, 4)                          [1020000, 1040400, 1061208, 1082432], years 1 to 4 in millionths
 
 A refusal is raised as Refused, with the number of the first question that says no. docs/FORMAT.md has the record, the lists and the questions.
 
@@ -24,9 +26,12 @@ K_MAX = 15
 RECORD_MAX = 797
 FIELDS_MAX = 203
 RESULTS_MAX = 505
+YEARS_MAX = 16
 
-# In the order in which they are asked.
+# In the order in which they are asked: 20 and 21 of rates only, which come before a record is made.
 QUESTIONS = {
+    20: "Is every rate a number from -0.5 to 1.0, a shock's year among the years wanted, and their number from 1 to 16?",
+    21: "Is every index of a year wanted from 1 to 5,000,000?",
     1: "Is there a first byte, and is k at least 1?",
     2: "Is the length just what k calls for, and every filling bit zero?",
     3: "Does the list hold all entries?",
@@ -137,6 +142,12 @@ def sections(results):
     return named
 
 
+class _Indices(ctypes.Structure):
+    """What flat, fading and shock of the library hand back by value: zeros past the years wanted, or on a refusal."""
+
+    _fields_ = [("refused", ctypes.c_uint64), ("values", ctypes.c_uint64 * YEARS_MAX)]
+
+
 def _load():
     path = os.environ.get("DOONAMURK_LIBRARY")
     # A name without a folder would be looked for in the folders of the system, so the path is made absolute.
@@ -153,6 +164,10 @@ def _load():
     library.doonamurk_write.argtypes = [
         ctypes.c_uint64, list_, size, signed_list, size, list_, size, list_, size, ctypes.c_uint64, list_, size, ctypes.c_uint64, byte_list, size
     ]
+    library.doonamurk_flat.restype = library.doonamurk_fading.restype = library.doonamurk_shock.restype = _Indices
+    library.doonamurk_flat.argtypes = [ctypes.c_double, ctypes.c_uint64]
+    library.doonamurk_fading.argtypes = [ctypes.c_double, ctypes.c_double, ctypes.c_uint64]
+    library.doonamurk_shock.argtypes = [ctypes.c_double, ctypes.c_double, ctypes.c_uint64, ctypes.c_uint64]
     return library
 
 
@@ -182,15 +197,15 @@ def _filled(call, record, count_of):
     return list(entries)
 
 
-def _year_of(year):
-    """The valuation year as a whole number that 64 bits hold; ctypes would cut any other."""
+def _years_of(name, years):
+    """A year, or a number of years, as a whole number that 64 bits hold; ctypes would cut any other."""
     try:
-        year = operator.index(year)
+        years = operator.index(years)
     except TypeError:
-        raise TypeError(f"year: a whole number is due, not {type(year).__name__}") from None
-    if not 0 <= year < 2**64:
-        raise ValueError(f"year: {year} is not from 0 to 2^64 - 1")
-    return year
+        raise TypeError(f"{name}: a whole number is due, not {type(years).__name__}") from None
+    if not 0 <= years < 2**64:
+        raise ValueError(f"{name}: {years} is not from 0 to 2^64 - 1")
+    return years
 
 
 def run(record, year):
@@ -201,7 +216,7 @@ def run(record, year):
     memory of single bytes.
     Ownership: the record is copied in and not changed or kept; the list is a new one, the caller's.
     Threads: any number may call at once, with the same record too."""
-    year = _year_of(year)
+    year = _years_of("year", year)
     return _filled(lambda *buffers: _library.doonamurk_run(year, *buffers), record, result_count)
 
 
@@ -249,3 +264,48 @@ def write(k, exposures, increments, indices, reporting, weight, ulae, tail):
     if number:
         raise Refused(number, WRITE_QUESTIONS[number])
     return bytes(record)
+
+
+def _rate_of(name, rate):
+    """A rate as a float, which has the 64 bits that are due; another number is rounded to one. A text is no number, so float() will not do: it reads one."""
+    try:
+        return ctypes.c_double(rate).value
+    except TypeError:
+        raise TypeError(f"{name}: a number is due, not {type(rate).__name__}") from None
+    except OverflowError:
+        raise OverflowError(f"{name}: the number is too large for a float") from None
+
+
+def _wanted(call, *arguments):
+    """The indices that a call hands back, of just the years wanted, which are its last argument."""
+    indices = call(*arguments)
+    if indices.refused:
+        raise Refused(indices.refused, QUESTIONS[indices.refused])
+    return indices.values[: arguments[-1]]
+
+
+def flat(rate, years):
+    """The indices of one flat rate in years 1 to `years`, in millionths: a list of whole numbers. A rate of 0.02 is two percent.
+
+    A path starts at 1.0 and is multiplied each year by 1.0 plus that year's rate; a year's index is the path times 1,000,000.0 as a whole number, halves up.
+    Every operation is rounded to a float by itself.
+
+    Refusals: raises Refused with 20 where a rate is not a number or lies outside -0.5 to 1.0, one that no year uses too, or where `years` is not from 1 to
+    16; then with 21 where an index leaves 1 to 5,000,000. The limits are inside, and so is -0.0. Raises TypeError for a rate that is of no numeric type or
+    years that are of no whole one, ValueError for years that are not from 0 to 2^64 - 1, and OverflowError for a rate too large for a float; all of them name
+    the argument.
+    Ownership: nothing is kept; the list is a new one, the caller's.
+    Threads: any number may call at once."""
+    return _wanted(_library.doonamurk_flat, _rate_of("rate", rate), _years_of("years", years))
+
+
+def fading(rate, long_run, years):
+    """The indices of a rate that moves halfway each year toward a long-run rate: `rate` in year 1, and in each later one
+    long_run + 0.5 * (the rate of the year before - long_run). Else as flat; `long_run` is asked about for a single year too."""
+    return _wanted(_library.doonamurk_fading, _rate_of("rate", rate), _rate_of("long_run", long_run), _years_of("years", years))
+
+
+def shock(rate, other, year, years):
+    """The indices of a shock, `rate` in the one named `year`, the first being year 1, with the rate `other` in the others. Else as flat; refused with 20 too
+    where `year` is not from 1 to `years`, and `other` is asked about where the shock is in the only year too."""
+    return _wanted(_library.doonamurk_shock, _rate_of("rate", rate), _rate_of("other", other), _years_of("year", year), _years_of("years", years))

@@ -1,4 +1,5 @@
-"""Taylor's motor account, document 01's two years, payments after the last year, valuation years, refusals, and the way from fields to a record and back.
+"""Taylor's motor account, document 01's two years, payments after the last year, valuation years, refusals, the way from fields to a record and back, and
+indices of inflation rates.
 
     python3 -m unittest discover bindings/python
 """
@@ -6,9 +7,13 @@
 import array
 import copy
 import ctypes
+import decimal
+import fractions
+import math
 import multiprocessing
 import os
 import pickle
+import struct
 import subprocess
 import sys
 import threading
@@ -201,7 +206,7 @@ class Calls(unittest.TestCase):
             record = doonamurk.write(**three_years, increments=increments)
             for year in (2026, 2027):
                 self.refused(number, doonamurk.run, record, year)
-        order = [1, 2, 3, 4, 5, 6, 13, 7, 8, 9, 10, 18, 19, 11, 12, 15, 16, 17, 14]
+        order = [20, 21, 1, 2, 3, 4, 5, 6, 13, 7, 8, 9, 10, 18, 19, 11, 12, 15, 16, 17, 14]
         self.assertEqual((list(doonamurk.QUESTIONS), list(doonamurk.WRITE_QUESTIONS)), (order, order))
 
     def test_triangles_without_the_solution_that_the_method_needs(self):
@@ -302,6 +307,127 @@ class Calls(unittest.TestCase):
         for thread in threads:
             thread.join()
         self.assertEqual(wrong, [])
+
+
+def of_bits(bits):
+    """The float of 64 bits."""
+    return struct.unpack("<d", struct.pack("<Q", bits))[0]
+
+
+# A rate in each of its places in each call, 0.0 in the others. For one year, and for a shock in the only one, the second rate is not used.
+PLACES = (
+    ("flat", lambda rate, years: (rate, years)),
+    ("fading", lambda rate, years: (rate, 0.0, years)),
+    ("fading", lambda rate, years: (0.0, rate, years)),
+    ("shock", lambda rate, years: (rate, 0.0, years, years)),
+    ("shock", lambda rate, years: (0.0, rate, years, years)),
+)
+
+
+class Inflation(unittest.TestCase):
+    def called(self, name, *arguments):
+        """What a call gives: its list, or the number of the refusal. The library's own has the same, and sixteen values always: zeros past them."""
+        got = getattr(doonamurk._library, "doonamurk_" + name)(*arguments)
+        try:
+            values = getattr(doonamurk, name)(*arguments)
+        except doonamurk.Refused as refusal:
+            self.assertEqual(refusal.question, doonamurk.QUESTIONS[refusal.number])
+            self.assertEqual((got.refused, list(got.values)), (refusal.number, [0] * 16))
+            return refusal.number
+        self.assertEqual((got.refused, list(got.values)), (0, values + [0] * (16 - arguments[-1])))
+        return values
+
+    def test_worked_indices(self):
+        for due, call in (
+            ([1020000, 1040400, 1061208, 1082432], ("flat", 0.02, 4)),
+            ([1070000, 1118150, 1154490, 1184795, 1212194], ("fading", 0.07, 0.02, 5)),
+            ([1020000, 1040400, 1144440, 1167329], ("shock", 0.1, 0.02, 3, 4)),
+            ([500000, 250000, 125000, 62500, 31250, 15625, 7813, 3906, 1953, 977, 488, 244, 122, 61, 31, 15], ("flat", -0.5, 16)),
+            ([1000000] * 16, ("flat", 0.0, 16)),
+            ([2000000, 4000000], ("flat", 1.0, 2)),
+            (21, ("flat", 1.0, 3)),
+            (21, ("fading", 1.0, 1.0, 3)),
+            ([2000000, 4000000, 5000000], ("shock", 0.25, 1.0, 3, 3)),
+            (21, ("shock", 0.25000025, 1.0, 3, 3)),
+        ):
+            self.assertEqual(self.called(*call), due)
+
+    def test_question_20_comes_before_21(self):
+        for call in (("flat", 1.0, 17), ("fading", 1.0, math.nan, 3), ("fading", 1.0, 1.5, 3), ("shock", 1.0, 1.0, 0, 3), ("shock", 1.0, 1.0, 4, 3)):
+            self.assertEqual(self.called(*call), 20)
+
+    def test_rates_outside_are_refused_used_or_not(self):
+        """NaNs quiet and signalling, of both signs and of all bits; the infinities; the neighbours of 1.0 and -0.5; the largest float."""
+        outside = [math.nan, -math.nan, math.inf, -math.inf, sys.float_info.max, -sys.float_info.max]
+        outside += map(of_bits, (0x7FF8 << 48, 0xFFF8 << 48, (0x7FF0 << 48) + 1, (0xFFF0 << 48) + 1, 2**63 - 1, 2**64 - 1))
+        outside += map(of_bits, ((0x3FF0 << 48) + 1, (0xBFE0 << 48) + 1))
+        for rate in outside:
+            for name, arguments in PLACES:
+                for years in (1, 2, 16):
+                    self.assertEqual(self.called(name, *arguments(rate, years)), 20)
+
+    def test_zeros_and_the_least_rates_change_no_year(self):
+        for rate in (0.0, -0.0, 5e-324, -5e-324, sys.float_info.min, -sys.float_info.min):
+            for name, arguments in PLACES:
+                for years in range(1, 17):
+                    self.assertEqual(self.called(name, *arguments(rate, years)), [1000000] * years)
+
+    def test_limits_of_a_rate_are_inside(self):
+        for rate in (1.0, -0.5, of_bits((0x3FF0 << 48) - 1), of_bits((0xBFE0 << 48) - 1)):
+            for name, arguments in PLACES:
+                for years in (1, 2):
+                    self.assertEqual(len(self.called(name, *arguments(rate, years))), years)
+
+    def test_years_wanted_and_the_year_of_a_shock(self):
+        for years in (0, 17, 2**32 + 1, 2**64 - 1):
+            for name, arguments in PLACES:
+                self.assertEqual(self.called(name, *arguments(0.0, years)), 20)
+            self.assertEqual(self.called("shock", 0.0, 0.0, 1, years), 20)
+        for years in range(1, 17):
+            for year in (*range(18), 2**32 + 1, 2**64 - 1):
+                self.assertEqual(self.called("shock", 0.0, 0.0, year, years), [1000000] * years if 1 <= year <= years else 20)
+
+    def test_numbers_past_64_bits_are_not_cut(self):
+        for years in (-1, 2**64 + 1, -(2**64) + 1):
+            for call in (lambda: doonamurk.flat(0.0, years), lambda: doonamurk.fading(0.0, 0.0, years), lambda: doonamurk.shock(0.0, 0.0, 1, years)):
+                with self.assertRaisesRegex(ValueError, f"^years: {years} is not from 0 to 2\\^64 - 1$"):
+                    call()
+            with self.assertRaisesRegex(ValueError, f"^year: {years} is not from 0 to 2\\^64 - 1$"):
+                doonamurk.shock(0.0, 0.0, years, 1)
+        with self.assertRaisesRegex(OverflowError, "^rate: "):
+            doonamurk.flat(10**400, 1)
+
+    def test_what_a_rate_and_years_may_be(self):
+        for rate in (1, True, fractions.Fraction(1), decimal.Decimal(1)):
+            self.assertEqual(doonamurk.flat(rate, 2), [2000000, 4000000])
+        for name, call in (
+            ("rate", lambda wrong: doonamurk.flat(wrong, 1)),
+            ("long_run", lambda wrong: doonamurk.fading(0.0, wrong, 1)),
+            ("other", lambda wrong: doonamurk.shock(0.0, wrong, 1, 1)),
+        ):
+            for wrong in ("0.02", b"0.02", None, [0.02], 0.02j):
+                with self.assertRaisesRegex(TypeError, f"^{name}: a number is due, not {type(wrong).__name__}$"):
+                    call(wrong)
+        for name, call in (
+            ("years", lambda wrong: doonamurk.flat(0.0, wrong)),
+            ("years", lambda wrong: doonamurk.fading(0.0, 0.0, wrong)),
+            ("year", lambda wrong: doonamurk.shock(0.0, 0.0, wrong, 1)),
+            ("years", lambda wrong: doonamurk.shock(0.0, 0.0, 1, wrong)),
+        ):
+            for wrong in (1.0, "1", None):
+                with self.assertRaisesRegex(TypeError, f"^{name}: a whole number is due, not {type(wrong).__name__}$"):
+                    call(wrong)
+
+    def test_a_refusal_says_its_question(self):
+        with self.assertRaises(doonamurk.Refused) as caught:
+            doonamurk.flat(1.0, 3)
+        self.assertEqual(str(caught.exception), "refused 21: Is every index of a year wanted from 1 to 5,000,000?")
+        with self.assertRaises(doonamurk.Refused) as caught:
+            doonamurk.shock(0.0, math.nan, 1, 1)
+        self.assertEqual(
+            str(caught.exception),
+            "refused 20: Is every rate a number from -0.5 to 1.0, a shock's year among the years wanted, and their number from 1 to 16?",
+        )
 
 
 if __name__ == "__main__":

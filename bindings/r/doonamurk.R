@@ -1,10 +1,12 @@
 # Calls the proved reserving engine from R: doonamurk_run gives the result list of a record for a valuation year, doonamurk_sections its sections by name,
-# doonamurk_read the fields of a record, and doonamurk_write makes a record of figures.
+# doonamurk_read the fields of a record, and doonamurk_write makes a record of figures. doonamurk_flat, doonamurk_fading and doonamurk_shock make yearly indices
+# of inflation rates.
 #
 #     source("bindings/r/doonamurk.R")
 #     doonamurk_load("target/lib/doonamurk_r.so")
 #     f <- "examples/motor_account.rec"
 #     doonamurk_run(readBin(f, "raw", file.size(f)), year = 2026)     all of the file: cut short, a file that is too long could pass for a record
+#     doonamurk_flat(0.02, 4)                                         1020000 1040400 1061208 1082432, years 1 to 4 in millionths
 #
 # The library is made by bindings/test, or by hand after bindings/build:
 #
@@ -13,8 +15,10 @@
 # A refusal is an R error of class "doonamurk_refused" with the number of the first question that says no. The record, the lists and the questions are
 # in docs/FORMAT.md.
 
-# By their numbers, in the order in which they are asked.
+# By their numbers, in the order in which they are asked: 20 and 21 of rates only, which come before a record is made.
 doonamurk_questions <- c(
+  "20" = "Is every rate a number from -0.5 to 1.0, a shock's year among the years wanted, and their number from 1 to 16?",
+  "21" = "Is every index of a year wanted from 1 to 5,000,000?",
   "1" = "Is there a first byte, and is k at least 1?",
   "2" = "Is the length just what k calls for, and every filling bit zero?",
   "3" = "Does the list hold all entries?",
@@ -37,7 +41,7 @@ doonamurk_questions <- c(
 )
 
 # The writer asks these two otherwise.
-doonamurk_write_questions <- replace(doonamurk_questions, 1:2, c(
+doonamurk_write_questions <- replace(doonamurk_questions, c("1", "2"), c(
   "Is k from 1 to 15?",
   "Has the buffer just the length that k calls for, and each list its own?"
 ))
@@ -78,8 +82,7 @@ doonamurk_filled <- function(name, record, count, ...) {
 # Ownership: the record is copied in and not changed or kept; the list is a new vector.
 # Threads: the engine could be called from many at once, but R calls from its one thread; for more cores start more R processes.
 doonamurk_run <- function(record, year) {
-  if (length(year) != 1) stop("year: one number is due", call. = FALSE)
-  year <- doonamurk_whole("year", year)
+  year <- doonamurk_years("year", year)
   k <- doonamurk_k(record)
   doonamurk_filled("doonamurk_r_run", record, 3 * doonamurk_cells(k) + 6 * k + 7, year)
 }
@@ -163,4 +166,51 @@ doonamurk_write <- function(exposures, paid, indices, reporting, weight, ulae, t
   if (out$answer < 0) stop("there is no memory for the lists")
   if (out$answer > 0) stop(doonamurk_refused(out$answer, doonamurk_write_questions))
   out$record
+}
+
+# One rate as a double, NA_real_ and NaN too: question 20 is the engine's to ask. A vector of another type or length is an error that names the argument.
+doonamurk_rate <- function(name, rate) {
+  if (!is.numeric(rate) || length(rate) != 1) stop(name, ": one number is due", call. = FALSE)
+  as.double(rate)
+}
+
+# A year, or a number of years, as a double.
+doonamurk_years <- function(name, years) {
+  if (length(years) != 1) stop(name, ": one number is due", call. = FALSE)
+  doonamurk_whole(name, years)
+}
+
+# Calls a function of the glue with its rates, a shock's year and the years wanted, and gives the indices of just those. NAOK, for R would stop at a rate that
+# is no number or not finite by itself.
+doonamurk_wanted <- function(name, ..., years) {
+  out <- .C(name, ..., years, values = double(16), answer = 0L, NAOK = TRUE)
+  if (out$answer < 0) stop("an index is past 2^53")
+  if (out$answer > 0) stop(doonamurk_refused(out$answer))
+  out$values[seq_len(years)]
+}
+
+# The indices of one flat rate in years 1 to `years`, in millionths; a rate of 0.02 is two percent. A path starts at 1.0 and is multiplied each year by 1.0 plus
+# that year's rate; a year's index is the path times 1,000,000.0 as a whole number, halves up. Every operation is rounded to a double by itself.
+# Refusals: an error of class "doonamurk_refused" whose number is 20 where a rate is NA, NaN or outside -0.5 to 1.0, one that no year uses too, or where
+# `years` is not from 1 to 16; then 21 where an index leaves 1 to 5,000,000. The limits are inside, and so is -0.0. A rate of no numeric type, years that are
+# not a whole number from 0 to 2^53, and vectors of another length than 1 are plain errors that name the argument.
+# Ownership: nothing is kept; the indices are a new vector.
+# Threads: as above.
+doonamurk_flat <- function(rate, years) {
+  doonamurk_wanted("doonamurk_r_flat", doonamurk_rate("rate", rate), years = doonamurk_years("years", years))
+}
+
+# The indices of a rate that moves halfway each year toward a long-run rate: `rate` in year 1, and in each later one
+# long_run + 0.5 * (the rate of the year before - long_run). Else as above; `long_run` is asked about for a single year too.
+doonamurk_fading <- function(rate, long_run, years) {
+  doonamurk_wanted("doonamurk_r_fading", doonamurk_rate("rate", rate), doonamurk_rate("long_run", long_run), years = doonamurk_years("years", years))
+}
+
+# The indices of a shock, `rate` in the one named `year`, the first being year 1, with the rate `other` in the others. Else as above; refused with 20 too where
+# `year` is not from 1 to `years`, and `other` is asked about where the shock is in the only year too.
+doonamurk_shock <- function(rate, other, year, years) {
+  doonamurk_wanted(
+    "doonamurk_r_shock", doonamurk_rate("rate", rate), doonamurk_rate("other", other), doonamurk_years("year", year),
+    years = doonamurk_years("years", years)
+  )
 }

@@ -1,7 +1,7 @@
-/* What R's .C can call: R has no 64-bit whole numbers and passes everything by reference, so results and the valuation year are doubles and counts ints.
+/* What R's .C can call: R has no 64-bit whole numbers and passes everything by reference, so results, indices and years are doubles and counts ints.
  *
  * Every result is far below 2^53 (the largest, a total of provisions, is below 2^44), so a double holds it exactly; fits() checks it all the same,
- * and the answer is then -1. A refused call leaves R's vectors as they were.
+ * and the answer is then -1. A refused run, read or write leaves R's vectors as they were.
  *
  * Threads: nothing here is shared or kept between calls, so any number could call at once; R itself calls from one thread only. R owns every vector. */
 #include "../c/doonamurk.h"
@@ -78,4 +78,31 @@ void doonamurk_r_write(const double *k, const double *numbers, const int *counts
     free(b);
     free(u);
     free(p);
+}
+
+/* Hands out all sixteen indices, as the engine does: zeros past the years wanted, or on a refusal. Its answer is 0, 20 or 21, or -1 as above. */
+static int hand_out_indices(doonamurk_indices indices, double *out)
+{
+    for (size_t i = 0; i < DOONAMURK_YEARS_MAX; i++) {
+        if (indices.values[i] > (uint64_t)1 << 53)
+            return -1;
+        out[i] = (double)indices.values[i];
+    }
+    return (int)indices.refused;
+}
+
+/* The indices of rates, which may be any doubles, in *years years; that and the year of a shock are whole and from 0 to 2^53. values has 16 doubles. */
+void doonamurk_r_flat(const double *rate, const double *years, double *values, int *answer)
+{
+    *answer = hand_out_indices(doonamurk_flat(*rate, (uint64_t)*years), values);
+}
+
+void doonamurk_r_fading(const double *rate, const double *long_run, const double *years, double *values, int *answer)
+{
+    *answer = hand_out_indices(doonamurk_fading(*rate, *long_run, (uint64_t)*years), values);
+}
+
+void doonamurk_r_shock(const double *rate, const double *other, const double *year, const double *years, double *values, int *answer)
+{
+    *answer = hand_out_indices(doonamurk_shock(*rate, *other, (uint64_t)*year, (uint64_t)*years), values);
 }

@@ -1,5 +1,5 @@
-# Taylor's motor account, document 01's two years, payments after the last year, valuation years and refusals. From the repository's root, after bindings/build
-# and with the glue compiled:
+# Taylor's motor account, document 01's two years, payments after the last year, valuation years, refusals, and indices of inflation rates. From the
+# repository's root, after bindings/build and with the glue compiled:
 #
 #     Rscript bindings/r/test.R
 #
@@ -135,7 +135,8 @@ stopifnot(
   refused(doonamurk_run(two_years_paid(c(0, -1, 66)), 2026)) == 6,
   vapply(c(2026, 2027), function(year) refused(doonamurk_run(three_years_paid(c(0, 5000, 999999)), year)), 0) == 13,
   vapply(c(2026, 2027), function(year) refused(doonamurk_run(three_years_paid(c(5000, 45000, 2000000)), year)), 0) == 9,
-  names(doonamurk_questions) == c(1:6, 13, 7:10, 18, 19, 11, 12, 15:17, 14)
+  names(doonamurk_questions) == c(20, 21, 1:6, 13, 7:10, 18, 19, 11, 12, 15:17, 14),
+  names(doonamurk_write_questions) == names(doonamurk_questions)
 )
 
 # Refused 8: no exact solution, many, and exactly one, whose shares are -1, 0, 2. Accepted: the products of shares 3/5, 2/5 and levels 100, 200.
@@ -181,3 +182,73 @@ stopifnot(
 )
 words <- tryCatch(write_motor(paid_ = matrix(5, 1, 1)), doonamurk_refused = conditionMessage)
 stopifnot(words == "refused 1: Is k from 1 to 15?")
+
+# Indices of inflation rates: those of the years wanted, or the number of a refusal. The glue's own call has the same, and sixteen values always, zeros past
+# those.
+indexed <- function(name, ...) {
+  given <- lapply(list(...), as.double)
+  values <- tryCatch(do.call(paste0("doonamurk_", name), given), doonamurk_refused = function(refusal) refusal$number)
+  number <- if (is.integer(values)) values else 0L
+  out <- do.call(.C, c(paste0("doonamurk_r_", name), given, list(values = rep(-7, 16), answer = -7L, NAOK = TRUE)))
+  stopifnot(identical(out$answer, number), identical(out$values, if (number != 0) double(16) else c(values, double(16 - length(values)))))
+  values
+}
+stopifnot(
+  identical(indexed("flat", 0.02, 4), c(1020000, 1040400, 1061208, 1082432)),
+  identical(indexed("fading", 0.07, 0.02, 5), c(1070000, 1118150, 1154490, 1184795, 1212194)),
+  identical(indexed("shock", 0.1, 0.02, 3, 4), c(1020000, 1040400, 1144440, 1167329)),
+  identical(indexed("flat", -0.5, 16), c(500000, 250000, 125000, 62500, 31250, 15625, 7813, 3906, 1953, 977, 488, 244, 122, 61, 31, 15)),
+  identical(indexed("flat", 0, 16), rep(1000000, 16)),
+  identical(indexed("flat", 1, 2), c(2000000, 4000000)),
+  identical(indexed("shock", 0.25, 1, 3, 3), c(2000000, 4000000, 5000000)),
+  identical(c(indexed("flat", 1, 3), indexed("fading", 1, 1, 3), indexed("shock", 0.25000025, 1, 3, 3)), rep(21L, 3)),
+  # 20 before 21
+  identical(c(indexed("flat", 1, 17), indexed("fading", 1, NaN, 3), indexed("shock", 1, 1, 0, 3), indexed("shock", 1, 1, 4, 3)), rep(20L, 4))
+)
+
+# A rate in each of its places in each call, 0 in the others. For one year, and for a shock in the only one, the second rate is not used.
+in_each_place <- function(rate, years) {
+  list(
+    indexed("flat", rate, years), indexed("fading", rate, 0, years), indexed("fading", 0, rate, years),
+    indexed("shock", rate, 0, years, years), indexed("shock", 0, rate, years, years)
+  )
+}
+all_are <- function(rates, wanted, due) {
+  for (rate in rates) for (years in wanted) stopifnot(identical(in_each_place(rate, years), rep(list(due(years)), 5)))
+}
+# Signalling NaNs and negative ones by their bytes; NA_real_ is a NaN too. Then the infinities, and the neighbours of 1 and -0.5.
+by_bytes <- function(...) readBin(as.raw(c(...)), "double", endian = "big")
+not_numbers <- list(
+  NaN, NA_real_, by_bytes(0x7f, 0xf8, 0, 0, 0, 0, 0, 0), by_bytes(0xff, 0xf8, 0, 0, 0, 0, 0, 0), by_bytes(0x7f, 0xf0, 0, 0, 0, 0, 0, 1),
+  by_bytes(0xff, 0xf0, 0, 0, 0, 0, 0, 1), by_bytes(0x7f, rep(0xff, 7))
+)
+stopifnot(is.nan(1 + not_numbers[[5]]), 1 + 2^-52 > 1, -0.5 - 2^-53 < -0.5, 2^-1074 > 0)
+all_are(not_numbers, c(1, 2, 16), function(years) 20L)
+all_are(c(Inf, -Inf, 1 + 2^-52, -0.5 - 2^-53, .Machine$double.xmax, -.Machine$double.xmax), c(1, 2, 16), function(years) 20L)
+# Zeros of both signs and the least rates change no year; the limits and their neighbours inside are accepted.
+all_are(c(0, -0, 2^-1074, -2^-1074, 2^-1022, -2^-1022), 1:16, function(years) rep(1000000, years))
+for (rate in c(1, -0.5, 1 - 2^-53, -0.5 + 2^-54)) for (years in 1:2) {
+  stopifnot(vapply(in_each_place(rate, years), is.double, TRUE), lengths(in_each_place(rate, years)) == years)
+}
+# Years wanted and the year of a shock; 2^53 is the last that R can hand over, and 2^64 - 1 is none.
+all_are(0, c(0, 17, 2^32 + 1, 2^53), function(years) 20L)
+for (years in 1:16) for (year in c(0:17, 2^32 + 1, 2^53)) {
+  stopifnot(identical(indexed("shock", 0, 0, year, years), if (year >= 1 && year <= years) rep(1000000, years) else 20L))
+}
+wrong_years <- list(-1, 1.5, 2^54, 2^64 - 1, NA, NaN, Inf, "1")
+wrong_rates <- list("0.02", NA, NULL, numeric(0), c(0, 0), TRUE)
+stopifnot(
+  grepl("^years: whole numbers from 0 to 2\\^53 are due", vapply(wrong_years, function(years) says(doonamurk_flat(0, years)), "")),
+  grepl("^years: whole numbers from 0 to 2\\^53 are due", vapply(wrong_years, function(years) says(doonamurk_fading(0, 0, years)), "")),
+  grepl("^years: whole numbers from 0 to 2\\^53 are due", vapply(wrong_years, function(years) says(doonamurk_shock(0, 0, 1, years)), "")),
+  grepl("^year: whole numbers from 0 to 2\\^53 are due", vapply(wrong_years, function(year) says(doonamurk_shock(0, 0, year, 1)), "")),
+  grepl("^years: one number is due", says(doonamurk_flat(0, 1:2))),
+  grepl("^rate: one number is due", vapply(wrong_rates, function(rate) says(doonamurk_flat(rate, 1)), "")),
+  grepl("^long_run: one number is due", vapply(wrong_rates, function(rate) says(doonamurk_fading(0, rate, 1)), "")),
+  grepl("^other: one number is due", vapply(wrong_rates, function(rate) says(doonamurk_shock(0, rate, 1, 1)), "")),
+  identical(doonamurk_flat(1L, 2L), c(2000000, 4000000)),
+  refused(doonamurk_flat(NA_integer_, 1)) == 20,
+  says(doonamurk_flat(1, 3)) == "refused 21: Is every index of a year wanted from 1 to 5,000,000?",
+  says(doonamurk_shock(0, NA_real_, 1, 1)) ==
+    "refused 20: Is every rate a number from -0.5 to 1.0, a shock's year among the years wanted, and their number from 1 to 16?"
+)

@@ -1,5 +1,6 @@
 //! Safe calls of the proved reserving engine: [`run`] gives the result list of a record for a valuation year, [`read`] its fields, and [`write`] makes the
-//! record of given fields. Each has a form that fills a buffer of the caller's and one that returns a `Vec`.
+//! record of given fields. Each has a form that fills a buffer of the caller's and one that returns a `Vec`. [`flat`], [`fading`] and [`shock`] make yearly
+//! indices of inflation rates.
 //!
 //! The engine has no global state, allocates nothing and keeps nothing: any number of threads may call at once.
 //! The record, the lists and the questions are described in `docs/FORMAT.md`.
@@ -14,6 +15,8 @@ pub const RECORD_MAX: usize = 797;
 pub const FIELDS_MAX: usize = 203;
 /// The entries of the longest result list.
 pub const RESULTS_MAX: usize = 505;
+/// The most years that a call of inflation rates may want.
+pub const YEARS_MAX: usize = 16;
 
 /// The cells of a triangle with years 0 to k.
 pub const fn cells(k: usize) -> usize {
@@ -67,6 +70,9 @@ mod engine {
             record: *mut u8,
             record_len: usize,
         ) -> u64;
+        pub fn doonamurk_flat(rate: f64, years: u64) -> super::Indices;
+        pub fn doonamurk_fading(rate: f64, long_run: f64, years: u64) -> super::Indices;
+        pub fn doonamurk_shock(rate: f64, other: f64, year: u64, years: u64) -> super::Indices;
     }
 }
 
@@ -76,6 +82,8 @@ pub enum Call {
     Run,
     Read,
     Write,
+    /// [`flat`], [`fading`] or [`shock`].
+    Inflation,
 }
 
 /// A refusal: the first question that said no.
@@ -91,7 +99,7 @@ impl Refused {
         self.call
     }
 
-    /// The number of the question, 1 to 19.
+    /// The number of the question, 1 to 21.
     pub fn number(&self) -> u64 {
         self.number
     }
@@ -99,6 +107,10 @@ impl Refused {
     /// The question in words.
     pub fn question(&self) -> &'static str {
         match (self.call, self.number) {
+            (_, 20) => {
+                "Is every rate a number from -0.5 to 1.0, a shock's year among the years wanted, and their number from 1 to 16?"
+            }
+            (_, 21) => "Is every index of a year wanted from 1 to 5,000,000?",
             (Call::Write, 1) => "Is k from 1 to 15?",
             (Call::Write, 2) => {
                 "Has the buffer just the length that k calls for, and each list its own?"
@@ -339,4 +351,53 @@ pub fn write_to_vec(fields: &Fields) -> Result<Vec<u8>, Refused> {
     let mut record = vec![0; record_bytes(k)];
     write(fields, &mut record)?;
     Ok(record)
+}
+
+/// What [`flat`], [`fading`] and [`shock`] hand back, laid out as C has it.
+#[repr(C)]
+#[derive(Clone, Copy, Debug, PartialEq, Eq)]
+pub struct Indices {
+    /// 0, or the number of the first question that says no, 20 or 21.
+    pub refused: u64,
+    /// The indices of years 1, 2, ... in millionths; zeros past the years wanted, or where `refused` is not 0.
+    pub values: [u64; YEARS_MAX],
+}
+
+impl Indices {
+    /// The indices of just the years wanted, or the refusal.
+    pub fn wanted(&self) -> Result<&[u64], Refused> {
+        outcome(Call::Inflation, self.refused)?;
+        // An index of a year wanted is at least 1 (question 21), so the first zero is past them.
+        let years = self.values.iter().take_while(|&&index| index != 0).count();
+        Ok(&self.values[..years])
+    }
+}
+
+/// The indices of one flat rate in years 1 to `years`; 0.02 is two percent.
+///
+/// A path starts at 1.0 and is multiplied each year by 1.0 plus that year's rate; a year's index is the path times 1,000,000.0 as a whole number, halves up.
+/// Every operation is rounded to an `f64` by itself. Refused 20 where a rate is not a number or lies outside -0.5 to 1.0, one that no year uses too, or where
+/// `years` is not from 1 to [`YEARS_MAX`]; then 21 where an index leaves 1 to 5,000,000. The limits are inside, and so is -0.0. Nothing is allocated or kept.
+/// Safe to call from any number of threads.
+pub fn flat(rate: f64, years: u64) -> Indices {
+    // SAFETY: numbers go in and come back by value, and `Indices` is laid out as the call's own struct.
+    unsafe { engine::doonamurk_flat(rate, years) }
+}
+
+/// The indices of a rate that moves halfway each year toward a long-run rate.
+///
+/// As [`flat`], with `rate` in year 1 and in each later one `long_run` + 0.5 * (the rate of the year before - `long_run`). `long_run` is asked about for a
+/// single year too.
+pub fn fading(rate: f64, long_run: f64, years: u64) -> Indices {
+    // SAFETY: as for `flat`.
+    unsafe { engine::doonamurk_fading(rate, long_run, years) }
+}
+
+/// The indices of a shock, `rate` in the one named `year`, with the rate `other` in the others.
+///
+/// As [`flat`]; the first year is year 1, and 20 is given too where `year` is not from 1 to `years`. `other` is asked about where the shock is in the only
+/// year too.
+pub fn shock(rate: f64, other: f64, year: u64, years: u64) -> Indices {
+    // SAFETY: as for `flat`.
+    unsafe { engine::doonamurk_shock(rate, other, year, years) }
 }

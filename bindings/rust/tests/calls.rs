@@ -1,10 +1,10 @@
-//! Taylor's motor account, document 01's two years, payments after the last year, valuation years, refusals, threads, and the way from fields to a record and
-//! back.
+//! Taylor's motor account, document 01's two years, payments after the last year, valuation years, refusals, threads, the way from fields to a record and
+//! back, and indices of inflation rates.
 
 use doonamurk::{
-    cell, cells, field_count, future_cell, read, read_to_vec, record_bytes, result_count, run,
-    run_to_vec, sections, write, write_to_vec, Call, Fields, FIELDS_MAX, K_MAX, RECORD_MAX,
-    RESULTS_MAX,
+    cell, cells, fading, field_count, flat, future_cell, read, read_to_vec, record_bytes,
+    result_count, run, run_to_vec, sections, shock, write, write_to_vec, Call, Fields, Indices,
+    FIELDS_MAX, K_MAX, RECORD_MAX, RESULTS_MAX, YEARS_MAX,
 };
 
 const MOTOR: Fields = Fields {
@@ -485,4 +485,158 @@ fn threads_run_at_once_and_agree() {
             });
         }
     });
+}
+
+/// What a call hands back that is refused, or accepted with these indices: zeros past them.
+fn handed_back(due: Result<&[u64], u64>) -> Indices {
+    let mut indices = Indices {
+        refused: due.err().unwrap_or(0),
+        values: [0; YEARS_MAX],
+    };
+    if let Ok(values) = due {
+        indices.values[..values.len()].copy_from_slice(values);
+    }
+    indices
+}
+
+#[test]
+fn worked_indices() {
+    let halved = [
+        500_000, 250_000, 125_000, 62_500, 31_250, 15_625, 7_813, 3_906, 1_953, 977, 488, 244, 122,
+        61, 31, 15,
+    ];
+    let calls: [(Indices, Result<&[u64], u64>); 10] = [
+        (
+            flat(0.02, 4),
+            Ok(&[1_020_000, 1_040_400, 1_061_208, 1_082_432]),
+        ),
+        (
+            fading(0.07, 0.02, 5),
+            Ok(&[1_070_000, 1_118_150, 1_154_490, 1_184_795, 1_212_194]),
+        ),
+        (
+            shock(0.1, 0.02, 3, 4),
+            Ok(&[1_020_000, 1_040_400, 1_144_440, 1_167_329]),
+        ),
+        (flat(-0.5, 16), Ok(&halved)),
+        (flat(0.0, 16), Ok(&[1_000_000; 16])),
+        (flat(1.0, 2), Ok(&[2_000_000, 4_000_000])),
+        (flat(1.0, 3), Err(21)),
+        (fading(1.0, 1.0, 3), Err(21)),
+        (
+            shock(0.25, 1.0, 3, 3),
+            Ok(&[2_000_000, 4_000_000, 5_000_000]),
+        ),
+        (shock(0.25000025, 1.0, 3, 3), Err(21)),
+    ];
+    for (indices, due) in calls {
+        assert_eq!(indices, handed_back(due));
+        assert_eq!(indices.wanted().map_err(|refused| refused.number()), due);
+    }
+}
+
+#[test]
+fn question_20_comes_before_21() {
+    for indices in [
+        flat(1.0, 17),
+        fading(1.0, f64::NAN, 3),
+        fading(1.0, 1.5, 3),
+        shock(1.0, 1.0, 0, 3),
+        shock(1.0, 1.0, 4, 3),
+    ] {
+        assert_eq!(indices, handed_back(Err(20)));
+    }
+}
+
+/// The calls with a rate in each of its places and 0.0 in the others. For one year, and for a shock in the only one, the second rate is not used.
+fn in_each_place(rate: f64, years: u64) -> [Indices; 5] {
+    [
+        flat(rate, years),
+        fading(rate, 0.0, years),
+        fading(0.0, rate, years),
+        shock(rate, 0.0, years, years),
+        shock(0.0, rate, years, years),
+    ]
+}
+
+#[test]
+fn rates_outside_are_refused_used_or_not() {
+    let outside = [
+        // not a number: quiet, signalling, negative ones, of all bits
+        0x7ff8_0000_0000_0000,
+        0x7ff0_0000_0000_0001,
+        0xfff8_0000_0000_0000,
+        0xfff0_0000_0000_0001,
+        0x7fff_ffff_ffff_ffff,
+        // the infinities, and the neighbours of 1.0 and -0.5
+        0x7ff0_0000_0000_0000,
+        0xfff0_0000_0000_0000,
+        0x3ff0_0000_0000_0001,
+        0xbfe0_0000_0000_0001,
+    ];
+    for bits in outside {
+        for years in [1, 2, 16] {
+            let refused = handed_back(Err(20));
+            assert_eq!(in_each_place(f64::from_bits(bits), years), [refused; 5]);
+        }
+    }
+}
+
+#[test]
+fn zeros_of_both_signs_and_the_least_rates_change_no_year() {
+    for bits in [0, 1, 1 << 52] {
+        for rate in [f64::from_bits(bits), -f64::from_bits(bits)] {
+            for years in 1..=16 {
+                let level = handed_back(Ok(&[1_000_000; YEARS_MAX][..years]));
+                assert_eq!(in_each_place(rate, years as u64), [level; 5]);
+            }
+        }
+    }
+}
+
+#[test]
+fn limits_of_a_rate_are_inside() {
+    let (most, least) = (1.0f64.to_bits(), (-0.5f64).to_bits());
+    for bits in [most, most - 1, least, least - 1] {
+        for years in [1, 2] {
+            let calls = in_each_place(f64::from_bits(bits), years);
+            assert!(calls.iter().all(|indices| indices.refused == 0));
+        }
+    }
+}
+
+#[test]
+fn years_wanted_and_the_year_of_a_shock() {
+    let refused = handed_back(Err(20));
+    // the low 32 bits of one of them would be accepted
+    for years in [0, 17, (1 << 32) + 1, u64::MAX] {
+        assert_eq!(in_each_place(0.0, years), [refused; 5]);
+        assert_eq!(shock(0.0, 0.0, 1, years), refused);
+    }
+    for years in 1..=16 {
+        for year in 0..=17 {
+            let within = 1 <= year && year <= years;
+            let number = shock(0.0, 0.0, year, years).refused;
+            assert_eq!(number, if within { 0 } else { 20 });
+        }
+        for year in [(1 << 32) + 1, u64::MAX] {
+            assert_eq!(shock(0.0, 0.0, year, years), refused);
+        }
+    }
+}
+
+#[test]
+fn a_refusal_of_rates_says_its_question() {
+    let refusal = flat(f64::NAN, 1);
+    let refusal = refusal.wanted().expect_err("refused");
+    assert_eq!((refusal.number(), refusal.call()), (20, Call::Inflation));
+    assert_eq!(
+        refusal.to_string(),
+        "refused 20: Is every rate a number from -0.5 to 1.0, a shock's year among the years wanted, and their number from 1 to 16?"
+    );
+    let refusal = flat(1.0, 3);
+    assert_eq!(
+        refusal.wanted().expect_err("refused").to_string(),
+        "refused 21: Is every index of a year wanted from 1 to 5,000,000?"
+    );
 }

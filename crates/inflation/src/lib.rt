@@ -10,8 +10,10 @@ use rules::Inflation;
 use rules::Path;
 ghost use mathlib.Core.Path.{_≡_};
 ghost use Prim.Native.Nat.{_+_, _<_, _≤_};
-ghost use Rattle.rules.specs.Inflation.{stateAfter, indicesOf, mostYears};
-ghost use Rattle.inflation.specs.Walk.{refusal, walkOf};
+ghost use lib.ListN.{replicate};
+ghost use Rattle.rules.specs.Lists.{upTo, padded};
+ghost use Rattle.rules.specs.Inflation.{stateAfter, indexAfter, indicesOf, mostYears};
+ghost use Rattle.inflation.specs.Walk.{refusal, yearsWithin};
 
 // The first year's rate, and a path that starts at 1.0.
 fn path_start(shape: Inflation) -> Path
@@ -46,35 +48,38 @@ fn refuse(number: u64) -> Indices
     }
 }
 
-// The indices of the years wanted, or 21, once question 20 has said yes.
-fn walk(shape: Inflation, years: u64) -> Indices
-    requires { ⌜ years ≤ mostYears ⌝ }
-    ensures { λ r. ⌜ r ≡ walkOf shape years ⌝ }
+// Puts the indices of the years wanted up to the first that leaves 1 to 5,000,000, and answers how many those are.
+pub fn walk(shape: Inflation, years: u64, values: &mut [u64; 16]) -> u64
+    requires { ⌜ (years ≤ mostYears) × (now values ≡ replicate mostYears 0) ⌝ }
+    ensures { λ r. ⌜ (r ≡ yearsWithin shape years) × (now (values .exit) ≡ padded mostYears 0 (upTo (indexAfter shape) (yearsWithin shape years))) ⌝ }
 {
-    let mut values = [0u64; 16];
     let mut path = path_start(shape);
     for n in 0..years {
         path = path_next(path, shape, n);
         let index = index_of(path.value * 1_000_000.0);
         if index == 0 {
-            return refuse(21);
+            return n;
         }
         values[n as usize] = index;
     }
-    Indices {
-        refused: ACCEPTED,
-        values,
-    }
+    years
 }
 
 // The number of the first question that says no, or 0, and the sixteen indices.
 pub fn inflation_indices(shape: Inflation, years: u64) -> Indices
     ensures { λ r. ⌜ r ≡ indicesOf shape years ⌝ }
 {
-    if rates_pass(shape, years) {
-        return walk(shape, years);
+    if !rates_pass(shape, years) {
+        return refuse(20);
     }
-    refuse(20)
+    let mut values = [0u64; 16];
+    if walk(shape, years, &mut values) < years {
+        return refuse(21);
+    }
+    Indices {
+        refused: ACCEPTED,
+        values,
+    }
 }
 
 // One flat rate.

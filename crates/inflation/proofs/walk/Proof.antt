@@ -1,18 +1,18 @@
 -- The invariant: the path is that of n years, their indices are stored, and each is in its range. Assumes nothing.
-use mathlib.Core.Path.{_≡_, refl}
-use mathlib.Core.Bool.{true, false}
+use mathlib.Core.Path.{_≡_, refl, _∙_}
+use mathlib.Core.Bool.{true}
 use Prim.Native.Nat.{_-_, _≤_}
 use native.Mathlib.Omega.{arith}
 use borrow.Author.Needs.{needs}
 use lib.Ieee.{ofBits}
-use Rattle.rules.specs.Lists.{upTo, below, padded, every, between}
-use Rattle.rules.specs.Record.{mostIndex}
+use Rattle.rules.specs.Lists.{upTo, below, padded, every}
 use Rattle.laws.proofs.Padded.{filled-none, filled-more}
-use Rattle.rules.specs.Inflation.{mostYears, stateAfter, indexAfter, indicesPass}
-use Rattle.inflation.specs.Walk.{answered, walkOf}
+use Rattle.rules.specs.Inflation.{mostYears, stateAfter, indexAfter}
+use Rattle.entries.proofs.Leading.{leading-all, leading-stop}
+use Rattle.inflation.specs.Walk.{isIndexAt, yearsWithin}
 use Rattle.inflation_index.specs.Index.{ifAnIndex}
 use Rattle.inflation_index.proofs.Index.{leaves, lies-in}
-use Rattle.inflation.proofs.Years.{year-index, below-more, below-fails}
+use Rattle.inflation.proofs.Years.{year-index, below-more}
 use Rattle.inflation.proofs.walk.Statement.{statement}
 use Rattle.inflation.proofs.walk.Tie as tie
 
@@ -20,7 +20,7 @@ abbrev Inv-loop : tie.InvT-loop
 Inv-loop shape years values₀ path₀ n₀ values path n =
     (n ≤ years)
     × ((path ≡ stateAfter shape n)
-    × ((every (λ m. between 1 mostIndex (indexAfter shape m)) (below n) ≡ true) × (values ≡ padded mostYears 0 (upTo (indexAfter shape) n))))
+    × ((every (isIndexAt shape) (below n) ≡ true) × (values ≡ padded mostYears 0 (upTo (indexAfter shape) n))))
 
 abbrev μ-loop : tie.MeasureT-loop
 μ-loop shape years values₀ path₀ n₀ values path n = years - n
@@ -30,7 +30,7 @@ path-start-requires c κs = search needs
 
 loop-holds : tie.Need-loop-holds Inv-loop μ-loop
 unfolding every upTo
-loop-holds c = (omega arith, (c .path-start .ensures, (refl, filled-none mostYears 0 (indexAfter (c .before .args .shape)))))
+loop-holds c = (omega arith, (c .path-start .ensures, (refl, c .before .pre .1 ∙ filled-none mostYears 0 (indexAfter (c .before .args .shape)))))
 
 path-next-requires : tie.Need-path-next-requires Inv-loop μ-loop
 path-next-requires c κs = (omega arith, c .before .loop .inv .1 .0)
@@ -45,20 +45,18 @@ this-year c =
     year-index (c .before .before .before .before .before .before .args .shape) (c .before .before .before .before .loop .n) (c .before .before .path-next .result) (c .index-of .result) (c .before .before .path-next .ensures) (c .index-of .ensures)
 
 returns : tie.Need-returns Inv-loop μ-loop
-unfolding walkOf answered indicesPass
+unfolding yearsWithin
 returns c =
-    let s = c .before .before .before .before .before .before .before .before .args in
-    let n = c .before .before .before .before .before .before .loop .n in
-    let no : every (λ m. between 1 mostIndex (indexAfter (s .shape) m)) (below (s .years)) ≡ false =
-    below-fails (λ m. between 1 mostIndex (indexAfter (s .shape) m)) (s .years) n (omega arith) (leaves _ _ (this-year (c .before .before)) (c .before .if1 .taken))
-    in
-    rw no (c .refuse .ensures)
+    let s = c .before .before .before .before .before .before .before .args in
+    let l = c .before .before .before .before .before .loop in
+    let stop = leading-stop (isIndexAt (s .shape)) (s .years) (l .n) (omega arith) (l .inv .1 .1 .0) (leaves _ _ (this-year (c .before)) (c .if1 .taken)) in
+    rw stop (refl, l .inv .1 .1 .1)
 
 mul-values : tie.Need-mul-values Inv-loop μ-loop
 mul-values c = omega arith
 
-array-write-values : tie.Need-array-write-values Inv-loop μ-loop
-array-write-values c = omega arith
+element-write-values : tie.Need-element-write-values Inv-loop μ-loop
+element-write-values c = omega arith
 
 add-n : tie.Need-add-n Inv-loop μ-loop
 add-n c = omega arith
@@ -75,17 +73,18 @@ loop-again c =
       (
         c .before .before .before .path-next .ensures,
         (
-          below-more (λ m. between 1 mostIndex (indexAfter (s .shape) m)) (l .n) (l .inv .1 .1 .0) (y .0),
+          below-more (isIndexAt (s .shape)) (l .n) (l .inv .1 .1 .0) (y .0),
           rw (l .inv .1 .1 .1, y .1) (filled-more mostYears 0 (indexAfter (s .shape)) (l .n) (omega arith)),
         ),
       ),
     )
 
 returns-2 : tie.Need-returns-2 Inv-loop μ-loop
-unfolding walkOf answered indicesPass
+unfolding yearsWithin
 returns-2 c =
-    let e : c .before .loop .n ≡ c .before .before .before .args .years = omega arith in
-    rw (← e, c .before .loop .inv .1 .1 .0, c .before .loop .inv .1 .1 .1)
+    let l = c .before .loop in
+    let e : l .n ≡ c .before .before .before .args .years = omega arith in
+    rw (leading-all (isIndexAt (c .before .before .before .args .shape)) _ (rw e at (l .inv .1 .1 .0))) (refl, rw e at (l .inv .1 .1 .1))
 
 pub walk-spec : {M : Type 1} → statement M
 walk-spec =
@@ -97,10 +96,9 @@ walk-spec =
     loop-holds
     path-next-requires
     index-of-requires
-    (λ c κs. search needs)
     returns
     mul-values
-    array-write-values
+    element-write-values
     add-n
     loop-less
     loop-again
