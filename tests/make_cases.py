@@ -1,16 +1,18 @@
 #!/usr/bin/env python3
-"""make_cases.py: writes the stored input and expected output of the test programs read_cases, write_cases and run_cases and of the programs reserve,
-reserve_many, gather, fields, report, csv, pack and unpack, and the input of motor_account and report_html; the records of the examples from their texts, their
-pages and their lists as comma-separated values (tests/pages for the valuation year 2026, tests/pages/2027); records that question 7 refuses, or 13 before it,
-with what is said of them (tests/refusals); and the texts that pack must accept or refuse, with the record of each or what pack says (tests/texts).
+"""make_cases.py: writes the stored input and expected output of the test programs read_cases, write_cases, run_cases and inflation_cases and of the programs
+reserve, reserve_many, gather, fields, report, csv, pack and unpack, and the input of motor_account and report_html; the records of the examples from their
+texts, their pages and their lists as comma-separated values (tests/pages for the valuation year 2026, tests/pages/2027); records that question 7 refuses, or 13
+before it, with what is said of them (tests/refusals); and the texts that pack must accept or refuse, with the record of each or what pack says (tests/texts).
 
-What is expected comes from model.py, page.py and sheet.py, which are written from documents 01 and 02 and from the docs and share nothing with the Rattle code.
+What is expected comes from model.py, inflation.py, page.py and sheet.py, which are written from documents 01 and 02 and from the docs and share nothing with
+the Rattle code.
 """
 import glob
 import os
 import random
 from fractions import Fraction
 
+import inflation
 import model
 import page
 import sheet
@@ -866,6 +868,7 @@ def main():
     store("run_cases", given, wanted)
     print("cases by number:", {number_: numbers.count(number_) for number_ in sorted(set(numbers))})
     changed_answers()
+    inflation_cases()
     record = model.pack(model.TWO_YEARS)
     store("fields", record, "".join(f"{v}\n" for v in model.TWO_YEARS))
     record = model.pack(model.MOTOR_ACCOUNT)
@@ -883,6 +886,206 @@ def main():
     refused_pages()
     lost_page()
     texts()
+
+
+# the bits of rates: both limits, and what is no number and infinities
+LEAST_RATE, MOST_RATE, MINUS = 0xbfe << 52, 0x3ff << 52, 1 << 63
+NO_RATES = [0x7ff << 52, 0xfff << 52, (0x7ff << 52) + 1, 0x7ff8 << 48, 0xfff8 << 48, MINUS - 1, 2**64 - 1]
+# the next ones past the limits, others that are out of range, and the largest
+TOO_FAR = [LEAST_RATE + 1, MOST_RATE + 1, 0xbff << 52, 0x400 << 52, 0xbfe8 << 48, 0x3ff8 << 48, (0x7ff << 52) - 1, (0xfff << 52) - 1]
+# the limits, the next ones within, zeros, the least, the largest subnormal, the least normal, and 2^-54 and 2^-53, which 1 swallows
+IN_RANGE = [LEAST_RATE, LEAST_RATE - 1, MOST_RATE, MOST_RATE - 1, 0, MINUS, 1, MINUS + 1, 2**52 - 1, MINUS + 2**52 - 1, 2**52, MINUS + 2**52,
+            0x3c9 << 52, 0xbc9 << 52, 0x3ca << 52, 0xbca << 52, (0x3ca << 52) + 1, (0xbca << 52) - 1]
+
+# Name of a blunder of inflation.py, and a call whose indices it changes. Of the decimals most have a product that would be a half in exact arithmetic.
+TOLD_APART = [
+    ("power", "flat", [0x3f9a09a91e99ff9b], 16), ("power", "flat", [0x3fb1b1874b19c716], 16), ("power", "flat", [0x3fc399b5a754db48], 3),
+    ("power", "fading", ["0.08", "0.03"], 3), ("power", "shock", ["0.1", "0.15", 3], 4), ("power", "shock", [0x3fc5a4e737ac763d, "0.03", 4], 9),
+    ("fused", "flat", [0x3fb671c723749748], 16), ("fused", "flat", [0x3fcc01cdbabdc3cc], 3), ("fused", "fading", ["0.08", "0.03"], 3),
+    ("fused", "fading", ["0.16", "0.05"], 3), ("fused", "shock", ["0.1", "0.15", 2], 4), ("fused", "shock", ["0.02", "0.15", 1], 4),
+    ("added", "flat", [0x3fb14379712602c9], 16), ("added", "flat", [0x3fca7d3feb7d5cbc], 3), ("added", "fading", ["0.08", "0.09"], 3),
+    ("added", "shock", ["0.06", "0.05", 1], 4), ("added", "shock", ["0.06", "0.05", 2], 4), ("added", "shock", ["0.25", "0.1", 1], 6),
+    ("scaled", "flat", [0x3fa8d7f79f99998e], 16), ("scaled", "flat", [0x3fd8202c9ce3e9cc], 3), ("scaled", "fading", ["0.16", "0.09"], 3),
+    ("scaled", "shock", ["0.14", "0.15", 2], 4), ("scaled", "shock", ["0.14", "0.15", 3], 4),
+    ("mean", "fading", ["-0.5", "0.3"], 6), ("mean", "fading", ["-0.48", "0.05"], 3), ("mean", "fading", [0x3fbbd09fa4da56c5, "0.02"], 10),
+    ("mean", "fading", [0x3fd78b4a77482724, "0.02"], 16),
+    ("halves", "fading", ["-0.48", "0.09"], 3), ("halves", "fading", [0x3fb600d6b88f6a32, "0.02"], 10), ("halves", "fading", [0x3fea00281cc7e442, "-0.3"], 6),
+    ("from_rate", "fading", ["-0.4", "-0.05"], 3), ("from_rate", "fading", [0x3fba32b8e5289ec6, "0.02"], 10),
+    ("from_rate", "fading", [0x3fd97f2eca92cf6d, "0.02"], 16),
+    ("unrounded", "fading", ["0.08", "0.13"], 3), ("unrounded", "fading", ["0.16", "0.05"], 3), ("unrounded", "shock", ["0.18", "0.05", 1], 4),
+    ("even", "flat", ["-0.5"], 7), ("even", "fading", ["0.08", "0.07"], 3), ("even", "shock", ["0.04", "0.25", 1], 5),
+    ("down", "flat", ["-0.5"], 16), ("down", "fading", ["0.16", "0.19"], 3), ("down", "shock", ["0.02", "0.25", 1], 4),
+]
+
+
+def rate_bits(rate):
+    """The bits of a rate that is given as bits or as a decimal."""
+    if not isinstance(rate, str):
+        return rate
+    return MINUS if rate == "-0" else inflation.bits_of(inflation.decimal(rate))
+
+
+def numbers_of(shape, sent):
+    """What inflation.py takes for the numbers of a call: rates as bits or decimals and, of a shock, its year."""
+    count = inflation.SHAPES[shape]
+    return [inflation.of_bits(rate_bits(rate)) for rate in sent[:count]] + sent[count:]
+
+
+def call_bytes(shape, sent, years):
+    """A call as inflation_cases is given it: the shape in a byte, then the rates' bits, the year of the shock and the years wanted, each in eight bytes."""
+    count = inflation.SHAPES[shape]
+    numbers = [rate_bits(rate) for rate in sent[:count]] + [0] * (2 - count) + (sent[count:] or [0]) + [years]
+    return bytes([list(inflation.SHAPES).index(shape)]) + b"".join(number_.to_bytes(8, "big") for number_ in numbers)
+
+
+def last_rate(shape, rest, years, most):
+    """The bits of the largest rate from 0 on with which the index of the last of these years is at most this."""
+    low, high = 0, MOST_RATE
+    while low < high:
+        middle = (low + high + 1) // 2
+        if inflation.every_index(shape, numbers_of(shape, [middle, *rest]), years)[-1] <= most:
+            low = middle
+        else:
+            high = middle - 1
+    return low
+
+
+def worked_calls():
+    """Calls of each shape and of each count of years, some of them worked out in inflation.py."""
+    for years in range(1, 17):
+        yield "flat", ["0.03"], years
+        yield "fading", ["0.08", "0.02"], years
+        yield "shock", ["0.1", "0.025", (years + 1) // 2], years
+    for rate in ("-0.5", "-0", "0", "0.1", "-0.02"):
+        yield "flat", [rate], 16
+    # from one limit toward the other and toward zero, upward, level, and from zeros of either sign
+    yield "fading", ["-0.5", "1"], 5
+    for rate, long_run in (("1", "-0.5"), ("1", "0"), ("0.5", "-0.5"), ("0", "0.05"), ("-0.3", "0.02"), ("0.04", "0.04"), ("-0", "0"), ("0", "-0")):
+        yield "fading", [rate, long_run], 16
+    # the shock in each year, and a fall back from 4,000,000
+    for year in range(1, 17):
+        yield "shock", ["0.4", "0.02", year], 16
+    for year in (1, 2, 3):
+        yield "shock", ["-0.5", "1", year], 3
+    yield "shock", ["0.25", "1", 3], 3
+
+
+def limit_calls():
+    """Both sides of each limit of question 20, in each place, and two of them at once."""
+    for rate in IN_RANGE + TOO_FAR + NO_RATES:
+        yield "flat", [rate], 2
+        yield "fading", [rate, "0.02"], 3
+        yield "fading", ["0.02", rate], 3
+        yield "shock", [rate, "0.02", 2], 3
+        yield "shock", ["0.02", rate, 2], 3
+    # a rate that no year uses
+    for rate in (MOST_RATE, MOST_RATE + 1, NO_RATES[3]):
+        yield "fading", ["0.02", rate], 1
+        yield "shock", ["0.02", rate, 1], 1
+    # years; cut to fewer bits some are in range
+    for years in (0, 17, 18, 255, 2**8 + 1, 2**16 + 1, 2**32 + 16, 2**63, 2**63 + 1, 2**64 - 1):
+        yield "flat", ["0.02"], years
+        yield "fading", ["0.05", "0.02"], years
+        yield "shock", ["0.05", "0.02", 1], years
+        yield "shock", ["0.05", "0.02", years], years
+    for years in (1, 2, 15, 16):
+        for year in (0, 1, years, years + 1, 2**8 + 1, 2**32 + 1, 2**63, 2**64 - 1):
+            yield "shock", ["0.05", "0.02", year], years
+    # two of them; one of them and an index that would be too large
+    for rate in (NO_RATES[3], MOST_RATE + 1):
+        yield "flat", [rate], 0
+        yield "fading", [rate, rate], 17
+        yield "shock", [rate, "0.02", 0], 3
+        yield "shock", ["0.02", rate, 4], 3
+        yield "flat", [rate], 16
+        yield "fading", ["1", rate], 16
+        yield "shock", [rate, "1", 16], 16
+    yield "shock", ["1", "1", 17], 16
+    yield "flat", ["1"], 17
+
+
+def edge_calls():
+    """Both sides of question 21: the rate with which the last index is 5,000,000 and the next one; an index that comes back, and one past the years wanted."""
+    most = inflation.INDEX_MOST
+    for shape, rest, counts in (("flat", [], range(3, 17)), ("fading", ["0.1"], (8, 12, 16)), ("fading", ["0.5"], (4, 5)), ("shock", ["1", 3], (3,)),
+                                ("shock", ["1", 1], (3,)), ("shock", ["0.1", 16], (16,)), ("shock", ["0.09", 7], (16,)), ("shock", ["0.5", 2], (4,))):
+        for years in counts:
+            last = last_rate(shape, rest, years, most)
+            answers = [inflation.indices(shape, numbers_of(shape, [rate, *rest]), years)[0] for rate in (last, last + 1)]
+            assert answers == [0, 21], (shape, rest, years, answers)
+            yield shape, [last, *rest], years
+            yield shape, [last + 1, *rest], years
+    for years in (4, 5, 16):
+        yield "shock", ["-0.5", "1", 4], years
+    for rate, years in (("1", 1), ("1", 2), ("1", 3), ("1", 16), ("0.5", 3), ("0.5", 4), ("0.144", 11), ("0.144", 12)):
+        yield "flat", [rate], years
+    yield "fading", ["1", "0.02"], 16
+    yield "fading", ["1", "0.01"], 16
+    yield "fading", ["-0.5", "1"], 6
+
+
+def half_calls():
+    """Products that are a half or next to it, of even and of odd indices."""
+    for below in (1000000, 1000001, 1048575, 1048576, 1500000, 1999998, 1234566, 1234567):
+        last = last_rate("flat", [], 1, below)
+        yield "flat", [last], 1
+        yield "flat", [last + 1], 1
+        # paths from 1 to 2 have steps of 2^-52
+        path = inflation.grow(1, inflation.of_bits(last))
+        for place in (-1, 0, 1, 2):
+            yield "flat", [inflation.bits_of(path + place * inflation.power(-52) - 1)], 1
+    for below, years in ((1500000, 4), (2400001, 9), (1300000, 16), (4999998, 16)):
+        last = last_rate("flat", [], years, below)
+        yield "flat", [last], years
+        yield "flat", [last + 1], years
+    for rate in ("0.0000005", "0.0000015", "0.0000025", "-0.0000005", "-0.0000015", "-0.4999995", "-0.4999985", "0.9999995"):
+        yield "flat", [rate], 1
+
+
+def rate_by_chance(source):
+    """The bits of a rate: of any size up to a half, of any value, or from -5 to 12 percent with few digits or with all."""
+    kind = source.randrange(5)
+    if kind == 0:
+        return source.choice((0, MINUS)) + source.randrange(0x3fe << 52)
+    percent = Fraction(source.randint(-50000, 120000), 10**6)
+    value = Fraction(source.randint(-2**60, 2**61), 2**61) if kind == 1 else percent if kind < 4 else percent + Fraction(source.getrandbits(60), 2**80)
+    return inflation.bits_of(inflation.rounded(value))
+
+
+def calls_by_chance():
+    source = random.Random(10)
+    for place in range(96):
+        shape, years = list(inflation.SHAPES)[place % 3], source.randint(1, 16)
+        rates = [rate_by_chance(source) for _ in range(inflation.SHAPES[shape])]
+        yield shape, rates + ([source.randint(1, years)] if shape == "shock" else []), years
+
+
+def inflation_calls():
+    """Shape, numbers and years wanted of each call."""
+    yield from worked_calls()
+    for name, shape, sent, years in TOLD_APART:
+        by_rule, by_blunder = (inflation.indices(shape, numbers_of(shape, sent), years, steps) for steps in (inflation.RULE, inflation.BLUNDERS[name]))
+        assert by_rule[0] == 0 and by_rule != by_blunder, (name, shape, sent, years)
+        yield shape, sent, years
+    yield from limit_calls()
+    yield from edge_calls()
+    yield from half_calls()
+    yield from calls_by_chance()
+
+
+def inflation_cases():
+    """What inflation_cases is given, each call once, and for each call a line with the answer and the sixteen indices."""
+    calls = {call_bytes(*call): call for call in inflation_calls()}
+    wanted, numbers = "", []
+    for shape, sent, years in calls.values():
+        number_, values = inflation.indices(shape, numbers_of(shape, sent), years)
+        numbers.append(number_)
+        wanted += " ".join(map(str, [number_, *values])) + "\n"
+    # inflation_cases takes so many bytes
+    assert 33 * len(calls) <= 65536
+    assert {name for name, *_ in TOLD_APART} == set(inflation.BLUNDERS)
+    store("inflation_cases", b"".join(calls), wanted)
+    print("calls by number:", {number_: numbers.count(number_) for number_ in sorted(set(numbers))})
 
 
 def gather(record):
@@ -1122,7 +1325,8 @@ def row(year, record):
 
 # Messages word for word, as docs/SHEET.md has them.
 SAID = {
-    "k 1\nexposures 1 1\npaid 60 40\npaid 66\nindicse 1\n": "line 5: a line that starts with `indices` is due, not with `indicse`",
+    "k 1\nexposures 1 1\npaid 60 40\npaid 66\nindicse 1\n": "line 5: a line that starts with `indices` or `inflation` is due, not with `indicse`",
+    "k 1\nexposures 1 1\npaid 60 40\npaid 66\n": "line 5: the text ends where `indices` or `inflation` is due",
     "\n\n\nk 3\nexposures 1 1 1 1\npaid 504 282 90 48\npaid 580 662.5 97\n":
         "line 7: number 2 of `paid` is `662.5`, and a whole number from -10000000000 to 10000000000 is due",
     "k 1\nexposures 1 1\npaid;1;;2\n": "line 3: number 2 of `paid` is an empty cell, and a whole number from -10000000000 to 10000000000 is due",
@@ -1133,6 +1337,19 @@ SAID = {
     "k 16\n": "refused 1: line 1: number 1 of `k` is `16`, and a whole number from 1 to 15 is due",
     "k 1\nexposures 1 1\n": "line 3: the text ends where `paid` is due",
     "k 1\nexposures 1 1\npaid 60 40\npaid 66\nindices 1 1\nreporting 800000 200000\nweight 0\nulae 6 10\n": "line 9: the text ends where `tail` is due",
+    # of the inflation, in a seventh line
+    "\n\n\n\n\nk 3\ninflation fadig 0.02 0.01\n": "line 7: `flat`, `fading` or `shock` is due after `inflation`, not `fadig`",
+    "\n\n\n\n\nk 3\ninflation\n": "line 7: `flat`, `fading` or `shock` is due after `inflation`, not an empty cell",
+    "\n\n\n\n\nk 3\ninflation fading 0.02\n": "line 7: `fading` takes 2 numbers, and 1 stands there",
+    "\n\n\n\n\nk 3\ninflation flat 0.02 0.01\n": "line 7: `flat` takes 1 number, and 2 stand there",
+    "\n\n\n\n\nk 3\ninflation fading 0.02 0.0x\n":
+        "line 7: number 2 of `fading` is `0.0x`, and a decimal of at most 15 digits or 16 hex digits is due",
+    "\n\n\n\n\nk 3\ninflation,fading,,0.02\n":
+        "line 7: number 1 of `fading` is an empty cell, and a decimal of at most 15 digits or 16 hex digits is due",
+    "\n\n\n\n\nk 3\ninflation shock 0.1 0.02 x\n": "line 7: number 3 of `shock` is `x`, and a whole number is due",
+    "\n\n\n\n\nk 3\ninflation flat 3\n": "refused 20: line 7: number 1 of `flat` is `3`, and a rate from -0.5 to 1.0 is due",
+    "\n\n\n\n\nk 3\ninflation shock 0.1 0.02 9\n": "refused 20: line 7: number 3 of `shock` is `9`, and a year from 1 to 4 is due",
+    "\n\n\n\n\nk 15\ninflation flat 0.144\n": "refused 21: line 7: the index of year 12 leaves 1 to 5,000,000",
 }
 
 
@@ -1274,6 +1491,188 @@ def text_cases():
     yield "amount_huge", with_line(4, "paid 18446744073709551617")
     yield "many_zeros", with_line(4, "paid " + "0" * 40 + "66")
     yield "reporting_sum", with_line(6, "reporting 800000 200001")
+    for name, text in (*inflation_texts(), *inflation_said(), *inflation_order()):
+        yield "inflation_" + name, text
+
+
+def hex_of(rate):
+    return f"{rate_bits(rate):016x}"
+
+
+def with_inflation(line, k=1, end="\n"):
+    """The figures of two, four or sixteen years with this line in the place of the indices."""
+    fields = {1: model.TWO_YEARS, 3: model.MOTOR_ACCOUNT, 15: figures(15, smallest)}[k]
+    return "".join((line if other.startswith("indices") else other) + end for other in page.sheet(fields).splitlines())
+
+
+def inflation_texts():
+    """Name and text with an `inflation` line that is accepted, or refused with 20 or 21."""
+    # the shapes, of two, four and sixteen years
+    yield "flat", with_inflation("inflation flat 0.03")
+    yield "fading", with_inflation("inflation fading 0.08 0.03")
+    yield "shock", with_inflation("inflation shock 0.1 0.02 2")
+    yield "shock_first", with_inflation("inflation shock 0.1 0.02 1", 3)
+    yield "flat_of_16_years", with_inflation("inflation flat 0.103", 15)
+    yield "fading_of_16_years", with_inflation("inflation fading 0.12 -0.02", 15)
+    yield "shock_of_16_years", with_inflation("inflation shock 0.15 0.02 16", 15)
+    # cells, quotes and comments
+    yield "commas", with_inflation("inflation,fading,0.08,0.03")
+    yield "semicolons", with_inflation("inflation;shock;0.1;0.02;2")
+    yield "tabs", with_inflation("inflation\tflat\t0.03")
+    yield "blanks", with_inflation("  inflation   shock\t0.1  0.02\t2 ")
+    yield "blanks_around_cells", with_inflation("inflation; shock ; 0.1;0.02 ;  2 ;")
+    yield "empty_cells_at_the_end", with_inflation('inflation,flat,0.03,, ,""')
+    yield "quotes", with_inflation('"inflation","shock","0.1","0.02","2"')
+    yield "quotes_in_blanks", with_inflation('"inflation" "flat" "0.03"')
+    yield "comment", with_inflation("# inflation flat 3\ninflation flat 0.03 # flat 3")
+    yield "quoted_comment", '"# inflation flat 3",,\n' + with_inflation("inflation flat 0.03")
+    yield "carriage_returns", b"\xef\xbb\xbf" + with_inflation("inflation,flat,0.03,", end="\r\n").encode()
+    # decimals, and the bits of the same rates
+    yield "negative", with_inflation("inflation flat -0.02")
+    yield "zeros_around", with_inflation("inflation flat 000.03000")
+    yield "whole", with_inflation("inflation fading 1 0")
+    yield "minus_zero", with_inflation("inflation fading -0 -0.0")
+    yield "hex", with_inflation("inflation flat " + hex_of("0.03"))
+    yield "hex_capitals", with_inflation("inflation flat " + hex_of("0.03").upper())
+    yield "hex_and_decimal", with_inflation("inflation fading 3fB47Ae147aE147b 0.03")
+    yield "hex_minus_zero", with_inflation("inflation flat 8000000000000000")
+    yield "hex_subnormal", with_inflation("inflation fading 0000000000000001 800fffffffffffff")
+    yield "fifteen_digits", with_inflation("inflation fading 0.08000000000000 000000000000000")
+    yield "fifteen_digits_negative", with_inflation("inflation flat -0.02000000000001")
+    # 15 digits in a row are a decimal, and 16 are bits: those of a rate that is next to nothing, and those of 2
+    yield "fifteen_digits_in_a_row", with_inflation("inflation flat 300000000000000")
+    yield "sixteen_digits_in_a_row", with_inflation("inflation flat 3000000000000000")
+    yield "sixteen_digits_past", with_inflation("inflation flat 4000000000000000")
+    # decimals whose index is another one where they are not read as the nearest double: times 10^-7, digit by digit, the next one above or below
+    for place, text in enumerate(("0.5000115", "0.5000085", "0.5000055", "0.35988216401275", "0.67976233437948", "0.94952955863716"), 1):
+        yield f"nearest_{place}", with_inflation("inflation flat " + text)
+    # without rounding all of these would be a half, in the fourth and in the seventh year
+    yield "half_down", with_inflation("inflation shock 0.1 0.15 2", 3)
+    yield "half_up", with_inflation("inflation shock 0.1 0.15 3", 3)
+    yield "half_of_16_years", with_inflation("inflation flat -0.5", 15)
+    yield from inflation_limits()
+
+
+def inflation_limits():
+    """As inflation_texts: both sides of each limit, and two that are past."""
+    for name, limit, past in (("least", "-0.5", "-0.50000000000001"), ("most", "1.0", "1.00000000000001")):
+        bits = rate_bits(limit)
+        for side, rate in (("", limit), ("_past", past), ("_hex", f"{bits:016x}"), ("_hex_past", f"{bits + 1:016x}"), ("_hex_within", f"{bits - 1:016x}")):
+            yield f"rate_{name}{side}", with_inflation("inflation flat " + rate)
+    for place, bits in enumerate(NO_RATES[:4], 1):
+        yield f"no_number_{place}", with_inflation(f"inflation flat {bits:016x}")
+    yield "long_run_past", with_inflation("inflation fading 0.08 1.5")
+    yield "other_rate_past", with_inflation(f"inflation shock 0.1 {LEAST_RATE + 1:016X} 2")
+    for name, year in (("zero", 0), ("first", 1), ("last", 4), ("after_the_last", 5), ("16", 16), ("below_10_17", 10**17 - 1), ("10_17", 10**17),
+                       ("2_64", 2**64 + 1)):
+        yield "year_" + name, with_inflation(f"inflation shock 0.1 0.02 {year}", 3)
+    yield "year_zeros_in_front", with_inflation("inflation shock 0.1 0.02 " + "0" * 30 + "2")
+    yield "year_17_of_16", with_inflation("inflation shock 0.1 0.02 17", 15)
+    yield "index_most", with_inflation("inflation shock -0.375 1 1", 3)
+    yield "index_half", with_inflation("inflation shock -0.3749999375 1 1", 3)
+    yield "index_below_the_half", with_inflation("inflation shock -0.3749999376 1 1", 3)
+    for k in (3, 15):
+        last = last_rate("flat", [], k + 1, inflation.INDEX_MOST)
+        yield f"index_most_of_{k + 1}_years", with_inflation(f"inflation flat {last:016x}", k)
+        yield f"index_past_of_{k + 1}_years", with_inflation(f"inflation flat {last + 1:016x}", k)
+    yield "index_of_year_3", with_inflation("inflation flat 1", 3)
+    yield "index_of_year_12", with_inflation("inflation flat 0.144", 15)
+    yield "index_comes_back", with_inflation("inflation shock -0.5 1 4", 3)
+    # both rates, a rate and the year, and an index that would be too large
+    yield "both_rates_past", with_inflation("inflation fading -3 4")
+    yield "rate_and_year", with_inflation("inflation shock 0.1 3 9")
+    yield "rate_and_index", with_inflation(f"inflation fading 1 {MOST_RATE + 1:016x}", 15)
+    yield "year_and_index", with_inflation("inflation shock 1 1 5", 3)
+
+
+def inflation_said():
+    """Name and text with an `inflation` line that is no call."""
+    # no shape
+    for name, line in (("missing", "inflation"), ("empty_cells", "inflation,,"), ("first_cell_empty", "inflation,,0.03"),
+                       ("quotes_empty", 'inflation,"",0.03'), ("in_a_comment", "inflation # flat 0.03"), ("misspelt", "inflation fadig 0.08 0.03"),
+                       ("capitals", "inflation Flat 0.03"), ("goes_on", "inflation flats 0.03"), ("cut", "inflation fla 0.03"), ("a_number", "inflation 0.03"),
+                       ("in_one_cell", "inflation,flat 0.03"), ("comma_after", "inflation flat, 0.03"), ("long", "inflation a_rate_of_each_of_the_years 0.03"),
+                       ("and_count", "inflation steady 0.03 x 4")):
+        yield "shape_" + name, with_inflation(line)
+    # another count of numbers
+    for name, line in (("flat_none", "inflation flat"), ("flat_two", "inflation flat 0.03 0.02"), ("fading_one", "inflation fading 0.08"),
+                       ("fading_three", "inflation fading 0.08 0.03 2"), ("shock_none", "inflation,shock,,,"), ("shock_two", "inflation shock 0.1 0.02"),
+                       ("shock_four", "inflation shock 0.1 0.02 2 2"), ("decimal_comma", "inflation,flat,0,03"), ("and_form", "inflation flat x y"),
+                       ("and_range", "inflation fading 3")):
+        yield "count_" + name, with_inflation(line)
+    # rates of another form
+    for name, rate in (("letter", "0.0x"), ("no_digit_before", ".03"), ("no_digit_after", "3."), ("plus", "+0.03"), ("exponent", "3e-2"), ("comma", "0,03"),
+                       ("percent", "3%"), ("minus_alone", "-"), ("two_minus", "--0.03"), ("minus_inside", "0.-3"), ("two_points", "0.0.3"),
+                       ("point_alone", "."), ("minus_point", "-.5"), ("sixteen_digits", "0.030000000000000"), ("sixteen_digits_negative", "-0000000000000000"),
+                       ("seventeen_digits_in_a_row", "00000000000000003"), ("fifteen_hex", "3f9eb851eb851eb"), ("seventeen_hex", "3f9eb851eb851eb80"),
+                       ("hex_and_point", "3f9eb851.eb851eb8"), ("hex_negative", "-3f9eb851eb851eb8"), ("hex_marked", "0x3f9eb851eb851eb8"),
+                       ("no_hex_letter", "3f9eb851eb851ebg"), ("nan", "nan"), ("infinity", "inf"), ("long", "0.03000000000000000000000000"),
+                       ("sharp", "0.03#note")):
+        yield "rate_" + name, with_inflation("inflation flat " + rate)
+    yield "rate_empty", with_inflation("inflation,fading,,0.03")
+    yield "rate_empty_second", with_inflation("inflation;shock;0.1;;2")
+    yield "rate_empty_quotes", with_inflation('inflation,shock,0.1,"",2')
+    yield "rate_blank_inside", with_inflation("inflation,flat,0. 03")
+    # years of another form
+    for name, year in (("letter", "x"), ("decimals", "2.0"), ("negative", "-1"), ("minus_zero", "-0"), ("plus", "+2"), ("hex", "3ff0000000000000")):
+        yield "year_" + name, with_inflation("inflation shock 0.1 0.02 " + year)
+    # two of another form, and one that is out of range before one of another form
+    yield "form_of_two", with_inflation("inflation shock x 0.02 y")
+    yield "form_of_rate_and_year", with_inflation("inflation shock 0.1 0.02x y")
+    yield "form_and_range", with_inflation("inflation fading 3 x")
+    yield "form_of_year_and_range", with_inflation("inflation shock 3 0.02 x")
+
+
+def inflation_order():
+    """Name and text with an `inflation` line and something wrong in another, or in another place."""
+    two_years = page.sheet(model.TWO_YEARS)
+    good, past = "inflation flat 0.03\n", "inflation flat 3\n"
+
+    def put_in(line, *changes):
+        """The two years with this line in the place of the indices, and with other changes."""
+        text = with_inflation(line.rstrip("\n"))
+        for old, new in changes:
+            assert old in text
+            text = text.replace(old, new)
+        return text
+
+    # another line is wrong too, before it or after it
+    wrong = {"exposure": ("exposures 1", "exposures 0"), "paid": ("paid 66", "paid 6x"), "shares": ("reporting 800000", "reporting 800001"),
+             "label": ("weight", "wait"), "longer": ("tail 0\n", "tail 0\npaid 3\n")}
+    for name, change in wrong.items():
+        yield "good_and_" + name, put_in(good, change)
+        yield "past_and_" + name, put_in(past, change)
+    yield "past_and_all", put_in(past, *wrong.values())
+    yield "shape_and_exposure", put_in("inflation fadig 0.03", wrong["exposure"])
+    yield "count_and_label", put_in("inflation flat", wrong["label"])
+    yield "form_and_paid", put_in("inflation flat x", wrong["paid"])
+    yield "index_and_exposure", with_inflation("inflation flat 1", 3).replace(*wrong["exposure"])
+    yield "past_and_the_end", "k 1\nexposures 1 1\ninflation flat 3"
+    # the line of k alone is asked before it
+    for name, k in (("past", "k 16"), ("below", "k 0"), ("huge", "k 18446744073709551617"), ("label", "kk 1"), ("letter", "k x"), ("two", "k 1 1"),
+                    ("none", "k")):
+        yield "and_k_" + name, put_in(past, ("k 1\n", k + "\n"))
+    yield "before_k", past + put_in(good)
+    yield "k_second", put_in(past, ("k 1\nexposures 1 1\n", "exposures 1 1\nk 1\n"))
+    # in another place: a label that is not due, and lines before it come first, but not before what is wrong with its cells
+    indices, reporting = (line + "\n" for line in two_years.splitlines()[4:6])
+    yield "alone", "k 1\n" + good
+    for name, old, new in (("second", "k 1\n", "k 1\n{}"), ("before_paid", "paid 66\n", "{}paid 66\n"), ("for_reporting", reporting, "{}"),
+                           ("at_the_end", "tail 0\n", "tail 0\n{}"), ("before_indices", indices, "{}" + indices), ("after_indices", indices, indices + "{}")):
+        yield name, two_years.replace(old, new.format(good))
+        yield name + "_past", two_years.replace(old, new.format(past))
+    yield "at_the_end_and_exposure", (two_years + good).replace(*wrong["exposure"])
+    # twice: the first is asked
+    yield "twice", put_in(good + good)
+    yield "twice_second_past", put_in(good + past)
+    yield "twice_first_past", put_in(past + good)
+    yield "twice_no_shape_and_past", put_in("inflation fadig 0.03\n" + past)
+    # words that are not its label, and a text that ends before it
+    for name, line in (("in_capitals", "INFLATION flat 3"), ("goes_on", "inflations flat 3"), ("cut", "inflatio flat 3"), ("after_a_tab", "\tinflation flat 3"),
+                       ("after_a_comma", ",inflation,flat,3"), ("quote_not_closed", '"inflation flat 3')):
+        yield "label_" + name, put_in(line)
+    yield "as_a_cell", two_years.replace("paid 66", "paid inflation flat 3")
+    yield "ends_before", two_years[:two_years.index("indices")]
 
 
 def shown(number_, values, room):

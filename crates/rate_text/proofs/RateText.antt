@@ -123,6 +123,10 @@ module _ (w : List ℕ) where
   unfolding rateOf
   bits-value h = rw h
 
-  pub decimal-value : isBits w ≡ false → decimalOf w ≡ rateOf w
+  pub decimal-value : isBits w ≡ false → isDecimal w ≡ true → decimalOf w ≡ rateOf w
   unfolding rateOf
-  decimal-value h = rw h
+  decimal-value h d = rw (h, d)
+
+  pub no-rate : isBits w ≡ false → isDecimal w ≡ false → ofBits binary64 0x7ff8_0000_0000_0000 ≡ rateOf w
+  unfolding rateOf ofBits
+  no-rate h d = rw (h, d)

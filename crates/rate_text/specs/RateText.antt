@@ -4,7 +4,7 @@ use mathlib.Core.Bool.{Bool, cond, _&&_, _||_}
 use mathlib.Core.List.{List, [], _∷_}
 use lib.Dec.{eqb, leb}
 use lib.ListN.{length}
-use lib.Ieee.{Float, binary64, ofBits}
+use lib.Ieee.{Float, nan, binary64, ofBits}
 use Rattle.rules.specs.Lists.{every, between}
 use Rattle.decimals.specs.Decimals.{isDecimal, decimalOf}
 
@@ -24,9 +24,9 @@ unfoldable pub bitsFrom : ℕ → List ℕ → ℕ
 bitsFrom n [] = n
 bitsFrom n (b ∷ bs) = bitsFrom (16 * n + hexDigit b) bs
 
--- whether a word is a rate, and which float it is
+-- whether a word is a rate, and which float it is, a NaN where it is none
 unfoldable pub isRate : List ℕ → Bool
 isRate w = isBits w || isDecimal w
 
 unfoldable pub rateOf : List ℕ → Float
-rateOf w = cond (isBits w) (ofBits binary64 (bitsFrom 0 w)) (decimalOf w)
+rateOf w = cond (isBits w) (ofBits binary64 (bitsFrom 0 w)) (cond (isDecimal w) (decimalOf w) nan)

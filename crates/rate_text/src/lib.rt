@@ -85,13 +85,15 @@ pub fn is_rate(word: &[u8]) -> bool
     is_decimal(word)
 }
 
-// The float that it is.
+// The float that it is, a NaN where the word is none.
 pub fn rate_of(word: &[u8]) -> f64
-    requires { ⌜ isRate (now word) ≡ true ⌝ }
     ensures { λ r. ⌜ r ≡ rateOf (now (word .entry)) ⌝ }
 {
     if is_bits(word) {
         return float_of(bits_of(word));
     }
-    decimal_of(word)
+    if is_decimal(word) {
+        return decimal_of(word);
+    }
+    float_of(0x7ff8_0000_0000_0000)
 }

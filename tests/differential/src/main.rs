@@ -1,4 +1,5 @@
-//! Holds the proved reader, writer and engine against document 01 in plain Rust (`paper.rs`), on records made by chance from a seed.
+//! Holds the proved reader, writer and engine against document 01 in plain Rust (`paper.rs`), on records made by chance from a seed, and the proved indices of
+//! inflation against document 02 (`inflation.rs`), on rates made by chance.
 //!
 //!     differential [--seconds N] [--seed S] [--cases N]
 //!     differential --records YEAR N FOLDER    writes N records that are accepted in this valuation year into the folder, one a file
@@ -6,12 +7,14 @@
 //!                                             bytes and each record behind its length, and the line of each by plain Rust, `rows`
 //!
 //! Each case compares the answer and every entry of the lent buffer, those past the list too; a record is run in 2026, in 2027 and in one other valuation
-//! year. What is lent is the middle of a larger array, and what stands on both sides of it must stay. A difference is printed and ends with status 1.
+//! year. What is lent is the middle of a larger array, and what stands on both sides of it must stay. A call for inflation indices goes with each case, about
+//! a tenth of its time. A difference is printed and ends with status 1.
 
+use differential::inflation::{self, Shape};
 use differential::paper::{self, Given};
 use differential::random::Random;
-use differential::{generate, records};
-use doonamurk::Fields;
+use differential::{generate, rates, records};
+use doonamurk::{Fields, Indices};
 use std::panic::{catch_unwind, AssertUnwindSafe};
 use std::path::Path;
 use std::process::ExitCode;
@@ -28,7 +31,8 @@ const GUARD: usize = 16;
 const GROWTH: std::ops::RangeInclusive<usize> = 15..=17;
 
 /// How often each question said no (at 0: how often all said yes), by call; runs in valuation years before 2027 and from 2027 on apart; and how often one that
-/// is asked between 13 and 14 says no in 2027 of what one of those refuses too.
+/// is asked between 13 and 14 says no in 2027 of what one of those refuses too. Of the calls for inflation indices: how many were accepted, and how many 20 and
+/// 21 refused.
 #[derive(Default)]
 struct Tally {
     plain: [u64; 20],
@@ -38,6 +42,7 @@ struct Tally {
     read: [u64; 20],
     write: [u64; 20],
     back: u64,
+    inflation: [u64; 3],
 }
 
 impl Tally {
@@ -52,6 +57,8 @@ impl Tally {
             );
         }
         println!("read, and written back to the same record: {}", self.back);
+        let [accepted, twenty, twenty_one] = self.inflation;
+        println!("inflation indices: {accepted}, refused 20: {twenty}, refused 21: {twenty_one}");
     }
 
     /// Every number that a call can answer has been answered, and no other; and every question between 13 and 14 has met each of the two.
@@ -62,7 +69,8 @@ impl Tally {
         let corrected = self.corrected.iter().all(|&n| n > 0);
         let read = self.read[..6].iter().all(|&n| n > 0);
         let write = [0, 1, 2, 4, 5].iter().all(|&n| self.write[n] > 0);
-        plain && corrected && met && read && write && self.back > 0
+        let inflation = self.inflation.iter().all(|&n| n > 0);
+        plain && corrected && met && read && write && self.back > 0 && inflation
     }
 }
 
@@ -208,6 +216,27 @@ fn compare_write(given: &Given, length: usize, pattern: u8) -> Result<u64, Strin
     Err(said)
 }
 
+fn engine_indices(shape: Shape, years: u64) -> Indices {
+    let rate = f64::from_bits;
+    match shape {
+        Shape::Flat(sent) => doonamurk::flat(rate(sent), years),
+        Shape::Fading(sent, long_run) => doonamurk::fading(rate(sent), rate(long_run), years),
+        Shape::Shock(sent, other, year) => doonamurk::shock(rate(sent), rate(other), year, years),
+    }
+}
+
+fn compare_indices(shape: Shape, years: u64) -> Result<u64, String> {
+    let ours = engine_indices(shape, years);
+    let (expected, theirs) = inflation::indices(shape, years);
+    if ours.refused == expected && ours.values == theirs {
+        return Ok(expected);
+    }
+    Err(format!(
+        "inflation indices of {shape:016x?}, {years} years\nengine answers {}, {:?}\npaper answers {expected}, {theirs:?}",
+        ours.refused, ours.values
+    ))
+}
+
 fn case(r: &mut Random, tally: &mut Tally) -> Result<(), String> {
     let record = generate::record(r);
     let k = record.first().map_or(0, |byte| usize::from(byte >> 4));
@@ -267,6 +296,10 @@ fn case(r: &mut Random, tally: &mut Tally) -> Result<(), String> {
     let (given, length) = generate::written(r);
     let answer = compare_write(&given, length, pattern as u8)?;
     tally.write[answer as usize] += 1;
+
+    let (shape, years) = rates::call(r);
+    let answer = compare_indices(shape, years)?;
+    tally.inflation[(answer as usize).saturating_sub(19)] += 1;
     Ok(())
 }
 
