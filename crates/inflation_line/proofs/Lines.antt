@@ -6,13 +6,13 @@ use mathlib.Core.List.{List, [], _∷_}
 use Prim.Native.Nat.{ℕ, zero, suc, _+_, _-_, _≤_, _<_}
 use native.Mathlib.Numerals.{add-one}
 use native.Mathlib.Omega.{arith}
-use borrow.Author.Tests.{eq-eqb, ne-eqb, lt-ltb, le-ltb}
-use lib.Dec.{eqb}
+use borrow.Author.Tests.{eqb-false, eq-eqb, ne-eqb, lt-ltb, le-ltb}
+use lib.Dec.{eqb, ltb}
 use lib.ListN.{length, getD}
 use lib.Ieee.{Float}
 use Rattle.rules.specs.Lists.{between}
 use Rattle.rules.specs.Questions.{firstNo}
-use Rattle.rules.specs.Inflation.{mostYears, rateFits, ratesPass, inflationQuestions, inflationAnswer, indicesOf}
+use Rattle.rules.specs.Inflation.{mostYears, rateFits, ratesPass, indicesPass, inflationQuestions, inflationAnswer, indicesOf}
 use Rattle.rules.specs.declared.Inflation.{Inflation}
 use Rattle.rules.specs.declared.Inflation.the-variants.{Flat, Fading, Shock}
 use Rattle.entries.specs.Leading.{leading}
@@ -164,3 +164,30 @@ years-few shape years h = go (ratesPass shape years) refl
 pub answer-of : (shape : Inflation) (years : ℕ) → indicesOf shape years .refused ≡ inflationAnswer shape years
 unfolding indicesOf
 answer-of shape years = refl
+
+-- the number is 0, 20 or 21
+answer-cases : (shape : Inflation) (years : ℕ) → (inflationAnswer shape years ≡ 20 → ⊥) → (inflationAnswer shape years ≡ 21 → ⊥) → inflationAnswer shape years ≡ 0
+unfolding inflationAnswer inflationQuestions firstNo
+answer-cases shape years = go (ratesPass shape years) (indicesPass shape years)
+  where
+    go : (a b : Bool) → (firstNo ((20, a) ∷ (21, b) ∷ []) ≡ 20 → ⊥) → (firstNo ((20, a) ∷ (21, b) ∷ []) ≡ 21 → ⊥) → firstNo ((20, a) ∷ (21, b) ∷ []) ≡ 0
+    go true true f g = refl
+    go true false f g = absurd (g refl)
+    go false b f g = absurd (f refl)
+
+-- a line with which nothing is wrong makes the indices
+pub fault-accepted : (years : ℕ) (line : List ℕ) → faultIn years line .kind ≡ 0 → inflationAnswer (shapeOf line) years ≡ 0
+unfolding faultIn ratesFault
+fault-accepted years line h =
+    go (eqb (shapeAt line) 3) (eqb (length (cellsOf line)) (suc (numbersDue (shapeAt line)))) (ltb (passingNumbers false years line (numbersDue (shapeAt line))) (numbersDue (shapeAt line)))
+    (eqb (inflationAnswer (shapeOf line) years) 20) refl (eqb (inflationAnswer (shapeOf line) years) 21) refl _ _ _ _ h
+  where
+    go : (a b c d : Bool) → eqb (inflationAnswer (shapeOf line) years) 20 ≡ d → (e : Bool) → eqb (inflationAnswer (shapeOf line) years) 21 ≡ e → (w x y z : ℕ)
+        → cond a (fault 1 0) (cond b (cond c (fault 3 w) (cond d (fault 20 x) (cond e (fault 21 y) (fault 0 0)))) (fault 2 z)) .kind ≡ 0
+        → inflationAnswer (shapeOf line) years ≡ 0
+    go true b c d f e g w x y z k = absurd (omega arith)
+    go false false c d f e g w x y z k = absurd (omega arith)
+    go false true true d f e g w x y z k = absurd (omega arith)
+    go false true false true f e g w x y z k = absurd (omega arith)
+    go false true false false f true g w x y z k = absurd (omega arith)
+    go false true false false f false g w x y z k = answer-cases (shapeOf line) years (eqb-false _ 20 f) (eqb-false _ 21 g)

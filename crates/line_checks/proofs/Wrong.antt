@@ -7,13 +7,13 @@ use native.Mathlib.Numerals.{add-one}
 use borrow.Author.Tests.{eq-eqb, ne-eqb}
 use lib.ListN.{length}
 use Rattle.rules.specs.Lists.{every}
-use Rattle.scanning.specs.Parts.{fails, before}
+use Rattle.scanning.specs.Parts.{fails, before, sameText}
 use Rattle.scanning.specs.Numbers.{isNumber}
 use Rattle.cells.specs.Cells.{labelOf, cellsOf, isWithin}
 use Rattle.cells.proofs.CellLines.{before-all}
 use Rattle.sheet.specs.declared.Due.{Due}
 use Rattle.sheet.specs.Table.{labelDue}
-use Rattle.sheet.specs.Sheet.{sameText, wrong, wrongIn}
+use Rattle.sheet.specs.Sheet.{wrong, wrongIn}
 
 module _ (d : Due) (line : List ℕ) where
   -- another label

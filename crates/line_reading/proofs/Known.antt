@@ -1,5 +1,5 @@
 -- What is known of the numbers while the lines are as due: how many they are, and k. Assumes nothing.
-use mathlib.Core.Path.{_≡_, refl, sym, _∙_}
+use mathlib.Core.Path.{_≡_, refl, sym, ap, _∙_}
 use mathlib.Core.Bool.{Bool, true, false, cond, _&&_, false≢true}
 use mathlib.Core.List.{List, [], _∷_, _++_, map, append-nil}
 use Prim.Native.Nat.{ℕ, zero, suc, _+_, _*_, _≤_, _<_}
@@ -11,15 +11,18 @@ use lib.ListN.{length, length-append, length-map}
 use lib.Signed.{leZ}
 use Rattle.rules.specs.Lists.{every, upTo, total}
 use Rattle.rules.specs.Record.{cells, mostFields}
-use Rattle.laws.proofs.Lists.{both-left, both-right}
+use Rattle.laws.proofs.Lists.{both-left, both-right, length-upTo}
 use Rattle.laws.proofs.TriangleRows.{cells-most}
 use Rattle.laws.proofs.Totals.{total-part}
+use Rattle.rules.specs.Inflation.{indexAfter}
+use Rattle.scanning.specs.Parts.{sameText}
 use Rattle.scanning.specs.Numbers.{isNumber, wholeOf}
 use Rattle.cells.specs.Cells.{isBare, labelOf, cellsOf, contentOf, isWithin}
+use Rattle.inflation_line.specs.InflationLine.{isInflation, shapeOf, faultIn}
 use Rattle.sheet.specs.declared.Due.{Due}
-use Rattle.sheet.specs.Table.{labelDue, lineCount, dueAt, startAt}
-use Rattle.sheet.specs.Sheet.{sameText, lastYearIn, wrong, wrongIn, wordIn, Typed, typed, fine, lines, unmarked, readLine, readLines, readSheet}
-use Rattle.sheet.proofs.Table.{line-start-more, start-all, start-room}
+use Rattle.sheet.specs.Table.{labelDue, lineCount, indicesPlace, dueAt, startAt}
+use Rattle.sheet.specs.Sheet.{lastYearIn, wrong, wrongIn, wordIn, Typed, typed, fine, lines, unmarked, readLine, standsForIndices, indicesMade, readNext, readLines, readSheet}
+use Rattle.sheet.proofs.Table.{line-start-more, start-all, start-room, due-indices}
 use Rattle.line_reading.specs.Reads.{Good}
 
 -- a line that is as due
@@ -85,6 +88,22 @@ good-more (v ∷ vs) (suc i) m line g left a =
       some = λ h. g .some (omega arith);
     }
 
+-- after a line of inflation, which stands for the indices
+pub good-indices : (vs : List ℤ) (i m : ℕ) (xs : List ℤ) → Good vs i m → i ≡ indicesPlace (lastYearIn vs) → length xs ≡ lastYearIn vs + 1
+    → Good (vs ++ xs) (suc i) (m + (lastYearIn vs + 1))
+unfolding startAt upTo total dueAt
+good-indices [] i m xs g e c =
+    absurd (omega (arith, g .size, g .start, total-part (λ j. dueAt 0 j .count) 1 i (omega arith)))
+good-indices (v ∷ vs) i m xs g e c =
+    let count : dueAt (natAbs v) i .count ≡ natAbs v + 1 = ap (λ (d : Due). d .count) (due-indices (natAbs v) i e) in
+    record {
+      size = omega (arith, g .size, length-append vs xs);
+      start = omega (arith, g .start, line-start-more (natAbs v) i);
+      within = omega arith;
+      few = g .few;
+      some = λ h. g .some (omega arith);
+    }
+
 -- room for the numbers of the next line, and no more than 203 so far
 pub good-room : (vs : List ℤ) (i m : ℕ) → Good vs i m → (i ≡ lineCount (lastYearIn vs) → ⊥) → m + dueAt (lastYearIn vs) i .count ≤ mostFields
 good-room vs i m g h = omega (arith, g .start, start-room (lastYearIn vs) i (g .few) (omega (arith, g .within)))
@@ -142,6 +161,34 @@ line-step n i vs line g =
         }
     go false false e false f = step-none _ n i _ _ vs g (eqb-false _ 0 f)
 
+-- what a line of inflation that stands for the indices says of its place, and how many they are
+pub stands-place : (k i : ℕ) (line : List ℕ) → standsForIndices k i line ≡ true → i ≡ indicesPlace k
+unfolding standsForIndices
+stands-place k i line h = eqb-true i (indicesPlace k) (both-left (eqb i (indicesPlace k)) (isInflation line && eqb (faultIn (k + 1) line .kind) 0) h)
+
+pub made-count : (k : ℕ) (line : List ℕ) → length (map pos (indicesMade k line)) ≡ k + 1
+unfolding indicesMade
+made-count k line = length-map (upTo (indexAfter (shapeOf line)) (k + 1)) pos ∙ length-upTo (indexAfter (shapeOf line)) (k + 1)
+
+pub next-step : (n i : ℕ) (vs : List ℤ) (line : List ℕ) → Good vs i (length vs) → Step n vs (readNext n i vs line)
+unfolding readNext
+next-step n i vs line g = go (standsForIndices (lastYearIn vs) i line) refl
+  where
+    go : (b : Bool) → standsForIndices (lastYearIn vs) i line ≡ b
+        → Step n vs (cond b (fine n (suc i) (vs ++ map pos (indicesMade (lastYearIn vs) line))) (readLine n i vs line))
+    go true e =
+        let more = good-indices vs i (length vs) (map pos (indicesMade (lastYearIn vs) line)) g (stands-place (lastYearIn vs) i line e) (made-count (lastYearIn vs) line) in
+        record {
+          line = refl;
+          new = map pos (indicesMade (lastYearIn vs) line);
+          added = refl;
+          few = more .few;
+          most = rw (more .size) (good-most _ _ _ more);
+          plain = λ h. refl;
+          good = λ h. record { size = refl; start = more .size ∙ more .start; within = more .within; few = more .few; some = more .some };
+        }
+    go false e = line-step n i vs line g
+
 -- after all of them
 lines-known : (t : Typed) (ls : List (List ℕ)) → t .problem ≡ 0 → Good (t .numbers) (t .place) (length (t .numbers)) → LinesKnown (readLines t ls)
 unfolding readLines
@@ -158,8 +205,8 @@ lines-known t [] h g = go (eqb (t .place) (lineCount (lastYearIn (t .numbers))))
         }
     go false e = record { few = g .few; most = good-most (t .numbers) (t .place) (length (t .numbers)) g; some = λ z. absurd (omega arith); count = λ z. absurd (omega arith) }
 lines-known t (l ∷ ls) h g =
-    let u = readLine (suc (t .line)) (t .place) (t .numbers) (contentOf l) in
-    let s = line-step (suc (t .line)) (t .place) (t .numbers) (contentOf l) g in
+    let u = readNext (suc (t .line)) (t .place) (t .numbers) (contentOf l) in
+    let s = next-step (suc (t .line)) (t .place) (t .numbers) (contentOf l) g in
     go u s (eqb (u .problem) 0) refl (λ z. lines-known u ls z (s .good z))
   where
     go : (u : Typed) → Step (suc (t .line)) (t .numbers) u → (b : Bool) → eqb (u .problem) 0 ≡ b → (u .problem ≡ 0 → LinesKnown (readLines u ls))

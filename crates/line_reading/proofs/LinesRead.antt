@@ -62,19 +62,20 @@ pub reads-kept : {t : Typed} {w : ℕ} {word₀ word : List ℕ} (list : List �
 reads-kept {t} {w} list p n i c m xs e size q =
     rw e (record { said = ap (found p n i c w) (sym size); stored = sym (sets-same list m size); put = q })
 
--- the numbers of a line are stored
-pub reads-fine : {t : Typed} {word : List ℕ} (list list′ : List ℤ) (n i m c : ℕ) (cs : List (List ℕ)) → t ≡ fine n (suc i) (take m list ++ map wholeOf cs)
-    → length (take m list) ≡ m → length cs ≡ c → list′ ≡ sets list m (upTo (λ j. wholeOf (getD cs j [])) c) → Reads t (found 0 n (i + 1) 0 0 (m + c)) list list′ word word
-reads-fine {t} {word} list list′ n i m c cs e size count stored =
-    let new = map wholeOf cs in
-    let all : length (take m list ++ new) ≡ m + c = omega (arith, length-append (take m list) new, length-map cs wholeOf) in
+-- numbers are added, and stored
+pub reads-added : {t : Typed} {word : List ℕ} (list list′ : List ℤ) (n i m c : ℕ) (xs : List ℤ) → t ≡ fine n (suc i) (take m list ++ xs)
+    → length (take m list) ≡ m → length xs ≡ c → list′ ≡ sets list m xs → Reads t (found 0 n (i + 1) 0 0 (m + c)) list list′ word word
+reads-added {t} {word} list list′ n i m c xs e size count stored =
+    let all : length (take m list ++ xs) ≡ m + c = omega (arith, length-append (take m list) xs) in
     rw e
     (record {
       said = rw (add-one i, all);
-      stored =
-          stored
-          ∙ ap (sets list m) (all-numbers cs c count)
-          ∙ ap (λ (l : List ℤ). sets l m new) (sym (sets-same list m size))
-          ∙ sets-append (take m list) new list 0 m (omega arith);
+      stored = stored ∙ ap (λ (l : List ℤ). sets l m xs) (sym (sets-same list m size)) ∙ sets-append (take m list) xs list 0 m (omega arith);
       put = put-none word 0;
     })
+
+-- those of a line's cells
+pub reads-fine : {t : Typed} {word : List ℕ} (list list′ : List ℤ) (n i m c : ℕ) (cs : List (List ℕ)) → t ≡ fine n (suc i) (take m list ++ map wholeOf cs)
+    → length (take m list) ≡ m → length cs ≡ c → list′ ≡ sets list m (upTo (λ j. wholeOf (getD cs j [])) c) → Reads t (found 0 n (i + 1) 0 0 (m + c)) list list′ word word
+reads-fine list list′ n i m c cs e size count stored =
+    reads-added list list′ n i m c (map wholeOf cs) e size (length-map cs wholeOf ∙ count) (stored ∙ ap (sets list m) (all-numbers cs c count))

@@ -1,21 +1,24 @@
 -- Figures as text, written and read (docs/SHEET.md). Assumes nothing.
-use Prim.Native.Nat.{ℕ, suc, _-_}
-use mathlib.Core.Bool.{cond}
+use Prim.Native.Nat.{ℕ, suc, _+_, _-_}
+use mathlib.Core.Bool.{Bool, cond, not, _&&_}
 use mathlib.Core.List.{List, [], _∷_, _++_, map}
-use lib.Dec.{eqb}
+use lib.Dec.{eqb, ltb}
 use lib.IntN.{ℤ, pos, natAbs}
 use lib.ListN.{length, getD, take, drop}
-use Rattle.rules.specs.Lists.{every}
+use Rattle.rules.specs.Lists.{upTo, every}
 use Rattle.rules.specs.Record.{byteCount}
 use Rattle.rules.specs.Writing.{givenIn, writeAnswer, writeInto}
+use Rattle.rules.specs.Inflation.{indexAfter}
 use Rattle.composing.specs.Text.{ascii, integer}
 use Rattle.kinds.specs.Kinds.{marked}
 use Rattle.scanning.specs.Parts.{among, fails, before, pieces, sameText}
 use Rattle.scanning.specs.Numbers.{isNumber, wholeOf}
 use Rattle.cells.specs.Cells.{contentOf, isBare, labelOf, cellsOf, isWithin}
+use Rattle.inflation_line.specs.declared.Fault.{Fault}
+use Rattle.inflation_line.specs.InflationLine.{isInflation, shapeOf, fault, faultIn}
 use Rattle.sheet.specs.declared.Due.{Due}
 use Rattle.sheet.specs.declared.Wrong.{Wrong}
-use Rattle.sheet.specs.Table.{labelDue, lineCount, dueAt, dueLines}
+use Rattle.sheet.specs.Table.{labelDue, lineCount, indicesPlace, dueAt, dueLines}
 
 -- Writing.
 
@@ -97,16 +100,49 @@ readLine n i vs line =
     (cond (eqb i (lineCount k)) (typed 6 n i 0 (labelOf line) vs)
     (cond (eqb (w .problem) 0) (fine n (suc i) (vs ++ map wholeOf (cellsOf line))) (typed (w .problem) n i (w .cell) (wordIn w line) vs)))
 
+-- whether a line of inflation stands at a place where the indices are due, and makes them
+unfoldable pub standsForIndices : ℕ → ℕ → List ℕ → Bool
+standsForIndices k i line = eqb i (indicesPlace k) && (isInflation line && eqb (faultIn (k + 1) line .kind) 0)
+
+-- the indices that it makes, one for each of the k + 1 years wanted
+unfoldable pub indicesMade : ℕ → List ℕ → List ℕ
+indicesMade k line = upTo (indexAfter (shapeOf line)) (k + 1)
+
+-- line n held against the line due at place i, after the numbers vs, where a line of inflation may stand for the indices
+unfoldable pub readNext : ℕ → ℕ → List ℤ → List ℕ → Typed
+readNext n i vs line =
+    let k = lastYearIn vs in
+    cond (standsForIndices k i line) (fine n (suc i) (vs ++ map pos (indicesMade k line))) (readLine n i vs line)
+
 -- the lines of a text, after t; 5 where they end before every line due was there
 unfoldable pub readLines : Typed → List (List ℕ) → Typed
 readLines t [] = cond (eqb (t .place) (lineCount (lastYearIn (t .numbers)))) t (typed 5 (t .line) (t .place) 0 [] (t .numbers))
 readLines t (l ∷ ls) =
-    let u = readLine (suc (t .line)) (t .place) (t .numbers) (contentOf l) in
+    let u = readNext (suc (t .line)) (t .place) (t .numbers) (contentOf l) in
     cond (eqb (u .problem) 0) (readLines u ls) u
 
 -- what reading a text comes to
 unfoldable pub readSheet : List ℕ → Typed
 readSheet text = readLines (fine 0 0 []) (lines (unmarked text))
+
+-- Asking a line of inflation, before anything else of a text but k is.
+
+-- k of some lines: that of the first of them that is not bare, where it is as due, and 0 else
+unfoldable pub yearAsked : List (List ℕ) → ℕ
+yearAsked ls = lastYearIn (readLine 0 0 [] (contentOf (getD ls (before (λ l. not (isBare (contentOf l))) ls) [])) .numbers)
+
+-- how many lines come before the first line of inflation, and what that line is; nothing where there is none
+unfoldable pub linesBefore : List (List ℕ) → ℕ
+linesBefore ls = before (λ l. isInflation (contentOf l)) ls
+
+unfoldable pub inflationLine : List (List ℕ) → List ℕ
+inflationLine ls = contentOf (getD ls (linesBefore ls) [])
+
+-- what is wrong with it, where there is a k and such a line; 0 where nothing is
+unfoldable pub faultAsked : List (List ℕ) → Fault
+faultAsked ls =
+    let k = yearAsked ls in
+    cond (eqb k 0) (fault 0 0) (cond (isInflation (inflationLine ls)) (faultIn (k + 1) (inflationLine ls)) (fault 0 0))
 
 -- Packing: the record of the figures that a text has.
 
@@ -114,7 +150,7 @@ readSheet text = readLines (fine 0 0 []) (lines (unmarked text))
 abbrev pub recordSize : List ℤ → ℕ
 recordSize vs = byteCount (lastYearIn vs)
 
--- the refusal that packing a text answers: 1 or 4 where a number is out of its range, the writer's where the text is as due, and else 0
+-- the refusal that packing a text answers after t: 1 or 4 where a number is out of its range, the writer's where the text is as due, and else 0
 unfoldable pub packAnswer : Typed → ℕ
 packAnswer t =
     cond (eqb (t .problem) 0) (writeAnswer (givenIn (t .numbers)) (recordSize (t .numbers)))
@@ -125,3 +161,16 @@ unfoldable pub packInto : Typed → List ℕ → List ℕ
 packInto t buffer =
     let n = recordSize (t .numbers) in
     cond (eqb (t .problem) 0) (writeInto (givenIn (t .numbers)) (take n buffer) ++ drop n buffer) buffer
+
+-- what is wrong with the line of inflation of a text
+abbrev pub faultOf : List ℕ → Fault
+faultOf text = faultAsked (lines (unmarked text))
+
+-- packing a text: the refusal, 20 and 21 first, and the lent buffer afterwards
+unfoldable pub packedAnswer : List ℕ → ℕ
+packedAnswer text =
+    cond (eqb (faultOf text .kind) 0) (packAnswer (readSheet text))
+    (cond (ltb (faultOf text .kind) 20) 0 (faultOf text .kind))
+
+unfoldable pub packedInto : List ℕ → List ℕ → List ℕ
+packedInto text buffer = cond (eqb (faultOf text .kind) 0) (packInto (readSheet text) buffer) buffer

@@ -27,6 +27,10 @@ labelDue d = getD labels (d .row) []
 abbrev pub lineCount : ℕ → ℕ
 lineCount k = k + 8
 
+-- the place of the indices
+abbrev pub indicesPlace : ℕ → ℕ
+indicesPlace k = k + 3
+
 -- the line due at a place of it
 unfoldable pub dueAt : ℕ → ℕ → Due
 dueAt k place =

@@ -16,10 +16,10 @@ use Rattle.cells.specs.Cells.{contentOf}
 use Rattle.kinds.specs.Kinds.{marked}
 use Rattle.sheet.specs.declared.Found.{Found}
 use Rattle.sheet.specs.Table.{lineCount}
-use Rattle.sheet.specs.Sheet.{Typed, typed, fine, lastYearIn, unmarked, lines, readLine, readLines, readSheet}
+use Rattle.sheet.specs.Sheet.{Typed, typed, fine, lastYearIn, unmarked, lines, readNext, readLines, readSheet}
 use Rattle.line_reading.specs.Reads.{found, Reads, Good}
 use Rattle.line_reading.proofs.LinesRead.{sets-same}
-use Rattle.line_reading.proofs.Known.{Step, line-step, good-none, good-most}
+use Rattle.line_reading.proofs.Known.{Step, next-step, good-none, good-most}
 
 -- before the lines ls, nothing wrong so far
 pub record State (text : List ℕ) (list₀ : List ℤ) (word₀ : List ℕ) (ls : List (List ℕ)) (list : List ℤ) (word : List ℕ) (f : Found) : Type 0 where
@@ -34,14 +34,14 @@ state-start text list word = record { read = refl; good = good-none; stored = re
 
 module _ (text : List ℕ) (list₀ : List ℤ) (word₀ : List ℕ) (l : List ℕ) (ls : List (List ℕ)) (list list′ : List ℤ) (word word′ : List ℕ) (f r : Found)
     (s : State text list₀ word₀ (l ∷ ls) list word f)
-    (h : Reads (readLine (f .line + 1) (f .place) (take (f .count) list) (contentOf l)) r list list′ word word′) where
+    (h : Reads (readNext (f .line + 1) (f .place) (take (f .count) list) (contentOf l)) r list list′ word word′) where
   abbrev t : Typed
-  t = readLine (f .line + 1) (f .place) (take (f .count) list) (contentOf l)
+  t = readNext (f .line + 1) (f .place) (take (f .count) list) (contentOf l)
 
   step : Step (f .line + 1) (take (f .count) list) t
   step =
       let g = s .good in
-      line-step (f .line + 1) (f .place) (take (f .count) list) (contentOf l)
+      next-step (f .line + 1) (f .place) (take (f .count) list) (contentOf l)
       (record { size = refl; start = g .size ∙ g .start; within = g .within; few = g .few; some = g .some })
 
   -- what the lines come to

@@ -1,8 +1,8 @@
 // Figures typed as text, read line by line into a list of fields.
 use cells::content_of;
+use inflation_reading::read_next;
 use kinds::is_marked;
 use line_reading::read_end;
-use line_reading::read_line;
 use rules::MOST_FIELDS;
 use scanning::past;
 use scanning::until;
@@ -12,7 +12,7 @@ ghost use Rattle.sheet.specs.Sheet.{unmarked, readSheet};
 ghost use Rattle.line_reading.specs.Reads.{Reads};
 
 // A text without the mark at its very start.
-fn without_mark(text: &[u8]) -> &[u8]
+pub fn without_mark(text: &[u8]) -> &[u8]
     ensures { λ r. ⌜ now r ≡ unmarked (now (text .entry)) ⌝ }
 {
     if is_marked(text) {
@@ -36,7 +36,7 @@ pub fn read_sheet(text: &[u8], list: &mut [i64; MOST_FIELDS], word: &mut [u8]) -
     };
     loop {
         let line = until(rest, b"\n");
-        f = read_line(content_of(line), f, list, word);
+        f = read_next(content_of(line), f, list, word);
         if f.problem != 0 {
             return f;
         }

@@ -14,12 +14,12 @@ use Rattle.rules.specs.Lists.{upTo, every, total}
 use Rattle.laws.proofs.Lists.{upTo-cons, upTo-ext}
 use Rattle.composing.specs.Text.{integer}
 use Rattle.scanning.specs.Numbers.{ceiling, isNumber, wholeOf}
-use Rattle.scanning.specs.Parts.{from, before, pieces}
+use Rattle.scanning.specs.Parts.{from, before, pieces, sameText}
 use Rattle.commenting.specs.Comments.{uncommented}
 use Rattle.cells.specs.Cells.{unreturned, contentOf, isBare, isWithin}
 use Rattle.sheet.specs.declared.Due.{Due}
 use Rattle.sheet.specs.Table.{labels, labelDue, lineCount, dueAt, dueLines}
-use Rattle.sheet.specs.Sheet.{spaced, lineOf, linesOf, lastYearIn, sameText, wrong, wrongIn, lines, fine, readLine, readLines}
+use Rattle.sheet.specs.Sheet.{spaced, lineOf, linesOf, lastYearIn, wrong, wrongIn, lines, fine, readLine, readLines}
 use Rattle.sheet_writing.proofs.LinesPut.{countsOf}
 use Rattle.line_reading.proofs.LinesRead.{line-fine}
 use Rattle.sheet_record.proofs.NumbersBack.{integer-number, integer-value}

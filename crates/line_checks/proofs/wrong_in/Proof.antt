@@ -8,7 +8,7 @@ use Rattle.rules.specs.Lists.{every}
 use Rattle.scanning.specs.Parts.{fails, before}
 use Rattle.cells.specs.Cells.{labelOf, cellsOf, isWithin}
 use Rattle.sheet.specs.Table.{labelDue}
-use Rattle.sheet.specs.Sheet.{sameText}
+use Rattle.scanning.specs.Parts.{sameText}
 use Rattle.line_checks.proofs.Wrong.{wrong-label, wrong-number, wrong-count, wrong-range, wrong-none}
 use Rattle.line_checks.proofs.wrong_in.Statement.{statement}
 use Rattle.line_checks.proofs.wrong_in.Tie as tie

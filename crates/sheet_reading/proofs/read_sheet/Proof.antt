@@ -12,7 +12,7 @@ use Rattle.scanning.specs.Parts.{among, until, past}
 use Rattle.scanning.proofs.Parts.{until-most}
 use Rattle.cells.specs.Cells.{contentOf}
 use Rattle.cells.proofs.CellWalk.{pieces-first, pieces-last, pieces-more, past-shorter, after}
-use Rattle.sheet.specs.Sheet.{lines, readLine}
+use Rattle.sheet.specs.Sheet.{lines, readNext}
 use Rattle.line_reading.specs.Reads.{Reads}
 use Rattle.sheet_reading.proofs.Turns.{State, state-start, state-wrong, state-next, next-line, state-end, unmarked-most}
 use Rattle.sheet_reading.proofs.read_sheet.Statement.{statement}
@@ -28,31 +28,31 @@ abbrev p : ℕ → Bool
 p = among (ascii "\n")
 
 -- a line was read, where the lines of the rest are these
-abbrev Here : (c : tie.After-read-line Inv-loop μ-loop) → List (List ℕ) → Type 0
+abbrev Here : (c : tie.After-read-next Inv-loop μ-loop) → List (List ℕ) → Type 0
 Here c ls = lines (c .before .before .before .before .before .before .loop .rest .now) ≡ until p (c .before .before .before .before .before .before .loop .rest .now) ∷ ls
 
-abbrev start : tie.After-read-line Inv-loop μ-loop → tie.Start Inv-loop μ-loop
+abbrev start : tie.After-read-next Inv-loop μ-loop → tie.Start Inv-loop μ-loop
 start c = c .before .before .before .before .before .before .before .before .before .before
 
 -- what it came to
-reads : (c : tie.After-read-line Inv-loop μ-loop)
-    → Reads (readLine (c .before .before .before .before .before .before .loop .f .line + 1) (c .before .before .before .before .before .before .loop .f .place) (take (c .before .before .before .before .before .before .loop .f .count) (c .before .before .before .before .before .before .loop .list)) (contentOf (until p (c .before .before .before .before .before .before .loop .rest .now))))
-    (c .read-line .result) (c .before .before .before .before .before .before .loop .list) (c .read-line .last .1 .1 .0) (c .before .before .before .before .before .before .loop .word) (c .read-line .last .1 .1 .1 .0)
-reads c = rw (c .before .before .before .content-of .ensures, c .before .before .before .before .until .ensures) at (c .read-line .ensures)
+reads : (c : tie.After-read-next Inv-loop μ-loop)
+    → Reads (readNext (c .before .before .before .before .before .before .loop .f .line + 1) (c .before .before .before .before .before .before .loop .f .place) (take (c .before .before .before .before .before .before .loop .f .count) (c .before .before .before .before .before .before .loop .list)) (contentOf (until p (c .before .before .before .before .before .before .loop .rest .now))))
+    (c .read-next .result) (c .before .before .before .before .before .before .loop .list) (c .read-next .last .1 .1 .0) (c .before .before .before .before .before .before .loop .word) (c .read-next .last .1 .1 .1 .0)
+reads c = rw (c .before .before .before .content-of .ensures, c .before .before .before .before .until .ensures) at (c .read-next .ensures)
 
-next : (c : tie.After-read-line Inv-loop μ-loop) (ls : List (List ℕ)) → Here c ls → c .read-line .result .problem ≡ 0
-    → State (start c .args .text .now) (start c .args .list .now) (start c .args .word .now) ls (c .read-line .last .1 .1 .0) (c .read-line .last .1 .1 .1 .0) (c .read-line .result)
+next : (c : tie.After-read-next Inv-loop μ-loop) (ls : List (List ℕ)) → Here c ls → c .read-next .result .problem ≡ 0
+    → State (start c .args .text .now) (start c .args .list .now) (start c .args .word .now) ls (c .read-next .last .1 .1 .0) (c .read-next .last .1 .1 .1 .0) (c .read-next .result)
 next c ls e h =
     let l = c .before .before .before .before .before .before .loop in
-    state-next _ _ _ (until p (l .rest .now)) ls (l .list) _ (l .word) _ (l .f) _ (rw e at (l .inv .0)) (reads c) h (c .before .before .read-line-arg .given .0 .1)
+    state-next _ _ _ (until p (l .rest .now)) ls (l .list) _ (l .word) _ (l .f) _ (rw e at (l .inv .0)) (reads c) h (c .before .before .read-next-arg .given .0 .1)
 
 loop-holds : tie.Need-loop-holds Inv-loop μ-loop
 loop-holds c =
     (rw (c .without-mark .ensures) (state-start _ _ _), rw (c .without-mark .ensures) (omega (arith, unmarked-most (c .before .before .before .args .text .now))))
 
-read-line-requires : tie.Need-read-line-requires Inv-loop μ-loop
-read-line-requires c κs =
-    (omega arith, (c .before .read-line-arg .given .0 .1, c .before .before .before .before .before .loop .inv .0 .good))
+read-next-requires : tie.Need-read-next-requires Inv-loop μ-loop
+read-next-requires c κs =
+    (omega arith, (c .before .read-next-arg .given .0 .1, c .before .before .before .before .before .loop .inv .0 .good))
 
 same-length : tie.Need-same-length Inv-loop μ-loop
 same-length c =
@@ -93,7 +93,7 @@ loop-again c =
     let l = d .before .before .before .before .before .before .loop in
     let rest = l .rest .now in
     let more : length (until p rest) < length rest = omega (arith, ap length (d .before .before .before .before .until .ensures), until-most p rest) in
-    let number = next-line _ _ _ (until p rest) (lines (past p rest)) (l .list) _ (l .word) _ (l .f) _ (rw (pieces-more p rest more) at (l .inv .0)) (reads d) (c .before .before .before .if1 .left) (d .before .before .read-line-arg .given .0 .1) in
+    let number = next-line _ _ _ (until p rest) (lines (past p rest)) (l .list) _ (l .word) _ (l .f) _ (rw (pieces-more p rest more) at (l .inv .0)) (reads d) (c .before .before .before .if1 .left) (d .before .before .read-next-arg .given .0 .1) in
     rw (c .past .ensures)
     (next d (lines (past p rest)) (pieces-more p rest more) (c .before .before .before .if1 .left), omega (arith, number, past-shorter p rest more))
 
@@ -108,7 +108,7 @@ read-sheet-spec =
     (λ c. search needs)
     (λ c κs. search needs)
     (λ c κs. search needs)
-    read-line-requires
+    read-next-requires
     same-length
     returns
     read-end-requires

@@ -1,0 +1,74 @@
+-- A line of inflation that stands for the indices: what it says of its line, and what a call hands back of its rates. Assumes nothing.
+use mathlib.Core.Path.{_≡_, refl, sym, ap, _∙_}
+use mathlib.Core.Bool.{Bool, true, false, _&&_}
+use mathlib.Core.List.{List, [], _∷_, _++_, map}
+use Prim.Native.Nat.{ℕ, suc, _+_, _-_, _≤_, _<_, _^_}
+use native.Mathlib.Numerals.{add-one}
+use native.Mathlib.Omega.{arith}
+use borrow.Author.Tests.{eqb-true, leb-true, eq-eqb, ne-eqb}
+use lib.Dec.{eqb, leb}
+use lib.IntN.{ℤ, pos}
+use lib.ListN.{length, getD, take, replicate, length-append, length-replicate}
+use lib.Seq.{sets}
+use Rattle.rules.specs.Lists.{upTo, below, padded, every, between}
+use Rattle.rules.specs.Questions.{firstNo, afterCall}
+use Rattle.rules.specs.Record.{mostIndex}
+use Rattle.rules.specs.Inflation.{mostYears, indexAfter, ratesPass, indicesPass, inflationQuestions, inflationAnswer, indicesOf}
+use Rattle.rules.specs.declared.Inflation.{Inflation}
+use Rattle.laws.proofs.Lists.{both-left, both-right, every-upTo, length-upTo, take-padded}
+use Rattle.laws.proofs.Padded.{filled-at}
+use Rattle.laws.proofs.Questions.{yes-at}
+use Rattle.inflation_line.specs.InflationLine.{isInflation, shapeOf, faultIn}
+use Rattle.inflation_line.proofs.Lines.{fault-accepted}
+use Rattle.sheet.specs.Table.{indicesPlace}
+use Rattle.sheet.specs.Sheet.{lastYearIn, fine, readLine, standsForIndices, indicesMade, readNext}
+
+module _ (k i : ℕ) (line : List ℕ) where
+  pub other-place : (i ≡ k + 3 → ⊥) → false ≡ standsForIndices k i line
+  unfolding standsForIndices
+  other-place h = rw (ne-eqb i (k + 3) h)
+
+  module _ (e : i ≡ k + 3) where
+    pub other-line : isInflation line ≡ false → false ≡ standsForIndices k i line
+    unfolding standsForIndices
+    other-line h = rw (eq-eqb i (k + 3) e, h)
+
+    pub by-fault : isInflation line ≡ true → eqb (faultIn (k + 1) line .kind) 0 ≡ standsForIndices k i line
+    unfolding standsForIndices
+    by-fault h = rw (eq-eqb i (k + 3) e, h)
+
+  -- its rates are accepted
+  pub stands-accepted : standsForIndices k i line ≡ true → inflationAnswer (shapeOf line) (k + 1) ≡ 0
+  unfolding standsForIndices
+  stands-accepted h =
+      fault-accepted (k + 1) line (eqb-true _ 0 (both-right (isInflation line) (eqb (faultIn (k + 1) line .kind) 0) (both-right (eqb i (k + 3)) (isInflation line && eqb (faultIn (k + 1) line .kind) 0) h)))
+
+-- of an accepted call: the indices of the years wanted, each below 2^63
+module _ (shape : Inflation) (years : ℕ) (h : inflationAnswer shape years ≡ 0) where
+  pub call-indices : take years (indicesOf shape years .values) ≡ upTo (indexAfter shape) years
+  unfolding indicesOf afterCall
+  call-indices = rw h (take-padded mostYears years 0 (upTo (indexAfter shape) years) (length-upTo (indexAfter shape) years))
+
+  pub call-small : (n : ℕ) → n < years → getD (indicesOf shape years .values) n 0 < 2 ^ 63
+  unfolding indicesOf afterCall inflationAnswer inflationQuestions indicesPass every
+  call-small n l =
+      let passed : indicesPass shape years ≡ true = yes-at ((20, ratesPass shape years) ∷ (21, indicesPass shape years) ∷ []) refl h 1 in
+      let within : between 1 mostIndex (indexAfter shape n) ≡ true = every-upTo (λ m. between 1 mostIndex (indexAfter shape m)) (λ m. m) years n passed l in
+      let most = leb-true (indexAfter shape n) mostIndex (both-right (leb 1 (indexAfter shape n)) (leb (indexAfter shape n) mostIndex) within) in
+      rw (h, filled-at mostYears 0 (indexAfter shape) years n 0 l) (omega arith)
+
+  pub call-length : years ≤ mostYears → length (indicesOf shape years .values) ≡ mostYears
+  unfolding indicesOf afterCall padded
+  call-length l =
+      let indices = upTo (indexAfter shape) years in
+      rw h (length-append {A = ℕ} indices (replicate (mostYears - length indices) 0) ∙ omega (arith, length-replicate {A = ℕ} (mostYears - length indices) 0, length-upTo (indexAfter shape) years))
+
+-- a line that stands for the indices, and any other
+module _ (n i : ℕ) (vs : List ℤ) (line : List ℕ) where
+  pub next-made : standsForIndices (lastYearIn vs) i line ≡ true → readNext n i vs line ≡ fine n (suc i) (vs ++ map pos (indicesMade (lastYearIn vs) line))
+  unfolding readNext
+  next-made h = rw h
+
+  pub next-plain : standsForIndices (lastYearIn vs) i line ≡ false → readNext n i vs line ≡ readLine n i vs line
+  unfolding readNext
+  next-plain h = rw h
