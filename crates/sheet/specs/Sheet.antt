@@ -1,6 +1,6 @@
 -- Figures as text, written and read (docs/SHEET.md). Assumes nothing.
 use Prim.Native.Nat.{ℕ, suc, _+_, _-_}
-use mathlib.Core.Bool.{Bool, cond, not, _&&_}
+use mathlib.Core.Bool.{Bool, true, false, cond, not, _&&_}
 use mathlib.Core.List.{List, [], _∷_, _++_, map}
 use lib.Dec.{eqb, ltb}
 use lib.IntN.{ℤ, pos, natAbs}
@@ -127,16 +127,24 @@ readSheet text = readLines (fine 0 0 []) (lines (unmarked text))
 
 -- Asking a line of inflation, before anything else of a text but k is.
 
--- k of some lines: that of the first of them that is not bare, where it is as due, and 0 else
+-- whether a line is one of inflation, or, where that is not wanted, one that is not bare
+unfoldable pub isWanted : Bool → List ℕ → Bool
+isWanted inflation l = cond inflation (isInflation (contentOf l)) (not (isBare (contentOf l)))
+
+-- how many lines come before the first such line, and what that line is; nothing where there is none
+unfoldable pub linesBefore : Bool → List (List ℕ) → ℕ
+linesBefore inflation ls = before (isWanted inflation) ls
+
+unfoldable pub lineWanted : Bool → List (List ℕ) → List ℕ
+lineWanted inflation ls = contentOf (getD ls (linesBefore inflation ls) [])
+
+-- k of some lines: that of the first that is not bare, where it is as due, and 0 else
 unfoldable pub yearAsked : List (List ℕ) → ℕ
-yearAsked ls = lastYearIn (readLine 0 0 [] (contentOf (getD ls (before (λ l. not (isBare (contentOf l))) ls) [])) .numbers)
+yearAsked ls = lastYearIn (readLine 1 0 [] (lineWanted false ls) .numbers)
 
--- how many lines come before the first line of inflation, and what that line is; nothing where there is none
-unfoldable pub linesBefore : List (List ℕ) → ℕ
-linesBefore ls = before (λ l. isInflation (contentOf l)) ls
-
-unfoldable pub inflationLine : List (List ℕ) → List ℕ
-inflationLine ls = contentOf (getD ls (linesBefore ls) [])
+-- the first line of inflation
+abbrev pub inflationLine : List (List ℕ) → List ℕ
+inflationLine ls = lineWanted true ls
 
 -- what is wrong with it, where there is a k and such a line; 0 where nothing is
 unfoldable pub faultAsked : List (List ℕ) → Fault

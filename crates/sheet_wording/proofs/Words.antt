@@ -4,12 +4,13 @@ use mathlib.Core.Bool.{cond}
 use mathlib.Core.List.{List, [], _∷_, _++_, append-assoc}
 use Prim.Native.Nat.{ℕ, zero, suc, _≤_}
 use native.Mathlib.Omega.{arith}
+use borrow.Author.Tests.{eq-eqb, ne-eqb}
 use lib.Dec.{eqb}
 use lib.ListN.{getD, List·getD-eq-default}
 use Rattle.composing.specs.Text.{ascii, decimal}
 use Rattle.sheet.specs.declared.Due.{Due}
 use Rattle.sheet.specs.Table.{labelDue}
-use Rattle.sheet_wording.specs.Problem.{named, countText, problemWords}
+use Rattle.sheet_wording.specs.Problem.{named, countText, orInflation, problemWords}
 
 -- further text after a word, and after a text between two
 pub named-append : (w ys : List ℕ) → ascii "`" ++ (w ++ (ascii "`" ++ ys)) ≡ named w ++ ys
@@ -25,6 +26,15 @@ pub counts-are : (d : Due) (c : ℕ)
     ≡ countText d c
 unfolding countText
 counts-are d c = simp append-assoc
+
+-- where the indices are due, and where they are not
+pub or-inflation : (d : Due) → d .row ≡ 3 → orInflation d ≡ ascii " or `inflation`"
+unfolding orInflation
+or-inflation d e = rw (eq-eqb (d .row) 3 e)
+
+pub or-none : (d : Due) → (d .row ≡ 3 → ⊥) → orInflation d ≡ []
+unfolding orInflation
+or-none d e = rw (ne-eqb (d .row) 3 e)
 
 -- a number that no problem has
 pub no-words : (d : Due) (c : ℕ) (w : List ℕ) (p : ℕ) → (p ≡ 1 → ⊥) → (p ≡ 2 → ⊥) → (p ≡ 3 → ⊥) → (p ≡ 4 → ⊥) → (p ≡ 5 → ⊥) → (p ≡ 6 → ⊥)

@@ -33,15 +33,19 @@ countText d c =
     ++ (decimal (d .count)
     ++ (cond (eqb (d .count) 1) (ascii " number, and ") (ascii " numbers, and ") ++ (decimal c ++ cond (eqb c 1) (ascii " stands there") (ascii " stand there")))))
 
+-- where the indices are due, a line of inflation may stand for them
+unfoldable pub orInflation : Due → List ℕ
+orInflation d = cond (eqb (d .row) 3) (ascii " or `inflation`") []
+
 -- the words of the problems 1 to 6 of `readSheet`, where d is due, about cell c and the word w
 unfoldable pub problemWords : Due → ℕ → List ℕ → List (List ℕ)
 problemWords d c w =
     []
-    ∷ (ascii "a line that starts with " ++ (named (labelDue d) ++ (ascii " is due, not with " ++ named w)))
+    ∷ (ascii "a line that starts with " ++ (named (labelDue d) ++ ((orInflation d ++ ascii " is due, not with ") ++ named w)))
     ∷ numberText d c w
     ∷ countText d c
     ∷ numberText d c w
-    ∷ (ascii "the text ends where " ++ (named (labelDue d) ++ ascii " is due"))
+    ∷ (ascii "the text ends where " ++ (named (labelDue d) ++ (orInflation d ++ ascii " is due")))
     ∷ (named w ++ ascii " stands where the text should end: there is more than the figures call for")
     ∷ []
 

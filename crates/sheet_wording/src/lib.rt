@@ -10,10 +10,10 @@ ghost use lib.Dec.{eqb};
 ghost use lib.ListN.{getD};
 ghost use Rattle.composing.specs.Text.{Put, decimal};
 ghost use Rattle.sheet.specs.Table.{labelDue};
-ghost use Rattle.sheet_wording.specs.Problem.{named, cellText, rangeText, numberText, countText, problemWords, problemLine};
+ghost use Rattle.sheet_wording.specs.Problem.{named, orInflation, cellText, rangeText, numberText, countText, problemWords, problemLine};
 
 // A word of the text.
-fn put_named(out: &mut [u8], at: usize, word: &[u8]) -> usize
+pub fn put_named(out: &mut [u8], at: usize, word: &[u8]) -> usize
     ensures { λ r. ⌜ Put (now (out .entry)) (now (out .exit)) at r (named (now (word .entry))) ⌝ }
 {
     let start = put_bytes(out, at, b"`");
@@ -32,8 +32,19 @@ fn put_due(out: &mut [u8], at: usize, before: &[u8], d: Due, after: &[u8]) -> us
     put_bytes(out, end, after)
 }
 
+// The same, with a line of inflation where it may stand for the one due.
+fn put_due_line(out: &mut [u8], at: usize, before: &[u8], d: Due, after: &[u8]) -> usize
+    ensures { λ r. ⌜ Put (now (out .entry)) (now (out .exit)) at r (now (before .entry) ++ (named (labelDue d) ++ (orInflation d ++ now (after .entry)))) ⌝ }
+{
+    if d.row == 3 {
+        let end = put_due(out, at, before, d, b" or `inflation`");
+        return put_bytes(out, end, after);
+    }
+    put_due(out, at, before, d, after)
+}
+
 // A cell, which may be empty.
-fn put_cell(out: &mut [u8], at: usize, word: &[u8]) -> usize
+pub fn put_cell(out: &mut [u8], at: usize, word: &[u8]) -> usize
     ensures { λ r. ⌜ Put (now (out .entry)) (now (out .exit)) at r (cellText (now (word .entry))) ⌝ }
 {
     if word.len() == 0 {
@@ -65,7 +76,7 @@ fn put_number(out: &mut [u8], at: usize, d: Due, cell: usize, word: &[u8]) -> us
 }
 
 // A count, with words for one and for others.
-fn put_count(out: &mut [u8], at: usize, n: usize, one: &[u8], others: &[u8]) -> usize
+pub fn put_count(out: &mut [u8], at: usize, n: usize, one: &[u8], others: &[u8]) -> usize
     ensures { λ r. ⌜ Put (now (out .entry)) (now (out .exit)) at r (decimal n ++ cond (eqb n 1) (now (one .entry)) (now (others .entry))) ⌝ }
 {
     let end = put_decimal(out, at, n as u64);
@@ -89,7 +100,7 @@ fn put_words(out: &mut [u8], at: usize, problem: u64, d: Due, cell: usize, word:
     ensures { λ r. ⌜ Put (now (out .entry)) (now (out .exit)) at r (getD (problemWords d cell (now (word .entry))) problem []) ⌝ }
 {
     if problem == 1 {
-        let name = put_due(
+        let name = put_due_line(
             out,
             at,
             b"a line that starts with ",
@@ -108,7 +119,7 @@ fn put_words(out: &mut [u8], at: usize, problem: u64, d: Due, cell: usize, word:
         return put_number(out, at, d, cell, word);
     }
     if problem == 5 {
-        return put_due(out, at, b"the text ends where ", d, b" is due");
+        return put_due_line(out, at, b"the text ends where ", d, b" is due");
     }
     if problem == 6 {
         let end = put_named(out, at, word);

@@ -1,9 +1,10 @@
 -- By the problem's number. Assumes nothing.
 use mathlib.Core.Path.{sym}
+use mathlib.Core.List.{_++_}
 use Rattle.composing.specs.Text.{ascii}
 use Rattle.composing.proofs.Puts.{put-append, put-same, put-none}
 use Rattle.sheet.specs.Table.{labelDue}
-use Rattle.sheet_wording.specs.Problem.{named, problemWords}
+use Rattle.sheet_wording.specs.Problem.{named, orInflation, problemWords}
 use Rattle.sheet_wording.proofs.Words.{words-between, no-words}
 use borrow.Author.Needs.{needs}
 use Rattle.sheet_wording.proofs.put_words.Statement.{statement}
@@ -13,7 +14,7 @@ returns : tie.Need-returns
 unfolding problemWords
 returns c =
     rw (c .before .before .before .before .before .before .before .before .before .before .if1 .taken)
-    (put-same (words-between (ascii "a line that starts with ") (named (labelDue (c .before .before .before .before .before .before .before .before .before .before .before .before .before .args .d))) (ascii " is due, not with ") (named (c .before .before .before .before .before .before .before .before .before .before .before .before .before .args .word .now))) (put-append (c .before .before .before .before .before .before .put-due .ensures) (c .before .before .put-named .ensures)))
+    (put-same (words-between (ascii "a line that starts with ") (named (labelDue (c .before .before .before .before .before .before .before .before .before .before .before .before .before .args .d))) (orInflation (c .before .before .before .before .before .before .before .before .before .before .before .before .before .args .d) ++ ascii " is due, not with ") (named (c .before .before .before .before .before .before .before .before .before .before .before .before .before .args .word .now))) (put-append (c .before .before .before .before .before .before .put-due-line .ensures) (c .before .before .put-named .ensures)))
 
 returns-2 : tie.Need-returns-2
 unfolding problemWords
@@ -29,7 +30,7 @@ returns-4 c = rw (c .before .before .before .before .if4 .taken) (c .before .bef
 
 returns-5 : tie.Need-returns-5
 unfolding problemWords
-returns-5 c = rw (c .before .before .before .before .before .before .if5 .taken) (c .before .before .put-due2 .ensures)
+returns-5 c = rw (c .before .before .before .before .before .before .if5 .taken) (c .before .before .put-due-line2 .ensures)
 
 returns-6 : tie.Need-returns-6
 unfolding problemWords
