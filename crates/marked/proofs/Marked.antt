@@ -1,6 +1,7 @@
 -- The marked triangles and edges of document 01, with what requests 1, 3, 4 and 6 of document 02 mark: one or more rows for each starred item, what the rules give and
 -- what the paper prints, and one theorem. A marked triangle is of valuation year 2026, has nothing still to be paid after year k, and e_{k+1} = M. The second row
--- of averages, the rows with an amount still to be paid or a later year, and the last three but for document 01's k = 2 case are ours.
+-- of averages, the rows with an amount still to be paid or a later year, and those after them but for document 01's k = 2 case are ours. Worked calls for the indices of
+-- inflation (request 5) are a table of their own, inflation_bounds/proofs/Examples.antt: with them the theorem here would take more steps than a check grants to one.
 -- Assumes nothing.
 use Prim.Native.Nat.{ℕ}
 use mathlib.Core.Path.{_≡_, refl}

@@ -1,0 +1,6 @@
+pub mod Rounding
+pub mod Halfway
+pub mod Rates
+pub mod Paths
+pub mod Calls
+pub mod Examples
