@@ -5,7 +5,7 @@ use printing::put_output;
 use printing::read_input;
 use printing::say;
 use rules::MOST_BYTES;
-use sheet_packing::pack_text;
+use text_packing::pack_text;
 
 // The first n bytes on standard output.
 fn put_record(packed: &[u8; MOST_BYTES], n: usize) {

@@ -54,7 +54,7 @@ fn put_wrong(out: &mut [u8], f: Found, list: &[i64], word: &[u8]) -> usize
 }
 
 // Packs the figures of a text into the record, or says in the message what is wrong with them.
-pub fn pack_text(text: &[u8], packed: &mut [u8; MOST_BYTES], message: &mut [u8]) -> Outcome
+pub fn pack_sheet(text: &[u8], packed: &mut [u8; MOST_BYTES], message: &mut [u8]) -> Outcome
     ensures { λ r. ⌜ (now (packed .exit) ≡ packInto (readSheet (now (text .entry))) (now (packed .entry)))
         × ((r .size ≡ sizeOf (readSheet (now (text .entry))))
         × Put (now (message .entry)) (now (message .exit)) 0 (r .said) (saidOf (readSheet (now (text .entry))))) ⌝ }

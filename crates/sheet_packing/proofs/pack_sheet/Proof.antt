@@ -8,8 +8,8 @@ use Rattle.rules.specs.Record.{mostBytes}
 use Rattle.composing.proofs.Puts.{put-same, put-none}
 use Rattle.sheet_packing.proofs.Outcomes.{list-long, word-long, asked, wrong, few, written, refused, made}
 use borrow.Author.Needs.{needs}
-use Rattle.sheet_packing.proofs.pack_text.Statement.{statement}
-use Rattle.sheet_packing.proofs.pack_text.Tie as tie
+use Rattle.sheet_packing.proofs.pack_sheet.Statement.{statement}
+use Rattle.sheet_packing.proofs.pack_sheet.Tie as tie
 
 -- what was read
 abbrev text : tie.After-read-sheet → List ℕ
@@ -78,8 +78,8 @@ returns-3 c =
     let done = made (text r) _ _ _ (r .read-sheet .ensures) (c .before .before .before .before .before .before .before .if1 .left) _ (k .ensures) (w .result) (w .ensures .0) (c .before .if2 .left) in
     (written (text r) _ _ _ (r .read-sheet .ensures) (c .before .before .before .before .before .before .before .if1 .left) _ (k .ensures) _ _ (w .ensures .1), (c .bytes-of .ensures .0 ∙ done .0, put-same (done .1) (put-none _ 0)))
 
-pub pack-text-spec : {M : Type 1} → statement M
-pack-text-spec =
+pub pack-sheet-spec : {M : Type 1} → statement M
+pack-sheet-spec =
     tie.close
     (tie.spec
     (λ c. search needs)
