@@ -1,4 +1,5 @@
--- The report of an accepted record, section by section: of its figures xs and its single figures, in a valuation year, with a title and a first origin year. Assumes nothing.
+-- The report of an accepted record, section by section: of its figures xs and its single figures, in a valuation year, with a title, the line of inflation whose rates made
+-- the indices, where there is one, and a first origin year. Assumes nothing.
 use Prim.Native.Nat.{ℕ}
 use mathlib.Core.Bool.{Bool, true}
 use mathlib.Core.List.{List, _++_}
@@ -15,6 +16,7 @@ use Rattle.payment_section.specs.Payments.{paymentsSection}
 use Rattle.expense_section.specs.Expense.{expenseSection}
 use Rattle.ladder_section.specs.Ladder.{ladderSection}
 use Rattle.input_section.specs.InputSection.{inputSection}
+use Rattle.rates_section.specs.RatesSection.{ratesSection}
 use Rattle.proof_section.specs.Proved.{proofSection}
 use Rattle.record_section.specs.RecordSection.{recordSection}
 use Rattle.summary_figures.specs.Summary.{averagesAt, gapsAt, lostAt}
@@ -32,15 +34,15 @@ unfoldable pub methodSections : Bool → ℕ → ℕ → List ℤ → List ℤ �
 methodSections html first k xs singles =
     keySection html first k xs singles ++ (provisionsSection html first k xs ++ (sharesSection html first k xs ++ fitOf html first k xs singles))
 
-unfoldable pub otherSections : Bool → ℕ → ℕ → ℕ → List ℤ → List ℤ → List ℕ
-otherSections html year first k xs singles =
+unfoldable pub otherSections : Bool → List ℕ → ℕ → ℕ → ℕ → List ℤ → List ℤ → List ℕ
+otherSections html rates year first k xs singles =
     paymentsSection html first k xs
     ++ (expenseSection html (corrects year) singles
-    ++ (ladderSection html first k xs ++ (inputSection html first k xs singles ++ proofSection html k singles)))
+    ++ (ladderSection html first k xs ++ (inputSection html first k xs singles ++ (ratesSection html first k rates ++ proofSection html k singles))))
 
 -- the page of a record that has passed all questions
-unfoldable pub acceptedPage : Bool → List ℕ → ℕ → ℕ → ℕ → List ℕ → List ℤ → List ℤ → List ℕ
-acceptedPage html title year first k packed xs singles =
+unfoldable pub acceptedPage : Bool → List ℕ → List ℕ → ℕ → ℕ → ℕ → List ℕ → List ℤ → List ℤ → List ℕ
+acceptedPage html title rates year first k packed xs singles =
     pageStart html title year
     ++ (openingText html true year first k (length packed)
-    ++ (methodSections html first k xs singles ++ (otherSections html year first k xs singles ++ (recordSection html packed ++ pageEnd html))))
+    ++ (methodSections html first k xs singles ++ (otherSections html rates year first k xs singles ++ (recordSection html packed ++ pageEnd html))))

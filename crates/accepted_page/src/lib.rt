@@ -12,6 +12,7 @@ use page_opening::put_opening;
 use payment_section::put_payment_section;
 use proof_section::put_proof_section;
 use provision_section::put_provision_section;
+use rates_section::put_rates_section;
 use record_section::put_record_section;
 use share_section::put_share_section;
 use summary_figures::SINGLES;
@@ -72,6 +73,7 @@ fn put_other_sections(
     out: &mut [u8],
     at: usize,
     html: bool,
+    rates: &[u8],
     year: u64,
     first: usize,
     k: usize,
@@ -79,13 +81,14 @@ fn put_other_sections(
     singles: &[i64; SINGLES],
 ) -> usize
     requires { ⌜ (k < 16) × ((first ≤ 65535) × Figured k (now figures)) ⌝ }
-    ensures { λ r. ⌜ Put (now (out .entry)) (now (out .exit)) at r (otherSections html year first k (now (figures .entry)) (now (singles .entry))) ⌝ }
+    ensures { λ r. ⌜ Put (now (out .entry)) (now (out .exit)) at r (otherSections html (now (rates .entry)) year first k (now (figures .entry)) (now (singles .entry))) ⌝ }
 {
     let a = put_payment_section(out, at, html, first, k, figures);
     let b = put_expense_section(out, a, html, corrects(year), singles);
     let c = put_ladder_section(out, b, html, first, k, figures);
     let d = put_input_section(out, c, html, first, k, figures, singles);
-    put_proof_section(out, d, html, k, singles)
+    let e = put_rates_section(out, d, html, first, k, rates);
+    put_proof_section(out, e, html, k, singles)
 }
 
 // The page.
@@ -93,6 +96,7 @@ pub fn put_accepted_page(
     out: &mut [u8],
     html: bool,
     title: &[u8],
+    rates: &[u8],
     year: u64,
     first: usize,
     k: usize,
@@ -102,12 +106,12 @@ pub fn put_accepted_page(
 ) -> usize
     requires { ⌜ (k < 16) × ((first ≤ 65535) × Figured k (now figures)) ⌝ }
     ensures { λ r. ⌜ Put (now (out .entry)) (now (out .exit)) 0 r
-        (acceptedPage html (now (title .entry)) year first k (now (packed .entry)) (now (figures .entry)) (now (singles .entry))) ⌝ }
+        (acceptedPage html (now (title .entry)) (now (rates .entry)) year first k (now (packed .entry)) (now (figures .entry)) (now (singles .entry))) ⌝ }
 {
     let a = put_page_start(out, 0, html, title, year);
     let b = put_opening(out, a, html, true, year, first, k, packed.len());
     let c = put_method_sections(out, b, html, first, k, figures, singles);
-    let d = put_other_sections(out, c, html, year, first, k, figures, singles);
+    let d = put_other_sections(out, c, html, rates, year, first, k, figures, singles);
     let e = put_record_section(out, d, html, packed);
     put_page_end(out, e, html)
 }

@@ -95,8 +95,5 @@ pub fn fault_asked(text: &[u8]) -> Fault
             return fault_in(k + 1, line);
         }
     }
-    Fault {
-        kind: 0,
-        about: 0,
-    }
+    Fault { kind: 0, about: 0 }
 }

@@ -1,4 +1,5 @@
--- The report of a record s that question n refuses: where it says no and what is not so, the inputs where they can be read, and the record. Assumes nothing.
+-- The report of a record s that question n refuses: where it says no and what is not so, the inputs where they can be read, with the line of inflation whose rates made the
+-- indices, where there is one, and the record. Assumes nothing.
 use Prim.Native.Nat.{ℕ}
 use mathlib.Core.Bool.{Bool, true, false, not, _&&_, cond}
 use mathlib.Core.List.{List, [], _++_}
@@ -16,6 +17,7 @@ use Rattle.findings.specs.Findings.{findingOf}
 use Rattle.refused_section.specs.RefusedSection.{refusedSection}
 use Rattle.rest_years.specs.RestYears.{restSection}
 use Rattle.input_section.specs.InputSection.{inputSection}
+use Rattle.rates_section.specs.RatesSection.{ratesSection}
 use Rattle.proof_section.specs.Proved.{refusedProof}
 use Rattle.record_section.specs.RecordSection.{recordSection}
 
@@ -54,9 +56,13 @@ refusedRests html s n = cond (eqb n 8) (restSection html (squareOf (figuresOf s)
 unfoldable pub refusal : Bool → ℕ → List ℕ → ℕ → List ℕ
 refusal html first s n = refusedSection html first n (findingOf s n) ++ refusedRests html s n
 
-unfoldable pub refusedPage : Bool → List ℕ → ℕ → ℕ → List ℕ → ℕ → List ℕ
-refusedPage html title year first s n =
+-- the inputs where they can be read, and the rates
+unfoldable pub knownInputs : Bool → List ℕ → ℕ → ℕ → List ℕ → ℕ → List ℕ
+knownInputs html rates year first s n = cond (inputsKnown n) (refusedInputs html year first s ++ ratesSection html first (lastYearOf s) rates) []
+
+unfoldable pub refusedPage : Bool → List ℕ → List ℕ → ℕ → ℕ → List ℕ → ℕ → List ℕ
+refusedPage html title rates year first s n =
     pageStart html title year
     ++ (refusedOpening html year first s n
     ++ (refusal html first s n
-    ++ (cond (inputsKnown n) (refusedInputs html year first s) [] ++ (refusedProof html ++ (recordSection html s ++ pageEnd html)))))
+    ++ (knownInputs html rates year first s n ++ (refusedProof html ++ (recordSection html s ++ pageEnd html)))))

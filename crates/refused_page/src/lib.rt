@@ -7,6 +7,8 @@ use page_frame::put_page_end;
 use page_frame::put_page_start;
 use page_opening::put_opening;
 use proof_section::put_refused_proof;
+use rates_section::put_rates_section;
+use rates_shown::shown_rates;
 use record_figures::fill_record_figures;
 use record_section::put_record_section;
 use refused_section::put_refused_section;
@@ -16,18 +18,19 @@ use summary::fill_summary;
 use summary_figures::SINGLES;
 use vectors::MOST_FIGURES;
 ghost use mathlib.Core.Path.{_≡_};
-ghost use mathlib.Core.Bool.{true, cond};
-ghost use mathlib.Core.List.{[]};
+ghost use mathlib.Core.Bool.{true};
 ghost use Prim.Native.Nat.{_≤_};
 ghost use lib.ListN.{length};
 ghost use Rattle.rules.specs.Questions.{firstNo};
-ghost use Rattle.rules.specs.Record.{figuresOf};
+ghost use Rattle.rules.specs.Record.{lastYearOf, figuresOf};
 ghost use Rattle.rules.specs.Reading.{openingQuestions, fieldQuestions};
 ghost use Rattle.rules.specs.Triangle.{cumulativesPass};
 ghost use Rattle.rules.specs.Results.{mostEntries};
 ghost use Rattle.rules.specs.Engine.{runAnswer};
 ghost use Rattle.composing.specs.Text.{Put};
-ghost use Rattle.refused_page.specs.RefusedPage.{yearsKnown, inputsKnown, refusedOpening, refusedInputs, refusedRests, refusal, refusedPage};
+ghost use Rattle.rates_section.specs.RatesSection.{ratesSection};
+ghost use Rattle.rates_shown.specs.RatesShown.{shownRates};
+ghost use Rattle.refused_page.specs.RefusedPage.{yearsKnown, inputsKnown, refusedOpening, refusedInputs, refusedRests, refusal, knownInputs, refusedPage};
 
 // Whether the opening names the years where question n refuses.
 fn years_known(n: u64) -> bool
@@ -111,11 +114,29 @@ fn put_refused_inputs(
     put_input_section(out, at, html, first, k, &figures, &singles)
 }
 
-// The same where the inputs can be read.
+// The rates of a line where they made the indices, of such a record.
+fn put_refused_rates(
+    out: &mut [u8],
+    at: usize,
+    html: bool,
+    first: usize,
+    packed: &[u8],
+    line: &[u8],
+) -> usize
+    requires { ⌜ (first ≤ 65535) × ((firstNo (openingQuestions (now packed)) ≡ 0) × (firstNo (fieldQuestions (now packed)) ≡ 0)) ⌝ }
+    ensures { λ r. ⌜ Put (now (out .entry)) (now (out .exit)) at r
+        (ratesSection html first (lastYearOf (now (packed .entry))) (shownRates (now (packed .entry)) (now (line .entry)))) ⌝ }
+{
+    let k = last_year_of(packed);
+    put_rates_section(out, at, html, first, k, shown_rates(packed, line))
+}
+
+// Both where the inputs can be read.
 fn put_known_inputs(
     out: &mut [u8],
     at: usize,
     html: bool,
+    line: &[u8],
     year: u64,
     first: usize,
     packed: &[u8],
@@ -123,10 +144,12 @@ fn put_known_inputs(
 ) -> usize
     requires { ⌜ (first ≤ 65535)
         × ((year ≤ 65535) × (inputsKnown n ≡ true → (firstNo (openingQuestions (now packed)) ≡ 0) × (firstNo (fieldQuestions (now packed)) ≡ 0))) ⌝ }
-    ensures { λ r. ⌜ Put (now (out .entry)) (now (out .exit)) at r (cond (inputsKnown n) (refusedInputs html year first (now (packed .entry))) []) ⌝ }
+    ensures { λ r. ⌜ Put (now (out .entry)) (now (out .exit)) at r
+        (knownInputs html (shownRates (now (packed .entry)) (now (line .entry))) year first (now (packed .entry)) n) ⌝ }
 {
     if inputs_known(n) {
-        put_refused_inputs(out, at, html, year, first, packed)
+        let rates = put_refused_inputs(out, at, html, year, first, packed);
+        put_refused_rates(out, rates, html, first, packed, line)
     } else {
         at
     }
@@ -165,23 +188,25 @@ fn put_refusal(
     put_refused_rests(out, a, html, packed, n)
 }
 
-// The page of a record that question n refuses.
+// The page of a record that question n refuses, with the rates of a line where they made the indices.
 pub fn put_refused_page(
     out: &mut [u8],
     html: bool,
     title: &[u8],
+    line: &[u8],
     year: u64,
     first: usize,
     packed: &[u8],
     n: u64,
 ) -> usize
     requires { ⌜ (first ≤ 65535) × ((year ≤ 65535) × ((runAnswer year (now packed) mostEntries ≡ n) × (1 ≤ n))) ⌝ }
-    ensures { λ r. ⌜ Put (now (out .entry)) (now (out .exit)) 0 r (refusedPage html (now (title .entry)) year first (now (packed .entry)) n) ⌝ }
+    ensures { λ r. ⌜ Put (now (out .entry)) (now (out .exit)) 0 r
+        (refusedPage html (now (title .entry)) (shownRates (now (packed .entry)) (now (line .entry))) year first (now (packed .entry)) n) ⌝ }
 {
     let a = put_page_start(out, 0, html, title, year);
     let b = put_refused_opening(out, a, html, year, first, packed, n);
     let c = put_refusal(out, b, html, year, first, packed, n);
-    let d = put_known_inputs(out, c, html, year, first, packed, n);
+    let d = put_known_inputs(out, c, html, line, year, first, packed, n);
     let e = put_refused_proof(out, d, html);
     let f = put_record_section(out, e, html, packed);
     put_page_end(out, f, html)

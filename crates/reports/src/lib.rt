@@ -1,8 +1,9 @@
-// The report of any input, as a page of HTML or of text: years, a title and a record.
+// The report of any input, as a page of HTML or of text: years, a title, a line of inflation and a record.
 use accepted_page::put_accepted_page;
 use engine::doonamurk_run;
 use opening::last_year_of;
 use outcomes::read_accepted;
+use rates_shown::shown_rates;
 use record_figures::fill_record_figures;
 use refused_page::put_refused_page;
 use rules::MOST_ENTRIES;
@@ -25,13 +26,14 @@ fn put_accepted(
     out: &mut [u8],
     html: bool,
     title: &[u8],
+    line: &[u8],
     year: u64,
     first: usize,
     packed: &[u8],
     list: &[i64; MOST_ENTRIES],
 ) -> usize
     requires { ⌜ (first ≤ 65535) × ((year ≤ 65535) × ((runAnswer year (now packed) mostEntries ≡ 0) × (now list ≡ filledBy year (now packed)))) ⌝ }
-    ensures { λ r. ⌜ Put (now (out .entry)) (now (out .exit)) 0 r (reportOf html (now (title .entry)) year first (now (packed .entry))) ⌝ }
+    ensures { λ r. ⌜ Put (now (out .entry)) (now (out .exit)) 0 r (reportOf html (now (title .entry)) (now (line .entry)) year first (now (packed .entry))) ⌝ }
 {
     let mut figures = [0i64; MOST_FIGURES];
     let opened = fill_record_figures(packed, list, &mut figures);
@@ -48,7 +50,19 @@ fn put_accepted(
         opened.weight,
         opened.tail,
     );
-    put_accepted_page(out, html, title, year, first, k, packed, &figures, &singles)
+    let rates = shown_rates(packed, line);
+    put_accepted_page(
+        out,
+        html,
+        title,
+        rates,
+        year,
+        first,
+        k,
+        packed,
+        &figures,
+        &singles,
+    )
 }
 
 // The report of a record in a valuation year.
@@ -56,19 +70,20 @@ fn put_run(
     out: &mut [u8],
     html: bool,
     title: &[u8],
+    line: &[u8],
     year: u64,
     first: usize,
     packed: &[u8],
 ) -> usize
     requires { ⌜ (first ≤ 65535) × (year ≤ 65535) ⌝ }
-    ensures { λ r. ⌜ Put (now (out .entry)) (now (out .exit)) 0 r (reportOf html (now (title .entry)) year first (now (packed .entry))) ⌝ }
+    ensures { λ r. ⌜ Put (now (out .entry)) (now (out .exit)) 0 r (reportOf html (now (title .entry)) (now (line .entry)) year first (now (packed .entry))) ⌝ }
 {
     let mut list = [0i64; MOST_ENTRIES];
     let answer = doonamurk_run(year, packed, &mut list);
     if answer != 0 {
-        return put_refused_page(out, html, title, year, first, packed, answer);
+        return put_refused_page(out, html, title, line, year, first, packed, answer);
     }
-    put_accepted(out, html, title, year, first, packed, &list)
+    put_accepted(out, html, title, line, year, first, packed, &list)
 }
 
 // Puts the report of an input into the buffer, as far as it goes, and answers where it ends.
@@ -77,8 +92,19 @@ pub fn put_report(input: &[u8], out: &mut [u8], html: bool) -> usize
 {
     let parts = parts_of(input);
     let from = parts.title;
-    let end = parts.packed;
+    let end = parts.sized;
     let title = &input[from..end];
-    let packed = &input[end..];
-    put_run(out, html, title, year_of(input), first_of(input), packed)
+    let rates = parts.rates;
+    let at = parts.packed;
+    let line = &input[rates..at];
+    let packed = &input[at..];
+    put_run(
+        out,
+        html,
+        title,
+        line,
+        year_of(input),
+        first_of(input),
+        packed,
+    )
 }

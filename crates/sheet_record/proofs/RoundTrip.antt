@@ -24,11 +24,12 @@ use Rattle.composing.specs.Text.{Put}
 use Rattle.composing.proofs.Puts.{put-back}
 use Rattle.sheet.specs.Table.{labels, lineCount, dueAt}
 use Rattle.kinds.specs.Kinds.{marked}
-use Rattle.sheet.specs.Sheet.{lineOf, linesOf, lastYearIn, sheetOf, unmarked, fine, readSheet, recordSize, packAnswer, packInto}
+use Rattle.sheet.specs.Sheet.{lineOf, linesOf, lastYearIn, sheetOf, unmarked, fine, readSheet, recordSize, packAnswer, packInto, faultOf, packedAnswer, packedInto}
 use Rattle.sheet_writing.specs.Shown.{shownText}
 use Rattle.sheet_writing.proofs.LinesPut.{countsOf, sheet-counts}
 use Rattle.sheet_writing.proofs.Unpacked.{accepted-fields}
 use Rattle.sheet_record.proofs.Length.{sheet-length}
+use Rattle.sheet_record.proofs.Asked.{sheet-asked}
 use Rattle.sheet_record.proofs.Ranges.{fields-sound}
 use Rattle.sheet_record.proofs.Sheets.{dues-first, dues-others, dueRanges, EachWithin, split, one-line, lines-sound}
 
@@ -98,18 +99,22 @@ module _ (s : List ℕ) (m : ℕ) (h : Fit 8 s) (r : readAnswer s m ≡ 0) where
   size-is : recordSize (fieldsOf s) ≡ length s
   size-is = rw (ap natAbs (accepted-fields s m h r .first)) (sym (reader-yes s m r .size))
 
+  -- nothing is asked of a line of inflation
+  nothing-asked : faultOf (sheetOf (fieldsOf s)) .kind ≡ 0
+  nothing-asked = rw (no-mark (lastYearOf s) (fieldsOf s) (accepted-fields s m h r)) (sheet-asked (fieldsOf s))
+
   -- packing the text of an accepted record makes the record again
   pub packed-again : (buffer : List ℕ) → length s ≤ length buffer
-      → (packAnswer (readSheet (sheetOf (fieldsOf s))) ≡ 0) × (packInto (readSheet (sheetOf (fieldsOf s))) buffer ≡ s ++ drop (length s) buffer)
-  unfolding packAnswer packInto
+      → (packedAnswer (sheetOf (fieldsOf s)) ≡ 0) × (packedInto (sheetOf (fieldsOf s)) buffer ≡ s ++ drop (length s) buffer)
+  unfolding packedAnswer packedInto packAnswer packInto
   packed-again buffer room =
       let w = fields-written (take (length s) buffer) (length-take-le (length s) buffer room) in
-      rw (shown-back, size-is) (w .0, ap (λ (l : List ℕ). l ++ drop (length s) buffer) (w .1))
+      rw (nothing-asked, shown-back, size-is) (w .0, ap (λ (l : List ℕ). l ++ drop (length s) buffer) (w .1))
 
 -- packing what an accepted record is shown as, in a buffer of at least 4593 bytes, makes the record again
 pub unpacked-packed : (s : List ℕ) → Fit 8 s → readAnswer s mostFields ≡ 0 → {a b : List ℕ} {j : ℕ} → Put a b 0 j (shownText s) → 4593 ≤ length a
     → (buffer : List ℕ) → length s ≤ length buffer
-    → (packAnswer (readSheet (take j b)) ≡ 0) × (packInto (readSheet (take j b)) buffer ≡ s ++ drop (length s) buffer)
+    → (packedAnswer (take j b) ≡ 0) × (packedInto (take j b) buffer ≡ s ++ drop (length s) buffer)
 unfolding shownText afterCall
 unpacked-packed s h r {a} {b} {j} p long buffer room =
     let years : lastYearIn (fieldsOf s) < 16 = rw (ap natAbs (accepted-fields s mostFields h r .first)) (years-lt s h) in

@@ -1,6 +1,6 @@
 -- The text of some fields read again: its lines are the lines due, each as it was written, and give the fields back. Assumes nothing.
 use mathlib.Core.Path.{_≡_, refl, sym, ap, _∙_}
-use mathlib.Core.Bool.{Bool, true, false, cond, _&&_}
+use mathlib.Core.Bool.{Bool, true, false, cond, _&&_, and-false}
 use mathlib.Core.List.{List, [], _∷_, _++_, map, append-nil, append-assoc}
 use Prim.Native.Nat.{ℕ, zero, suc, _+_, _≤_, _<_}
 use native.Mathlib.Omega.{arith}
@@ -12,21 +12,22 @@ use lib.Seq.{take-add}
 use lib.Signed.{leZ}
 use Rattle.rules.specs.Lists.{upTo, every, total}
 use Rattle.laws.proofs.Lists.{upTo-cons, upTo-ext}
-use Rattle.composing.specs.Text.{integer}
+use Rattle.composing.specs.Text.{ascii, integer}
 use Rattle.scanning.specs.Numbers.{ceiling, isNumber, wholeOf}
-use Rattle.scanning.specs.Parts.{from, before, pieces, sameText}
+use Rattle.scanning.specs.Parts.{from, until, before, pieces, sameText}
 use Rattle.commenting.specs.Comments.{uncommented}
-use Rattle.cells.specs.Cells.{unreturned, contentOf, isBare, isWithin}
+use Rattle.cells.specs.Cells.{unreturned, contentOf, isBare, fromLabel, labelOf, isWithin}
+use Rattle.inflation_line.specs.InflationLine.{isInflation}
 use Rattle.sheet.specs.declared.Due.{Due}
-use Rattle.sheet.specs.Table.{labels, labelDue, lineCount, dueAt, dueLines}
-use Rattle.sheet.specs.Sheet.{spaced, lineOf, linesOf, lastYearIn, wrong, wrongIn, lines, fine, readLine, readLines}
+use Rattle.sheet.specs.Table.{labels, labelDue, lineCount, indicesPlace, dueAt, dueLines}
+use Rattle.sheet.specs.Sheet.{spaced, lineOf, linesOf, lastYearIn, wrong, wrongIn, lines, fine, readLine, standsForIndices, readNext, readLines}
 use Rattle.sheet_writing.proofs.LinesPut.{countsOf}
 use Rattle.line_reading.proofs.LinesRead.{line-fine}
 use Rattle.sheet_record.proofs.NumbersBack.{integer-number, integer-value}
 use Rattle.sheet_record.proofs.Words.{Word, line-ends, line-content, line-filled, line-label, line-cells}
 
 -- a label is a word
-label-word : (row : ℕ) → row < 8 → Word (getD labels row [])
+pub label-word : (row : ℕ) → row < 8 → Word (getD labels row [])
 unfolding labels every
 label-word zero h = record { first = 107; rest = []; is = refl; bytes = refl }
 label-word (suc zero) h = record { first = 101; rest = _; is = refl; bytes = refl }
@@ -38,7 +39,29 @@ label-word (suc (suc (suc (suc (suc (suc zero)))))) h = record { first = 117; re
 label-word (suc (suc (suc (suc (suc (suc (suc zero))))))) h = record { first = 116; rest = _; is = refl; bytes = refl }
 label-word (suc (suc (suc (suc (suc (suc (suc (suc row)))))))) h = absurd (omega arith)
 
-row-small : (k place : ℕ) → dueAt k place .row < 8
+-- and none is that of a line of inflation
+other-label : (row : ℕ) → sameText (getD labels row []) (ascii "inflation") ≡ false
+unfolding labels sameText
+other-label zero = refl
+other-label (suc zero) = refl
+other-label (suc (suc zero)) = refl
+other-label (suc (suc (suc zero))) = refl
+other-label (suc (suc (suc (suc zero)))) = refl
+other-label (suc (suc (suc (suc (suc zero))))) = refl
+other-label (suc (suc (suc (suc (suc (suc zero)))))) = refl
+other-label (suc (suc (suc (suc (suc (suc (suc zero))))))) = refl
+other-label (suc (suc (suc (suc (suc (suc (suc (suc row)))))))) = refl
+
+-- so that a line as it was written is no line of inflation, and is read as due
+pub no-inflation : (d : Due) (xs : List ℤ) → Word (labelDue d) → isInflation (labelDue d ++ spaced xs) ≡ false
+unfolding isInflation
+no-inflation d xs w = rw (line-label (labelDue d) xs w) (other-label (d .row))
+
+read-plain : (n i : ℕ) (vs : List ℤ) (line : List ℕ) → isInflation line ≡ false → readNext n i vs line ≡ readLine n i vs line
+unfolding readNext standsForIndices
+read-plain n i vs line h = rw (h, and-false (eqb i (indicesPlace (lastYearIn vs))))
+
+pub row-small : (k place : ℕ) → dueAt k place .row < 8
 unfolding dueAt
 row-small k place =
     one (eqb place 0) _ _ (omega arith)
@@ -105,16 +128,21 @@ one-line m i us xs rest left e o =
     let l = labelDue d ++ spaced xs in
     let text : lineOf d xs ++ rest ≡ labelDue d ++ (spaced xs ++ (10 ∷ rest)) =
     append-assoc (labelDue d) (spaced xs ++ (10 ∷ [])) rest ∙ ap (λ (l : List ℕ). labelDue d ++ l) (append-assoc (spaced xs) (10 ∷ []) rest) in
-    let read : readLine (suc m) i us (contentOf l) ≡ fine (suc m) (suc i) (us ++ xs) =
-    rw (line-content (labelDue d) xs w)
+    let read : readNext (suc m) i us (contentOf l) ≡ fine (suc m) (suc i) (us ++ xs) =
+    rw (line-content (labelDue d) xs w, read-plain (suc m) i us l (no-inflation d xs w))
     (line-fine (suc m) i us l (line-filled (labelDue d) xs w) left (wrong 0 0) (sym (line-sound d xs w e o)) refl
     ∙ rw (line-cells (labelDue d) xs w, values-all (d .least, d .most) xs o)) in
     ap (λ (l : List ℕ). readLines (fine m i us) (lines l)) text ∙ rw (line-ends (labelDue d) xs rest w, read)
 
+-- an empty line is no line of inflation
+pub empty-line : isInflation [] ≡ false
+unfolding isInflation labelOf fromLabel from before until sameText
+empty-line = refl
+
 -- the end of a text, after its last line feed
 end-line : (k m : ℕ) (us : List ℤ) → lastYearIn us ≡ k → readLines (fine m (lineCount k) us) (lines []) ≡ fine (suc m) (lineCount k) us
 unfolding readLines readLine pieces contentOf unreturned uncommented from before isBare every
-end-line k m us e = rw (eq-eqb (lineCount k) (lineCount (lastYearIn us)) (ap lineCount (sym e)))
+end-line k m us e = rw (read-plain (suc m) (lineCount k) us [] empty-line, eq-eqb (lineCount k) (lineCount (lastYearIn us)) (ap lineCount (sym e)))
 
 -- the lines due from place i on
 abbrev pub Dues : ℕ → ℕ → List Due → Type 0

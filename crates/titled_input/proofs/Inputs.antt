@@ -1,6 +1,6 @@
--- The title and the record of an input by the places where they stand, and an input without a record, which question 1 refuses. Assumes nothing.
+-- The title, the line and the record of an input by the places where they stand, and an input without a record, which question 1 refuses. Assumes nothing.
 use mathlib.Core.Path.{_≡_, refl, sym, _∙_}
-use mathlib.Core.List.{List, [], _∷_}
+use mathlib.Core.List.{List, [], _∷_, _++_}
 use Prim.Native.Nat.{ℕ, _+_, _-_, _≤_, _<_, min}
 use native.Mathlib.Decide.{decLe}
 use native.Mathlib.Omega.{arith}
@@ -11,7 +11,7 @@ use Rattle.rules.specs.Reading.{hasLastYear, openingQuestions}
 use Rattle.rules.specs.Engine.{questions, runAnswer}
 use Rattle.laws.proofs.Lists.{from-place}
 use Rattle.valuation.specs.Valuation.{pairAt}
-use Rattle.titled_input.specs.Titled.{firstIn, titleSize, titleIn, titledRecordIn, Split}
+use Rattle.titled_input.specs.Titled.{firstIn, titleSize, titleEnd, ratesSize, titleIn, ratesIn, titledRecordIn, Split}
 use Rattle.titled_input.specs.declared.Parts.{Parts}
 
 -- what stands from a place on, or from the end where the input ends before it
@@ -26,42 +26,57 @@ from-least s a r e = go (decLe a (length s))
         let f : r ≡ length s = omega arith in
         rw (f, drop-length s) (sym (drop-of-length-le s {i = a} (omega arith)))
 
--- the title and the record stand between these places
-pub split-here : (s : List ℕ) (title packed size : ℕ) → size ≡ titleSize s → size < 256 → title ≡ min 5 (length s) → packed ≡ min (5 + size) (length s)
-    → Split s (record { title = title; packed = packed })
-unfolding titleIn titledRecordIn
-split-here s title packed size e few f g =
-    record {
-      inside = (omega arith, omega arith);
-      titled = rw (from-least s 5 title f) (go (decLe (5 + size) (length s)));
-      recorded = rw (← e) (from-least s (5 + size) packed g);
-      short = omega (arith, length-take (titleSize s) (drop 5 s));
-    }
+-- a part of so many bytes from a place on, as far as the input goes, stands between these places
+part-here : (s : List ℕ) (a size from to : ℕ) → from ≡ min a (length s) → to ≡ min (a + size) (length s) → take (to - from) (drop from s) ≡ take size (drop a s)
+part-here s a size from to e f = rw (from-least s a from e) (go (decLe (a + size) (length s)))
   where
-    go : Dec (5 + size ≤ length s) → take (packed - title) (drop 5 s) ≡ take (titleSize s) (drop 5 s)
+    go : Dec (a + size ≤ length s) → take (to - from) (drop a s) ≡ take size (drop a s)
     go (yes h) =
-        let m : packed - title ≡ titleSize s = omega arith in
+        let m : to - from ≡ size = omega arith in
         rw m
     go (no h) =
-        take-all (packed - title) (drop 5 s) (omega (arith, length-drop 5 s)) ∙ sym (take-all (titleSize s) (drop 5 s) (omega (arith, length-drop 5 s)))
+        take-all (to - from) (drop a s) (omega (arith, length-drop a s)) ∙ sym (take-all size (drop a s) (omega (arith, length-drop a s)))
+
+-- so do the title, the line and the record
+pub split-here : (s : List ℕ) (title sized rates packed end size : ℕ) → end ≡ titleEnd s → titleSize s < 256 → size ≡ ratesSize s → size < 256 → title ≡ min 5 (length s)
+    → sized ≡ min end (length s) → rates ≡ min (end + 1) (length s) → packed ≡ min (end + 1 + size) (length s)
+    → Split s (record { title = title; sized = sized; rates = rates; packed = packed })
+unfolding titleIn ratesIn titledRecordIn
+split-here s title sized rates packed end size e few f least t z r p =
+    record {
+      titled-inside = (omega arith, omega arith);
+      inside = (omega arith, omega arith);
+      titled = part-here s 5 (titleSize s) title sized t (rw e at z);
+      rated = part-here s (titleEnd s + 1) (ratesSize s) rates packed (rw e at r) (rw (e, f) at p);
+      recorded = from-least s (titleEnd s + 1 + ratesSize s) packed (rw (e, f) at p);
+      short = (omega (arith, length-take (titleSize s) (drop 5 s)), omega (arith, length-take (ratesSize s) (drop (titleEnd s + 1) s)));
+    }
 
 -- the part of an input from its record on
 pub record-part : (s : List ℕ) (parts : Parts) → Split s parts → take (length s - parts .packed) (drop (parts .packed) s) ≡ titledRecordIn s
 record-part s parts p = from-place s (parts .packed) ∙ p .recorded
 
--- an input that ends with its title or before has no record
-pub no-record : (s : List ℕ) → length s ≤ 5 + titleSize s → titledRecordIn s ≡ []
+-- an input that ends with its line or before has no record
+pub no-record : (s : List ℕ) → length s ≤ titleEnd s + 1 + ratesSize s → titledRecordIn s ≡ []
 unfolding titledRecordIn
-no-record s h = drop-of-length-le s {i = 5 + titleSize s} h
+no-record s h = drop-of-length-le s {i = titleEnd s + 1 + ratesSize s} h
 
-pub refused-one : (s : List ℕ) (year m : ℕ) → length s ≤ 5 + titleSize s → runAnswer year (titledRecordIn s) m ≡ 1
+pub refused-one : (s : List ℕ) (year m : ℕ) → length s ≤ titleEnd s + 1 + ratesSize s → runAnswer year (titledRecordIn s) m ≡ 1
 unfolding runAnswer questions openingQuestions hasLastYear firstNo
 refused-one s year m h = rw (no-record s h)
 
--- 2012 and `Book` before a record of two bytes, no first year, and inputs that are cut
-abbrev given : List ℕ
-given = 7 ∷ 235 ∷ 7 ∷ 220 ∷ 4 ∷ 66 ∷ 111 ∷ 111 ∷ 107 ∷ 48 ∷ 1 ∷ []
+-- 2012, `Book` and `ab` for a line before a record of two bytes, the same without a line, and inputs that are cut
+abbrev years : List ℕ
+years = 7 ∷ 235 ∷ 7 ∷ 220 ∷ 4 ∷ 66 ∷ 111 ∷ 111 ∷ 107 ∷ []
 
-pub worked-inputs : ((firstIn given ≡ 2012) × ((titleIn given ≡ 66 ∷ 111 ∷ 111 ∷ 107 ∷ []) × (titledRecordIn given ≡ 48 ∷ 1 ∷ []))) × ((titleIn (take 7 given) ≡ 66 ∷ 111 ∷ []) × (firstIn (take 2 given) ≡ 0))
-unfolding firstIn titleIn titledRecordIn pairAt
-worked-inputs = ((refl, (refl, refl)), (refl, refl))
+abbrev given : List ℕ
+given = years ++ (2 ∷ 97 ∷ 98 ∷ 48 ∷ 1 ∷ [])
+
+abbrev unrated : List ℕ
+unrated = years ++ (0 ∷ 48 ∷ 1 ∷ [])
+
+pub worked-inputs : ((firstIn given ≡ 2012) × ((titleIn given ≡ 66 ∷ 111 ∷ 111 ∷ 107 ∷ []) × ((ratesIn given ≡ 97 ∷ 98 ∷ []) × (titledRecordIn given ≡ 48 ∷ 1 ∷ []))))
+    × (((ratesIn unrated ≡ []) × (titledRecordIn unrated ≡ 48 ∷ 1 ∷ []))
+    × ((titleIn (take 7 given) ≡ 66 ∷ 111 ∷ []) × ((ratesIn (take 11 given) ≡ 97 ∷ []) × (firstIn (take 2 given) ≡ 0))))
+unfolding firstIn titleIn ratesIn titledRecordIn pairAt
+worked-inputs = ((refl, (refl, (refl, refl))), ((refl, refl), (refl, (refl, refl))))

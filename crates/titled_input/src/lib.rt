@@ -1,12 +1,14 @@
-// The input of a report's program: years, title and record.
+// The input of a report's program: years, title, a line of inflation and the record.
 ghost use mathlib.Core.Path.{_≡_};
 ghost use Prim.Native.Nat.{_<_, min};
 ghost use lib.ListN.{getD};
 ghost use Rattle.titled_input.specs.Titled.{firstIn, Split};
 
-// Where the title starts, and where it ends and the record starts.
+// Where the title starts and where it ends, at the length of the line of inflation, where the line starts, and where it ends and the record starts.
 pub struct Parts {
     pub title: usize,
+    pub sized: usize,
+    pub rates: usize,
     pub packed: usize,
 }
 
@@ -42,10 +44,13 @@ fn smaller(a: usize, b: usize) -> usize
 pub fn parts_of(input: &[u8]) -> Parts
     ensures { λ r. ⌜ Split (now (input .entry)) r ⌝ }
 {
-    let size = byte_at(input, 4);
     let n = input.len();
+    let end = 5 + byte_at(input, 4);
+    let size = byte_at(input, end);
     Parts {
         title: smaller(5, n),
-        packed: smaller(5 + size, n),
+        sized: smaller(end, n),
+        rates: smaller(end + 1, n),
+        packed: smaller(end + 1 + size, n),
     }
 }

@@ -17,17 +17,17 @@ same-length c = put-length (returns c)
 
 put-refused-opening-requires : tie.Need-put-refused-opening-requires
 put-refused-opening-requires c κs =
-    let s = c .before .before .before .before .before .before .before .before in
+    let s = c .before .before .before .before .before .before .before .before .before in
     (s .pre .0, some-known (s .args .year) (s .args .packed .now) (s .args .n) (s .pre .1 .1 .0))
 
 put-refusal-requires : tie.Need-put-refusal-requires
 put-refusal-requires c κs =
-    let s = c .before .before .before .before .before .before .before .before .before .before .before .before in
+    let s = c .before .before .before .before .before .before .before .before .before .before .before .before .before in
     (s .pre .0, s .pre .1 .1)
 
 put-known-inputs-requires : tie.Need-put-known-inputs-requires
 put-known-inputs-requires c κs =
-    let s = c .before .before .before .before .before .before .before .before .before .before .before .before .before .before .before .before in
+    let s = c .before .before .before .before .before .before .before .before .before .before .before .before .before .before .before .before .before in
     (s .pre .0, (s .pre .1 .0, inputs-passed (s .args .year) (s .args .packed .now) (s .args .n) (s .pre .1 .1 .0)))
 
 pub put-refused-page-spec : {M : Type 1} → statement M
