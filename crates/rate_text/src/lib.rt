@@ -66,7 +66,7 @@ fn bits_of(word: &[u8]) -> u64
 }
 
 // The float of a bit pattern. `f64::from_bits` is undefined at a NaN's, so a NaN is made by a division.
-fn float_of(bits: u64) -> f64
+pub fn float_of(bits: u64) -> f64
     ensures { λ r. ⌜ r ≡ ofBits binary64 bits ⌝ }
 {
     if 0x7ff0_0000_0000_0000 < bits % 0x8000_0000_0000_0000 {

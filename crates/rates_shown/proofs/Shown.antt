@@ -47,6 +47,15 @@ same-padded xs f n =
     every-same (same xs (padded mostYears 0 (upTo f n))) (same xs (upTo f n)) (λ i. i) (λ i. i) n
     (λ i l. ap (eqb (getD xs i 0)) (filled-at mostYears 0 f n i 0 l ∙ sym (getD-upTo f n i 0 l)))
 
+-- without a line none is shown
+pub none-shown : (s : List ℕ) → shownRates s [] ≡ []
+unfolding shownRates
+none-shown s = go (makesIndices s [])
+  where
+    go : (b : Bool) → cond {A = List ℕ} b [] [] ≡ []
+    go true = refl
+    go false = refl
+
 module _ (s line : List ℕ) where
   abbrev years : ℕ
   years = lastYearOf s + 1

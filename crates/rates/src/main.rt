@@ -1,0 +1,15 @@
+// Writes the line of inflation of a text of figures on standard input, up to its comment, or nothing where the text has none.
+use inflation_asking::line_wanted;
+use inflation_line::is_inflation;
+use printing::put_output;
+use printing::read_some;
+use sheet_reading::without_mark;
+
+fn main() {
+    let mut text = io::large_buffer();
+    let n = read_some(&mut text);
+    let line = line_wanted(true, without_mark(&text[..n]));
+    if is_inflation(line) {
+        put_output(line, line.len());
+    }
+}
