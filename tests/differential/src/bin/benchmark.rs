@@ -351,6 +351,55 @@ fn stages(rows: &[Row], times: &[Vec<Times>]) {
     println!("| all stages | {:.0} | {:.0} |", before.engine, before.rust);
 }
 
+/// The sixteen indices of a fading rate in plain Rust with the machine's floats, questions 20 and 21 asked.
+fn fading(rate: f64, long_run: f64, years: u64) -> (u64, [u64; 16]) {
+    let fits = |rate: f64| (-0.5..=1.0).contains(&rate);
+    if !(1..=16).contains(&years) || !fits(rate) || !fits(long_run) {
+        return (20, [0; 16]);
+    }
+    let (mut values, mut rate, mut path) = ([0; 16], rate, 1.0);
+    for value in &mut values[..years as usize] {
+        path *= 1.0 + rate;
+        let product: f64 = path * 1_000_000.0;
+        let whole = product.trunc();
+        let index = whole as u64 + u64::from(product >= whole + 0.5);
+        if !(1..=5_000_000).contains(&index) {
+            return (21, [0; 16]);
+        }
+        *value = index;
+        rate = long_run + 0.5 * (rate - long_run);
+    }
+    (0, values)
+}
+
+/// Sixteen years of a fading rate: the best batch of each side, in turn.
+fn indices() {
+    let (rate, long_run, years) = (0.08, 0.02, 16);
+    let ours = doonamurk::fading(rate, long_run, years);
+    assert_eq!((ours.refused, ours.values), fading(rate, long_run, years));
+    let (mut engine, mut rust) = (f64::MAX, f64::MAX);
+    for _ in 0..PASSES * BATCHES {
+        engine = engine.min(batch(1000, || {
+            black_box(doonamurk::fading(
+                black_box(rate),
+                black_box(long_run),
+                black_box(years),
+            ));
+        }));
+        rust = rust.min(batch(1000, || {
+            black_box(fading(black_box(rate), black_box(long_run), black_box(years)));
+        }));
+    }
+    println!("\nSixteen indices of a fading rate of inflation, in one layout (nanoseconds a call)\n");
+    println!("| engine | Rust | engine / Rust |\n|---|---|---|");
+    println!(
+        "| {} | {} | {:.2} |",
+        nanos(engine),
+        nanos(rust),
+        engine / rust
+    );
+}
+
 /// Whether a record is accepted.
 type Accepts = fn(&[u8], &mut [i64]) -> bool;
 
@@ -482,6 +531,7 @@ fn tables(programs: &[String]) -> Result<(), String> {
     let times = over_layouts(programs, rows.len())?;
     compare(&rows, &times)?;
     stages(&rows, &times);
+    indices();
     many()?;
     machine(&load);
     Ok(())
