@@ -123,7 +123,7 @@ def inflation_problem(words, years):
     name = shape.decode()
     # of each number its form, and the words where it has another and where it is out of range
     forms = [(is_rate, "a decimal of at most 15 digits or 16 hex digits", "a rate from -0.5 to 1.0")] * inflation.SHAPES[name]
-    forms += [(is_year, "a whole number", f"a year from 1 to {years}")] * (name == "shock")
+    forms += [(is_year, f"a year from 1 to {years}", f"a year from 1 to {years}")] * (name == "shock")
     if len(numbers) != len(forms):
         return "", counted(name, len(forms), numbers)
     for place, (word, (is_fine, due, _)) in enumerate(zip(numbers, forms), 1):

@@ -18,7 +18,7 @@ use Rattle.inflation_line.specs.declared.Fault.{Fault}
 use Rattle.inflation_line.specs.InflationLine.{shapeNames, shapeAt, numberAt}
 use Rattle.sheet.specs.Sheet.{linesBefore, yearAsked, inflationLine}
 use Rattle.sheet_wording.specs.Problem.{named, cellText}
-use Rattle.inflation_wording.specs.FaultWords.{shapeName, shownCell, formDue, rangeDue, numberWords, countWords, faultWords, faultFront, faultLine}
+use Rattle.inflation_wording.specs.FaultWords.{shapeName, shownCell, numberDue, numberWords, countWords, faultWords, faultFront, faultLine}
 
 -- the words of the code's text are the names: by computing
 pub shapes-are : cellsOf (ascii "shapes flat fading shock") ≡ shapeNames
@@ -34,22 +34,18 @@ pub shown-whole : (line : List ℕ) (n : ℕ) (w : List ℕ) → w ≡ numberAt 
 unfolding shownCell
 shown-whole line n w e h = ap cellText (sym (take-all 20 w h)) ∙ rw e
 
--- a year, and a rate
-pub form-year : (n : ℕ) → n ≡ 3 → ascii "a whole number" ≡ formDue n
-unfolding formDue
-form-year n e = rw (eq-eqb n 3 e)
+-- a year, and a rate by its limits or by its form
+pub due-year : (asked : Bool) (years n : ℕ) → n ≡ 3 → ascii "a year from 1 to " ++ decimal years ≡ numberDue asked years n
+unfolding numberDue
+due-year asked years n e = rw (eq-eqb n 3 e)
 
-pub form-rate : (n : ℕ) → (n ≡ 3 → ⊥) → ascii "a decimal of at most 15 digits or 16 hex digits" ≡ formDue n
-unfolding formDue
-form-rate n e = rw (ne-eqb n 3 e)
+pub due-limits : (asked : Bool) (years n : ℕ) → (n ≡ 3 → ⊥) → asked ≡ true → ascii "a rate from -0.5 to 1.0" ≡ numberDue asked years n
+unfolding numberDue
+due-limits asked years n e a = rw (ne-eqb n 3 e, a)
 
-pub range-year : (years n : ℕ) → n ≡ 3 → ascii "a year from 1 to " ++ decimal years ≡ rangeDue years n
-unfolding rangeDue
-range-year years n e = rw (eq-eqb n 3 e)
-
-pub range-rate : (years n : ℕ) → (n ≡ 3 → ⊥) → ascii "a rate from -0.5 to 1.0" ≡ rangeDue years n
-unfolding rangeDue
-range-rate years n e = rw (ne-eqb n 3 e)
+pub due-form : (asked : Bool) (years n : ℕ) → (n ≡ 3 → ⊥) → asked ≡ false → ascii "a decimal of at most 15 digits or 16 hex digits" ≡ numberDue asked years n
+unfolding numberDue
+due-form asked years n e a = rw (ne-eqb n 3 e, a)
 
 -- a refusal in front, and none
 pub front-none : (kind : ℕ) → kind < 20 → faultFront kind ≡ []

@@ -18,15 +18,11 @@ shapeName s = getD shapeNames s []
 unfoldable pub shownCell : List ℕ → ℕ → List ℕ
 shownCell line n = cellText (take 20 (numberAt line n))
 
--- what is due in the place of number n: of its form, or where question 20 asks
-unfoldable pub formDue : ℕ → List ℕ
-formDue n = cond (isYear n) (ascii "a whole number") (ascii "a decimal of at most 15 digits or 16 hex digits")
-
-unfoldable pub rangeDue : ℕ → ℕ → List ℕ
-rangeDue years n = cond (isYear n) (ascii "a year from 1 to " ++ decimal years) (ascii "a rate from -0.5 to 1.0")
-
-abbrev pub numberDue : Bool → ℕ → ℕ → List ℕ
-numberDue asked years n = cond asked (rangeDue years n) (formDue n)
+-- what is due in the place of number n: a year among those wanted, or a rate, by its limits where question 20 says no and by its form else
+unfoldable pub numberDue : Bool → ℕ → ℕ → List ℕ
+numberDue asked years n =
+    cond (isYear n) (ascii "a year from 1 to " ++ decimal years)
+    (cond asked (ascii "a rate from -0.5 to 1.0") (ascii "a decimal of at most 15 digits or 16 hex digits"))
 
 -- number n of the line, and what is due
 unfoldable pub numberStart : List ℕ → ℕ → List ℕ

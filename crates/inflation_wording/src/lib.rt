@@ -16,7 +16,7 @@ ghost use Prim.Native.Nat.{_≤_};
 ghost use Rattle.composing.specs.Text.{Put, decimal};
 ghost use Rattle.sheet.specs.Sheet.{lines};
 ghost use Rattle.sheet_wording.specs.Problem.{named};
-ghost use Rattle.inflation_wording.specs.FaultWords.{shapeName, shownCell, formDue, rangeDue, numberDue, numberStart, numberWords, countWords, faultWords, faultFront, faultLine};
+ghost use Rattle.inflation_wording.specs.FaultWords.{shapeName, shownCell, numberDue, numberStart, numberWords, countWords, faultWords, faultFront, faultLine};
 
 // The name of the shape at a place.
 fn put_shape(out: &mut [u8], at: usize, place: usize) -> usize
@@ -36,33 +36,22 @@ fn put_shown(out: &mut [u8], at: usize, line: &[u8], n: usize) -> usize
     put_cell(out, at, cell)
 }
 
-// What is due in the place of number n, of its form or where question 20 asks.
-fn put_form(out: &mut [u8], at: usize, n: u64) -> usize
-    ensures { λ r. ⌜ Put (now (out .entry)) (now (out .exit)) at r (formDue n) ⌝ }
-{
-    if n == 3 {
-        return put_bytes(out, at, b"a whole number");
-    }
-    put_bytes(out, at, b"a decimal of at most 15 digits or 16 hex digits")
-}
-
-fn put_range(out: &mut [u8], at: usize, years: u64, n: u64) -> usize
-    ensures { λ r. ⌜ Put (now (out .entry)) (now (out .exit)) at r (rangeDue years n) ⌝ }
+// What is due in the place of number n.
+fn put_due(out: &mut [u8], at: usize, asked: bool, years: u64, n: u64) -> usize
+    ensures { λ r. ⌜ Put (now (out .entry)) (now (out .exit)) at r (numberDue asked years n) ⌝ }
 {
     if n == 3 {
         let end = put_bytes(out, at, b"a year from 1 to ");
         return put_decimal(out, end, years);
     }
-    put_bytes(out, at, b"a rate from -0.5 to 1.0")
-}
-
-fn put_due(out: &mut [u8], at: usize, asked: bool, years: u64, n: u64) -> usize
-    ensures { λ r. ⌜ Put (now (out .entry)) (now (out .exit)) at r (numberDue asked years n) ⌝ }
-{
     if asked {
-        return put_range(out, at, years, n);
+        return put_bytes(out, at, b"a rate from -0.5 to 1.0");
     }
-    put_form(out, at, n)
+    put_bytes(
+        out,
+        at,
+        b"a decimal of at most 15 digits or 16 hex digits",
+    )
 }
 
 // Number n of the line.
