@@ -170,7 +170,7 @@ typedef struct {
  * rate; and of a shock rate in one named year, with another rate in the others.
  *
  * A path starts at 1.0 and is multiplied each year by 1.0 plus that year's rate. The fading rate of year 1 is the rate as sent, and each later one is
- * long_run + 0.5 * (the rate of the year before - long_run). A year's index is the path times 1,000,000.0 as a whole number, halves up. Every operation is
+ * long_run + 0.5 * (the rate of the year before - long_run). A year's index is the path times 1,000,000.0 to the nearest whole number, halves up. Every operation is
  * rounded to a 64-bit float by itself.
  *
  * Refused 20 where a rate is not a number or lies outside -0.5 to 1.0, one that no year uses too (the long-run rate of a single year, the other rate of a

@@ -287,7 +287,7 @@ def _wanted(call, *arguments):
 def flat(rate, years):
     """The indices of one flat rate in years 1 to `years`, in millionths: a list of whole numbers. A rate of 0.02 is two percent.
 
-    A path starts at 1.0 and is multiplied each year by 1.0 plus that year's rate; a year's index is the path times 1,000,000.0 as a whole number, halves up.
+    A path starts at 1.0 and is multiplied each year by 1.0 plus that year's rate; a year's index is the path times 1,000,000.0 to the nearest whole number, halves up.
     Every operation is rounded to a float by itself.
 
     Refusals: raises Refused with 20 where a rate is not a number or lies outside -0.5 to 1.0, one that no year uses too, or where `years` is not from 1 to

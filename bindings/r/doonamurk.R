@@ -190,7 +190,7 @@ doonamurk_wanted <- function(name, ..., years) {
 }
 
 # The indices of one flat rate in years 1 to `years`, in millionths; a rate of 0.02 is two percent. A path starts at 1.0 and is multiplied each year by 1.0 plus
-# that year's rate; a year's index is the path times 1,000,000.0 as a whole number, halves up. Every operation is rounded to a double by itself.
+# that year's rate; a year's index is the path times 1,000,000.0 to the nearest whole number, halves up. Every operation is rounded to a double by itself.
 # Refusals: an error of class "doonamurk_refused" whose number is 20 where a rate is NA, NaN or outside -0.5 to 1.0, one that no year uses too, or where
 # `years` is not from 1 to 16; then 21 where an index leaves 1 to 5,000,000. The limits are inside, and so is -0.0. A rate of no numeric type, years that are
 # not a whole number from 0 to 2^53, and vectors of another length than 1 are plain errors that name the argument.

@@ -375,7 +375,7 @@ impl Indices {
 
 /// The indices of one flat rate in years 1 to `years`; 0.02 is two percent.
 ///
-/// A path starts at 1.0 and is multiplied each year by 1.0 plus that year's rate; a year's index is the path times 1,000,000.0 as a whole number, halves up.
+/// A path starts at 1.0 and is multiplied each year by 1.0 plus that year's rate; a year's index is the path times 1,000,000.0 to the nearest whole number, halves up.
 /// Every operation is rounded to an `f64` by itself. Refused 20 where a rate is not a number or lies outside -0.5 to 1.0, one that no year uses too, or where
 /// `years` is not from 1 to [`YEARS_MAX`]; then 21 where an index leaves 1 to 5,000,000. The limits are inside, and so is -0.0. Nothing is allocated or kept.
 /// Safe to call from any number of threads.

@@ -48,7 +48,7 @@ module _ (shape : Inflation) (years : ℕ) where
   unfolding inflationAnswer inflationQuestions firstNo
   twenty-one h k = rw (h, k)
 
-  -- 21 says yes of question 20, and no of itself
+  -- where 21 is given, question 20 has said yes and 21 says no
   of-twenty-one : inflationAnswer shape years ≡ 21 → (ratesPass shape years ≡ true) × (indicesPass shape years ≡ false)
   unfolding inflationAnswer inflationQuestions firstNo
   of-twenty-one h = go (ratesPass shape years) (indicesPass shape years) h
@@ -140,6 +140,8 @@ accepted shape years h = record {
   only = λ n w l v. only shape years h n w v ∙ sym (entry-is shape years h n l);
   least = λ n l. rw (entry-is shape years h n l) (from-least shape years h n l);
   most = λ n l. rw (entry-is shape years h n l) (to-most shape years h n l);
+  rates = passed shape years (both-passed shape years h .0) .rates;
+  path = passed shape years (both-passed shape years h .0) .path;
   sixteen = rw (values shape years h) (sixteen shape years h);
   rest = λ n l. rw (values shape years h) (filled-past mostYears 0 (indexAfter shape) (λ (x : ℕ). x ≡ 0) 0 refl refl years n l);
 }

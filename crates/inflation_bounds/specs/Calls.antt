@@ -25,6 +25,9 @@ pub record Accepted (shape : Inflation) (years : ℕ) : Type 0 where
   -- it is from 15 to 5,000,000
   pub least : (n : ℕ) → n < years → leastIndex ≤ entry shape years n
   pub most : (n : ℕ) → n < years → entry shape years n ≤ mostIndex
+  -- every year's rate is a number from −0.5 to 1.0, a fading one too, and the path is finite and above zero up to the sixteenth year
+  pub rates : (n : ℕ) → rateFits (rateAfter shape n) ≡ true
+  pub path : (n : ℕ) → n ≤ mostYears → positive (pathAfter (rateAfter shape) n) ≡ true
   -- there are sixteen entries, zeros past the years wanted
   pub sixteen : length (indicesOf shape years .values) ≡ mostYears
   pub rest : (n : ℕ) → years ≤ n → entry shape years n ≡ 0
