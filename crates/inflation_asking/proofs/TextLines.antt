@@ -1,13 +1,12 @@
 -- The lines of a text, one after another: where the first is that is wanted, and a line by its number. Assumes nothing.
-use mathlib.Core.Path.{_≡_, refl, sym, ap, _∙_}
-use mathlib.Core.Bool.{Bool, true, false, cond}
+use mathlib.Core.Path.{_≡_, refl, ap, _∙_}
+use mathlib.Core.Bool.{Bool, true, false}
 use mathlib.Core.List.{List, [], _∷_}
-use Prim.Native.Nat.{ℕ, zero, suc, _+_, _≤_, _<_}
-use native.Mathlib.Omega.{arith}
+use Prim.Native.Nat.{ℕ, zero, suc, _≤_, _<_}
 use lib.ListN.{length, getD}
 use Rattle.composing.specs.Text.{ascii}
-use Rattle.scanning.specs.Parts.{among, before, until, past, pieces}
-use Rattle.cells.proofs.CellWalk.{pieces-first, pieces-last, pieces-more, after, after-past}
+use Rattle.scanning.specs.Parts.{among, before, until, past}
+use Rattle.cells.proofs.CellWalk.{pieces-first, pieces-last, pieces-more, after-past}
 use Rattle.sheet.specs.Sheet.{lines}
 
 abbrev pub ends : ℕ → Bool

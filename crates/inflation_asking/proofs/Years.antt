@@ -1,6 +1,6 @@
 -- k of a text, and what is wrong with its line of inflation. Assumes nothing.
-use mathlib.Core.Path.{_≡_, refl, sym, ap, _∙_}
-use mathlib.Core.Bool.{Bool, true, false}
+use mathlib.Core.Path.{_≡_, sym, ap, _∙_}
+use mathlib.Core.Bool.{true, false}
 use mathlib.Core.List.{List, []}
 use Prim.Native.Nat.{ℕ, _+_, _≤_, _<_}
 use native.Mathlib.Omega.{arith}
@@ -10,10 +10,9 @@ use lib.ListN.{length, take, replicate, length-replicate}
 use lib.Seq.{length-sets}
 use Rattle.rules.specs.Record.{mostFields}
 use Rattle.laws.proofs.Joined.{take-sets}
-use Rattle.inflation_line.specs.declared.Fault.{Fault}
 use Rattle.inflation_line.specs.InflationLine.{isInflation, fault, faultIn}
 use Rattle.sheet.specs.declared.Found.{Found}
-use Rattle.sheet.specs.Sheet.{Typed, lastYearIn, readLine, lineWanted, yearAsked, inflationLine, faultAsked}
+use Rattle.sheet.specs.Sheet.{Typed, lastYearIn, readLine, yearAsked, inflationLine, faultAsked}
 use Rattle.line_reading.specs.Reads.{Reads}
 use Rattle.line_reading.proofs.Known.{line-step, good-none}
 

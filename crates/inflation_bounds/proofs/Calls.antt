@@ -13,11 +13,11 @@ use Rattle.rules.specs.Questions.{firstNo, afterCall}
 use Rattle.rules.specs.Record.{mostIndex}
 use Rattle.rules.specs.Inflation.{mostYears, rateAfter, WithinHalf, scaledAfter, indexAfter, ratesPass, indicesPass, inflationQuestions, inflationAnswer, indicesOf}
 use Rattle.rules.specs.declared.Inflation.{Inflation}
-use Rattle.laws.proofs.Lists.{both-right, length-upTo, every-append, every-upTo, fails-at}
+use Rattle.laws.proofs.Lists.{both-right, length-upTo, every-append, fails-at}
 use Rattle.laws.proofs.Padded.{filled-at, filled-past}
 use Rattle.laws.proofs.Questions.{yes-at, after-refusal}
 use Rattle.inflation_index.proofs.Whole.{nearest-within, nearest-only}
-use Rattle.inflation.proofs.Answers.{years-most}
+use Rattle.inflation.proofs.Answers.{years-most, index-within}
 use Rattle.inflation_bounds.specs.Calls.{entry, leastIndex, Above, OfAccepted, OfRefused, OfPassed, OfAbove}
 use Rattle.inflation_bounds.proofs.Rates.{rates-fit}
 use Rattle.inflation_bounds.proofs.Paths.{path-positive, index-least}
@@ -40,9 +40,9 @@ one-fails p (suc n) h = go (p n) refl (every p (below n)) refl (one-fails p n)
 
 -- the answer, from both questions
 module _ (shape : Inflation) (years : ℕ) where
-  both-passed : inflationAnswer shape years ≡ 0 → (ratesPass shape years ≡ true) × (indicesPass shape years ≡ true)
+  rates-passed : inflationAnswer shape years ≡ 0 → ratesPass shape years ≡ true
   unfolding inflationAnswer inflationQuestions every
-  both-passed h = (yes-at (inflationQuestions shape years) refl h 0, yes-at (inflationQuestions shape years) refl h 1)
+  rates-passed h = yes-at (inflationQuestions shape years) refl h 0
 
   twenty-one : ratesPass shape years ≡ true → indicesPass shape years ≡ false → inflationAnswer shape years ≡ 21
   unfolding inflationAnswer inflationQuestions firstNo
@@ -110,20 +110,17 @@ module _ (shape : Inflation) (years : ℕ) (h : inflationAnswer shape years ≡ 
   entry-is n l = rw values (filled-at mostYears 0 (indexAfter shape) years n 0 l)
 
   few : years ≤ mostYears
-  few = years-most shape years (both-passed shape years h .0)
+  few = years-most shape years (rates-passed shape years h)
 
   sixteen : length (padded mostYears 0 (upTo (indexAfter shape) years)) ≡ mostYears
   unfolding padded
   sixteen = simp (length-append, length-replicate, length-upTo) (omega (arith, few))
 
   from-least : (n : ℕ) → n < years → leastIndex ≤ indexAfter shape n
-  from-least n l = least shape years (both-passed shape years h .0) n (omega (arith, few))
+  from-least n l = least shape years (rates-passed shape years h) n (omega (arith, few))
 
   to-most : (n : ℕ) → n < years → indexAfter shape n ≤ mostIndex
-  unfolding indicesPass
-  to-most n l =
-      let passed = every-upTo (λ m. between 1 mostIndex (indexAfter shape m)) (λ m. m) years n (both-passed shape years h .1) l in
-      leb-true (indexAfter shape n) mostIndex (both-right (leb 1 (indexAfter shape n)) (leb (indexAfter shape n) mostIndex) passed)
+  to-most n l = leb-true (indexAfter shape n) mostIndex (both-right (leb 1 (indexAfter shape n)) (leb (indexAfter shape n) mostIndex) (index-within shape years h n l))
 
   near : (n : ℕ) → n < years → WithinHalf (scaledAfter shape n) (indexAfter shape n)
   unfolding indexAfter
@@ -140,8 +137,8 @@ accepted shape years h = record {
   only = λ n w l v. only shape years h n w v ∙ sym (entry-is shape years h n l);
   least = λ n l. rw (entry-is shape years h n l) (from-least shape years h n l);
   most = λ n l. rw (entry-is shape years h n l) (to-most shape years h n l);
-  rates = passed shape years (both-passed shape years h .0) .rates;
-  path = passed shape years (both-passed shape years h .0) .path;
+  rates = passed shape years (rates-passed shape years h) .rates;
+  path = passed shape years (rates-passed shape years h) .path;
   sixteen = rw (values shape years h) (sixteen shape years h);
   rest = λ n l. rw (values shape years h) (filled-past mostYears 0 (indexAfter shape) (λ (x : ℕ). x ≡ 0) 0 refl refl years n l);
 }

@@ -1,9 +1,8 @@
 -- A line of inflation by its shape, by what its numbers are, and by what is wrong with it. Assumes nothing.
-use mathlib.Core.Path.{_≡_, refl, sym, ap, _∙_}
+use mathlib.Core.Path.{_≡_, refl, sym, _∙_}
 use mathlib.Core.Bool.{Bool, true, false, cond, _&&_}
-use mathlib.Core.Logic.{_⊎_, inl, inr}
 use mathlib.Core.List.{List, [], _∷_}
-use Prim.Native.Nat.{ℕ, zero, suc, _+_, _-_, _≤_, _<_}
+use Prim.Native.Nat.{ℕ, zero, suc, _+_, _-_, _≤_}
 use native.Mathlib.Numerals.{add-one}
 use native.Mathlib.Omega.{arith}
 use borrow.Author.Tests.{eqb-false, eq-eqb, ne-eqb, lt-ltb, le-ltb}
@@ -23,7 +22,6 @@ use Rattle.scanning.specs.Parts.{before, sameText}
 use Rattle.scanning.specs.Numbers.{isNatural, sizeFrom}
 use Rattle.cells.specs.Cells.{cellsOf}
 use Rattle.rate_text.specs.RateText.{isRate, rateOf}
-use Rattle.inflation_line.specs.declared.Fault.{Fault}
 use Rattle.inflation_line.specs.InflationLine.{shapeNames, shapeAt, numbersDue, isDue, isAsked, passingNumbers, shapeFrom, shapeOf, fault, ratesFault, faultIn}
 
 -- the place of a shape, by the names that a word is and is not; w is the first cell

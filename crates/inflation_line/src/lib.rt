@@ -14,7 +14,6 @@ use scanning::same_text;
 use scanning::size_from;
 ghost use mathlib.Core.Path.{_≡_};
 ghost use Prim.Native.Nat.{_≤_, _<_};
-ghost use Rattle.rules.specs.Inflation.{mostYears};
 ghost use Rattle.inflation_line.specs.InflationLine.{isInflation, shapeAt, numberPasses, isDue, isAsked, passingNumbers, shapeFrom, shapeOf, ratesFault, faultIn};
 
 // What is wrong with a line of inflation, and the number or the year that it is about.

@@ -1,26 +1,23 @@
 -- A line of inflation that stands for the indices: what it says of its line, and what a call hands back of its rates. Assumes nothing.
-use mathlib.Core.Path.{_≡_, refl, sym, ap, _∙_}
-use mathlib.Core.Bool.{Bool, true, false, _&&_}
-use mathlib.Core.List.{List, [], _∷_, _++_, map}
+use mathlib.Core.Path.{_≡_, _∙_}
+use mathlib.Core.Bool.{true, false, _&&_}
+use mathlib.Core.List.{List, _++_, map}
 use Prim.Native.Nat.{ℕ, suc, _+_, _-_, _≤_, _<_, _^_}
-use native.Mathlib.Numerals.{add-one}
 use native.Mathlib.Omega.{arith}
 use borrow.Author.Tests.{eqb-true, leb-true, eq-eqb, ne-eqb}
 use lib.Dec.{eqb, leb}
 use lib.IntN.{ℤ, pos}
 use lib.ListN.{length, getD, take, replicate, length-append, length-replicate}
-use lib.Seq.{sets}
-use Rattle.rules.specs.Lists.{upTo, below, padded, every, between}
-use Rattle.rules.specs.Questions.{firstNo, afterCall}
+use Rattle.rules.specs.Lists.{upTo, padded}
+use Rattle.rules.specs.Questions.{afterCall}
 use Rattle.rules.specs.Record.{mostIndex}
-use Rattle.rules.specs.Inflation.{mostYears, indexAfter, ratesPass, indicesPass, inflationQuestions, inflationAnswer, indicesOf}
+use Rattle.rules.specs.Inflation.{mostYears, indexAfter, inflationAnswer, indicesOf}
 use Rattle.rules.specs.declared.Inflation.{Inflation}
-use Rattle.laws.proofs.Lists.{both-left, both-right, every-upTo, length-upTo, take-padded}
+use Rattle.laws.proofs.Lists.{both-right, length-upTo, take-padded}
 use Rattle.laws.proofs.Padded.{filled-at}
-use Rattle.laws.proofs.Questions.{yes-at}
+use Rattle.inflation.proofs.Answers.{index-within}
 use Rattle.inflation_line.specs.InflationLine.{isInflation, shapeOf, faultIn}
 use Rattle.inflation_line.proofs.Lines.{fault-accepted}
-use Rattle.sheet.specs.Table.{indicesPlace}
 use Rattle.sheet.specs.Sheet.{lastYearIn, fine, readLine, standsForIndices, indicesMade, readNext}
 
 module _ (k i : ℕ) (line : List ℕ) where
@@ -50,11 +47,9 @@ module _ (shape : Inflation) (years : ℕ) (h : inflationAnswer shape years ≡ 
   call-indices = rw h (take-padded mostYears years 0 (upTo (indexAfter shape) years) (length-upTo (indexAfter shape) years))
 
   pub call-small : (n : ℕ) → n < years → getD (indicesOf shape years .values) n 0 < 2 ^ 63
-  unfolding indicesOf afterCall inflationAnswer inflationQuestions indicesPass every
+  unfolding indicesOf afterCall
   call-small n l =
-      let passed : indicesPass shape years ≡ true = yes-at ((20, ratesPass shape years) ∷ (21, indicesPass shape years) ∷ []) refl h 1 in
-      let within : between 1 mostIndex (indexAfter shape n) ≡ true = every-upTo (λ m. between 1 mostIndex (indexAfter shape m)) (λ m. m) years n passed l in
-      let most = leb-true (indexAfter shape n) mostIndex (both-right (leb 1 (indexAfter shape n)) (leb (indexAfter shape n) mostIndex) within) in
+      let most = leb-true (indexAfter shape n) mostIndex (both-right (leb 1 (indexAfter shape n)) (leb (indexAfter shape n) mostIndex) (index-within shape years h n l)) in
       rw (h, filled-at mostYears 0 (indexAfter shape) years n 0 l) (omega arith)
 
   pub call-length : years ≤ mostYears → length (indicesOf shape years .values) ≡ mostYears

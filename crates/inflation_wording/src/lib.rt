@@ -10,8 +10,6 @@ use inflation_line::shape_at;
 use sheet_wording::put_cell;
 use sheet_wording::put_count;
 use sheet_wording::put_named;
-ghost use mathlib.Core.Bool.{cond};
-ghost use mathlib.Core.List.{_++_};
 ghost use Prim.Native.Nat.{_≤_};
 ghost use Rattle.composing.specs.Text.{Put, decimal};
 ghost use Rattle.sheet.specs.Sheet.{lines};

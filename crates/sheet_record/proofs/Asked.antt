@@ -1,6 +1,6 @@
 -- A text as it was written has no line of inflation, so that nothing is wrong with one. Assumes nothing.
 use mathlib.Core.Path.{_≡_, refl, sym, ap, _∙_}
-use mathlib.Core.Bool.{Bool, true, false, not, cond, _&&_, true≢false}
+use mathlib.Core.Bool.{Bool, true, false, not, cond, true≢false}
 use mathlib.Core.List.{List, [], _∷_, _++_, append-assoc}
 use Prim.Native.Nat.{ℕ, suc, _+_}
 use lib.Dec.{eqb}
@@ -13,7 +13,7 @@ use Rattle.commenting.specs.Comments.{uncommented}
 use Rattle.cells.specs.Cells.{unreturned, contentOf}
 use Rattle.inflation_line.specs.InflationLine.{isInflation, fault, faultIn}
 use Rattle.sheet.specs.declared.Due.{Due}
-use Rattle.sheet.specs.Table.{labelDue, dueAt, dueLines}
+use Rattle.sheet.specs.Table.{labelDue, dueAt}
 use Rattle.sheet.specs.Sheet.{spaced, lineOf, linesOf, lastYearIn, sheetOf, lines, isWanted, linesBefore, lineWanted, yearAsked, inflationLine, faultAsked}
 use Rattle.sheet_record.proofs.Words.{line-ends, line-content}
 use Rattle.sheet_record.proofs.Sheets.{label-word, row-small, no-inflation, empty-line, Dues, dues-first, dues-others}

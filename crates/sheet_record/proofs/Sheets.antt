@@ -80,7 +80,7 @@ pub record Okay (r : ℤ × ℤ) (v : ℤ) : Type 0 where
   pub small : natAbs v < ceiling
   pub within : leZ (r .0) v && leZ v (r .1) ≡ true
 
-abbrev AllOkay : ℤ × ℤ → List ℤ → Type 0
+abbrev pub AllOkay : ℤ × ℤ → List ℤ → Type 0
 AllOkay r [] = Unit {0}
 AllOkay r (v ∷ vs) = Okay r v × AllOkay r vs
 
@@ -117,6 +117,18 @@ line-sound d xs w e o =
       within-all (d .least) (d .most) xs o,
     )
 
+-- a line as it was written is read as its numbers
+pub written-read : (n i : ℕ) (us xs : List ℤ) → (i ≡ lineCount (lastYearIn us) → ⊥) → length xs ≡ dueAt (lastYearIn us) i .count
+    → AllOkay (dueAt (lastYearIn us) i .least, dueAt (lastYearIn us) i .most) xs
+    → readNext n i us (labelDue (dueAt (lastYearIn us) i) ++ spaced xs) ≡ fine n (suc i) (us ++ xs)
+written-read n i us xs left e o =
+    let d = dueAt (lastYearIn us) i in
+    let w = label-word (d .row) (row-small (lastYearIn us) i) in
+    let l = labelDue d ++ spaced xs in
+    rw (read-plain n i us l (no-inflation d xs w))
+    (line-fine n i us l (line-filled (labelDue d) xs w) left (wrong 0 0) (sym (line-sound d xs w e o)) refl
+    ∙ rw (line-cells (labelDue d) xs w, values-all (d .least, d .most) xs o))
+
 -- one line of a text
 pub one-line : (m i : ℕ) (us : List ℤ) (xs : List ℤ) (rest : List ℕ) → (i ≡ lineCount (lastYearIn us) → ⊥) → length xs ≡ dueAt (lastYearIn us) i .count
     → AllOkay (dueAt (lastYearIn us) i .least, dueAt (lastYearIn us) i .most) xs
@@ -128,10 +140,7 @@ one-line m i us xs rest left e o =
     let l = labelDue d ++ spaced xs in
     let text : lineOf d xs ++ rest ≡ labelDue d ++ (spaced xs ++ (10 ∷ rest)) =
     append-assoc (labelDue d) (spaced xs ++ (10 ∷ [])) rest ∙ ap (λ (l : List ℕ). labelDue d ++ l) (append-assoc (spaced xs) (10 ∷ []) rest) in
-    let read : readNext (suc m) i us (contentOf l) ≡ fine (suc m) (suc i) (us ++ xs) =
-    rw (line-content (labelDue d) xs w, read-plain (suc m) i us l (no-inflation d xs w))
-    (line-fine (suc m) i us l (line-filled (labelDue d) xs w) left (wrong 0 0) (sym (line-sound d xs w e o)) refl
-    ∙ rw (line-cells (labelDue d) xs w, values-all (d .least, d .most) xs o)) in
+    let read : readNext (suc m) i us (contentOf l) ≡ fine (suc m) (suc i) (us ++ xs) = rw (line-content (labelDue d) xs w) (written-read (suc m) i us xs left e o) in
     ap (λ (l : List ℕ). readLines (fine m i us) (lines l)) text ∙ rw (line-ends (labelDue d) xs rest w, read)
 
 -- an empty line is no line of inflation

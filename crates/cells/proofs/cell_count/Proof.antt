@@ -1,10 +1,10 @@
 -- The loop's invariant: the cells that were met, and those that are left, are all of them. Assumes nothing.
-use mathlib.Core.Path.{_≡_, refl, sym, ap, _∙_}
+use mathlib.Core.Path.{_≡_, sym, ap, _∙_}
 use Prim.Native.Nat.{_+_, _≤_, _<_}
 use native.Mathlib.Omega.{arith}
 use lib.ListN.{length}
 use Rattle.separating.specs.Separators.{fromCell}
-use Rattle.cells.specs.Cells.{cellsBy, cellsOf}
+use Rattle.cells.specs.Cells.{cellsBy}
 use Rattle.cells.proofs.CellWalk.{walk-shorter, walk-more, walk-over, cells-are}
 use borrow.Author.Needs.{needs}
 use Rattle.cells.proofs.cell_count.Statement.{statement}

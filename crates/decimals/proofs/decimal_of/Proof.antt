@@ -1,9 +1,8 @@
 -- The digits of a decimal make a number that is a float, over a power of ten that is one. Assumes nothing.
 use mathlib.Core.Path.{_≡_, ap, _∙_}
-use Prim.Native.Nat.{_<_, _^_, _≤_}
 use native.Mathlib.Omega.{arith}
 use lib.ListN.{length}
-use Rattle.decimals.specs.Decimals.{fractionDigits, mostDigits, numerator, decimalOf}
+use Rattle.decimals.specs.Decimals.{fractionDigits, numerator, decimalOf}
 use Rattle.decimals.proofs.Decimals.{decimal-short, numerator-most}
 use borrow.Author.Needs.{needs}
 use Rattle.decimals.proofs.decimal_of.Statement.{statement}

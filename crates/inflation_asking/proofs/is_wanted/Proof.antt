@@ -1,6 +1,6 @@
 -- By which is wanted. Assumes nothing.
 use mathlib.Core.Path.{ap, _∙_}
-use mathlib.Core.Bool.{Bool, not}
+use mathlib.Core.Bool.{not}
 use Rattle.inflation_line.specs.InflationLine.{isInflation}
 use Rattle.cells.specs.Cells.{isBare}
 use Rattle.sheet.specs.Sheet.{isWanted}

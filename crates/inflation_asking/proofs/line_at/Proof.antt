@@ -1,12 +1,12 @@
 -- The loop's invariant: line n is line n − i of the rest. Assumes nothing.
-use mathlib.Core.Path.{_≡_, refl, sym, ap, _∙_}
+use mathlib.Core.Path.{_≡_, sym, ap, _∙_}
 use mathlib.Core.List.{List, []}
 use Prim.Native.Nat.{ℕ, suc, _+_, _-_, _≤_}
 use native.Mathlib.Omega.{arith}
 use lib.ListN.{getD}
 use Rattle.scanning.specs.Parts.{past}
 use Rattle.sheet.specs.Sheet.{lines}
-use Rattle.inflation_asking.proofs.TextLines.{ends, line-first, line-later}
+use Rattle.inflation_asking.proofs.TextLines.{line-first, line-later}
 use borrow.Author.Needs.{needs}
 use Rattle.inflation_asking.proofs.line_at.Statement.{statement}
 use Rattle.inflation_asking.proofs.line_at.Tie as tie

@@ -1,6 +1,6 @@
 -- The content of the line at that number. Assumes nothing.
 use mathlib.Core.Path.{ap, _∙_}
-use mathlib.Core.List.{List, []}
+use mathlib.Core.List.{[]}
 use Prim.Native.Nat.{ℕ}
 use lib.ListN.{getD}
 use Rattle.cells.specs.Cells.{contentOf}

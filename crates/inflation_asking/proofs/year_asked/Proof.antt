@@ -1,15 +1,11 @@
 -- The first line that is not bare, read as one of k. Assumes nothing.
-use mathlib.Core.Path.{_≡_, refl, sym, ap, _∙_}
+use mathlib.Core.Path.{refl, ap, _∙_}
 use mathlib.Core.List.{List, []}
 use Prim.Native.Nat.{ℕ}
 use native.Mathlib.Omega.{arith}
-use lib.IntN.{pos}
-use lib.ListN.{replicate}
-use Rattle.rules.specs.Record.{mostFields}
-use Rattle.sheet.specs.Sheet.{lastYearIn, readLine, lineWanted, yearAsked, Typed}
-use Rattle.line_reading.specs.Reads.{Reads}
+use Rattle.sheet.specs.Sheet.{lastYearIn, readLine, yearAsked}
 use Rattle.line_reading.proofs.Known.{good-none}
-use Rattle.inflation_asking.proofs.Years.{first-long, first-count, first-year, first-few}
+use Rattle.inflation_asking.proofs.Years.{first-count, first-year, first-few}
 use borrow.Author.Needs.{needs}
 use Rattle.inflation_asking.proofs.year_asked.Statement.{statement}
 use Rattle.inflation_asking.proofs.year_asked.Tie as tie

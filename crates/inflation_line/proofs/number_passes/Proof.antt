@@ -1,5 +1,4 @@
 -- One of the two tests. Assumes nothing.
-use mathlib.Core.Path.{_∙_}
 use borrow.Author.Needs.{needs}
 use Rattle.inflation_line.proofs.number_passes.Statement.{statement}
 use Rattle.inflation_line.proofs.number_passes.Tie as tie

@@ -1,12 +1,12 @@
 -- By the number that the questions answer. Assumes nothing.
 use mathlib.Core.Path.{_≡_, refl, sym, ap, _∙_}
 use mathlib.Core.List.{List}
-use Prim.Native.Nat.{ℕ, suc, _≤_}
+use Prim.Native.Nat.{ℕ}
 use native.Mathlib.Numerals.{add-one}
 use native.Mathlib.Omega.{arith}
 use Rattle.rules.specs.declared.Indices.{Indices}
 use Rattle.rules.specs.declared.Inflation.{Inflation}
-use Rattle.rules.specs.Inflation.{mostYears, inflationAnswer}
+use Rattle.rules.specs.Inflation.{inflationAnswer}
 use Rattle.inflation.specs.Walk.{yearsWithin}
 use Rattle.inflation_line.specs.InflationLine.{shapeAt, shapeOf}
 use Rattle.inflation_line.proofs.Lines.{fault-rate, fault-year, fault-none, within-most, years-few, answer-of}

@@ -1,5 +1,5 @@
 -- The first cell is compared with each name in turn. Assumes nothing.
-use mathlib.Core.Path.{_≡_, refl, sym, _∙_}
+use mathlib.Core.Path.{sym, _∙_}
 use native.Mathlib.Omega.{arith}
 use Rattle.inflation_line.proofs.Lines.{is-flat, is-fading, is-shock, no-shape}
 use borrow.Author.Needs.{needs}

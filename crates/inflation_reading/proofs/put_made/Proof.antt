@@ -1,13 +1,13 @@
 -- The rates are accepted, so that the call hands back the indices that the line makes. Assumes nothing.
-use mathlib.Core.Path.{_≡_, refl, sym, ap, _∙_}
+use mathlib.Core.Path.{_≡_, ap, _∙_}
 use mathlib.Core.List.{List, map}
-use Prim.Native.Nat.{ℕ, _+_, _<_, _^_}
+use Prim.Native.Nat.{ℕ, _+_}
 use native.Mathlib.Omega.{arith}
 use denote.Ref.{now}
-use lib.IntN.{ℤ, pos}
-use lib.ListN.{length, getD, take}
+use lib.IntN.{pos}
+use lib.ListN.{take}
 use lib.Seq.{sets}
-use Rattle.rules.specs.Inflation.{mostYears, inflationAnswer, indicesOf}
+use Rattle.rules.specs.Inflation.{inflationAnswer, indicesOf}
 use Rattle.rules.specs.declared.Indices.{Indices}
 use Rattle.inflation_line.specs.InflationLine.{shapeOf}
 use Rattle.sheet.specs.Sheet.{indicesMade}

@@ -1,5 +1,5 @@
 -- By its place, its label and what is wrong with it. Assumes nothing.
-use mathlib.Core.Path.{_≡_, sym, ap, _∙_}
+use mathlib.Core.Path.{sym, ap, _∙_}
 use lib.Dec.{eqb}
 use borrow.Author.Tests.{not-true, not-false}
 use Rattle.inflation_line.specs.declared.Fault.{Fault}

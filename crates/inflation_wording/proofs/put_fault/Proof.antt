@@ -1,5 +1,4 @@
 -- The refusal, the number of the line, and the words. Assumes nothing.
-use mathlib.Core.Path.{ap, _∙_}
 use Rattle.composing.proofs.Puts.{put-three, put-four, put-same}
 use Rattle.inflation_wording.proofs.Words.{fault-line}
 use borrow.Author.Needs.{needs}

@@ -1,7 +1,6 @@
 -- A cell of more than 20 bytes is cut. Assumes nothing.
-use mathlib.Core.Path.{_≡_, sym, ap, _∙_}
+use mathlib.Core.Path.{sym}
 use native.Mathlib.Omega.{arith}
-use lib.ListN.{length, take}
 use lib.Seq.{length-take-le}
 use Rattle.composing.proofs.Puts.{put-same}
 use Rattle.inflation_wording.proofs.Words.{shown-cut, shown-whole}

@@ -1,9 +1,8 @@
 -- By the row that is due. Assumes nothing.
-use mathlib.Core.List.{_++_}
 use Rattle.composing.specs.Text.{ascii}
 use Rattle.composing.proofs.Puts.{put-append, put-same}
 use Rattle.sheet.specs.Table.{labelDue}
-use Rattle.sheet_wording.specs.Problem.{named, orInflation}
+use Rattle.sheet_wording.specs.Problem.{named}
 use Rattle.sheet_wording.proofs.Words.{words-between, or-none, or-inflation}
 use borrow.Author.Needs.{needs}
 use Rattle.sheet_wording.proofs.put_due_line.Statement.{statement}

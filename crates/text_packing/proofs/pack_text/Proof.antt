@@ -1,11 +1,10 @@
 -- The line of inflation first, and then the lines as due. Assumes nothing.
-use mathlib.Core.Path.{_≡_, refl, sym, ap, _∙_}
+use mathlib.Core.Path.{_≡_, ap, _∙_}
 use mathlib.Core.List.{List}
 use Prim.Native.Nat.{ℕ}
 use denote.Ref.{now}
-use Rattle.inflation_line.specs.declared.Fault.{Fault}
 use Rattle.composing.proofs.Puts.{put-same}
-use Rattle.sheet.specs.Sheet.{lines, unmarked, faultAsked, faultOf}
+use Rattle.sheet.specs.Sheet.{lines, faultAsked, faultOf}
 use Rattle.inflation_wording.specs.FaultWords.{faultLine}
 use Rattle.text_packing.proofs.Packing.{faulty, faultless}
 use borrow.Author.Needs.{needs}
