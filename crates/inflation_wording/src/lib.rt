@@ -45,11 +45,7 @@ fn put_due(out: &mut [u8], at: usize, asked: bool, years: u64, n: u64) -> usize
     if asked {
         return put_bytes(out, at, b"a rate from -0.5 to 1.0");
     }
-    put_bytes(
-        out,
-        at,
-        b"a decimal of at most 15 digits or 16 hex digits",
-    )
+    put_bytes(out, at, b"a decimal of at most 15 digits or 16 hex digits")
 }
 
 // Number n of the line.

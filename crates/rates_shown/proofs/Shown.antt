@@ -3,12 +3,12 @@ use mathlib.Core.Path.{_≡_, refl, sym, ap, _∙_}
 use mathlib.Core.Bool.{Bool, true, false, _&&_, cond}
 use mathlib.Core.Logic.{_⊎_, inl, inr}
 use mathlib.Core.List.{List, []}
-use Prim.Native.Nat.{ℕ, suc, _+_, _≤_, _<_}
+use Prim.Native.Nat.{ℕ, _+_, _<_}
 use native.Mathlib.Omega.{arith}
 use borrow.Author.Tests.{eq-eqb, ne-eqb, eqb-true}
 use lib.Dec.{eqb}
-use lib.ListN.{getD, replicate}
-use Rattle.rules.specs.Lists.{upTo, below, padded, every}
+use lib.ListN.{getD}
+use Rattle.rules.specs.Lists.{upTo, padded, every}
 use Rattle.rules.specs.Questions.{afterCall}
 use Rattle.rules.specs.Record.{lastYearOf, figuresOf}
 use Rattle.rules.specs.Inflation.{mostYears, indexAfter, inflationAnswer, indicesOf}

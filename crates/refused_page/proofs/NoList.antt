@@ -4,7 +4,7 @@ use native.Mathlib.Omega.{arith}
 use mathlib.Core.Path.{_≡_}
 use mathlib.Core.List.{List}
 use lib.IntN.{ℤ, pos, natAbs}
-use lib.ListN.{getD, replicate, length-replicate}
+use lib.ListN.{replicate, length-replicate}
 use Rattle.rules.specs.Packing.{Fit}
 use Rattle.rules.specs.Questions.{firstNo}
 use Rattle.rules.specs.Record.{figuresOf}
@@ -16,10 +16,9 @@ use Rattle.laws.proofs.TriangleRows.{cells-most}
 use Rattle.listing.proofs.Counts.{results-count}
 use Rattle.signed_sums.specs.Small.{Sized}
 use Rattle.page_figures.specs.Given.{mostGiven, Figured}
-use Rattle.record_figures.specs.RecordFigures.{recordFigures, Listed}
+use Rattle.record_figures.specs.RecordFigures.{Listed}
 use Rattle.record_figures.proofs.Read.{sound, record-figured}
 use Rattle.reading.specs.Reading.{Sound}
-use Rattle.growth.specs.declared.Correction.{Correction}
 use Rattle.summary_figures.specs.Summary.{Told}
 use Rattle.refused_page.specs.RefusedPage.{inputFigures, noCorrection}
 

@@ -1,4 +1,4 @@
-// Writes the report of the years, the title and the record on standard input as a page of text.
+// Writes the report of the years, the title, a line of inflation and the record on standard input as a page of text.
 use printing::put_composed;
 use report_input::read_report;
 use report_lengths::MOST_PAGE;

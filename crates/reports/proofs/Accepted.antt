@@ -1,19 +1,18 @@
 -- What an accepted run gives a report: a list and numbers that are not too large. Assumes nothing.
-use Prim.Native.Nat.{ℕ, _+_, _≤_, _<_}
-use native.Mathlib.Nat.{le-trans}
+use Prim.Native.Nat.{ℕ, _+_, _≤_}
 use native.Mathlib.Omega.{arith}
-use mathlib.Core.Path.{_≡_, ap, _∙_}
-use mathlib.Core.List.{List, _++_}
-use lib.IntN.{ℤ, pos}
+use mathlib.Core.Path.{_≡_, ap}
+use mathlib.Core.List.{List}
+use lib.IntN.{pos}
 use lib.ListN.{length, drop, replicate, length-append}
 use Rattle.rules.specs.Packing.{Fit}
 use Rattle.rules.specs.Record.{figuresOf}
-use Rattle.rules.specs.Results.{resultCount, mostEntries, resultsOf}
+use Rattle.rules.specs.Results.{mostEntries, resultsOf}
 use Rattle.rules.specs.Engine.{runAnswer}
 use Rattle.results.proofs.SectionPlaces.{results-length}
 use Rattle.reading.specs.Reading.{Sound}
 use Rattle.growth.specs.declared.Correction.{Correction}
-use Rattle.outcomes.specs.Outcome.{filledBy, correctionBy, InRange}
+use Rattle.outcomes.specs.Outcome.{filledBy, InRange}
 use Rattle.outcomes.proofs.Passed.{accepted, opening, fields}
 use Rattle.outcomes.proofs.Accepted.{filled}
 use Rattle.list_sizes.proofs.Accepted.{all-entries, share-entries, level-entries}

@@ -1,10 +1,10 @@
 -- What a report says of the rates of a line is so. Assumes nothing.
-use mathlib.Core.Path.{_≡_, refl, sym, ap, _∙_}
-use mathlib.Core.Bool.{Bool, true, false, cond}
+use mathlib.Core.Path.{_≡_}
+use mathlib.Core.Bool.{Bool}
 use mathlib.Core.Logic.{_⊎_, inl, inr}
 use mathlib.Core.List.{List, []}
 use Prim.Native.Nat.{ℕ}
-use Rattle.rates_shown.specs.RatesShown.{makesIndices, shownRates, Made}
+use Rattle.rates_shown.specs.RatesShown.{shownRates, Made}
 use Rattle.rates_shown.proofs.Shown.{none-shown, shown-made}
 use Rattle.reports.specs.Report.{reportOf}
 

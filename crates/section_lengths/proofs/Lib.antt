@@ -10,3 +10,4 @@ pub mod Inputs
 pub mod Expense
 pub mod Proved
 pub mod Rests
+pub mod Rates

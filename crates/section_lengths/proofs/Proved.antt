@@ -18,15 +18,15 @@ use Rattle.proof_section.specs.Proved.{everyFigure, exactSolution, sharesNear, 
 use Rattle.section_lengths.proofs.Tables.{picked-most}
 
 -- words, and a paragraph of them
-words-most : (html : Bool) (text : List ℕ) → length (words html text) ≤ 5 * length text
+pub words-most : (html : Bool) (text : List ℕ) → length (words html text) ≤ 5 * length text
 unfolding words
 words-most html text = either-most html (escaped text) text (5 * length text) (text-most true text) (omega arith)
 
-start-most : (html : Bool) → length (paragraphStart html) ≤ 3
+pub start-most : (html : Bool) → length (paragraphStart html) ≤ 3
 unfolding paragraphStart
 start-most html = either-most html (ascii "<p>") (ascii "\n") 3 (omega arith) (omega arith)
 
-end-most : (html : Bool) → length (paragraphEnd html) ≤ 5
+pub end-most : (html : Bool) → length (paragraphEnd html) ≤ 5
 unfolding paragraphEnd
 end-most html = either-most html (ascii "</p>\n") (ascii "\n") 5 (omega arith) (omega arith)
 

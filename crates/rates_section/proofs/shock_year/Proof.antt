@@ -1,5 +1,4 @@
 -- The three numbers added. Assumes nothing.
-use mathlib.Core.Path.{_∙_}
 use Rattle.rates_section.specs.RatesSection.{shockYear}
 use borrow.Author.Needs.{needs}
 use Rattle.rates_section.proofs.shock_year.Statement.{statement}

@@ -1,5 +1,4 @@
 -- One number after another. Assumes nothing.
-use borrow.Author.Needs.{needs}
 use borrow.Author.Tests.{eq-eqb, ne-eqb}
 use Rattle.refused_page.specs.RefusedPage.{yearsKnown}
 use Rattle.refused_page.proofs.years_known.Statement.{statement}

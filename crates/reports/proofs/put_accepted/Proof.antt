@@ -1,8 +1,8 @@
 -- The figures and the single figures of the list that the engine filled (Accepted). Assumes nothing.
 use native.Mathlib.Omega.{arith}
-use mathlib.Core.Path.{_≡_, refl, _∙_}
+use mathlib.Core.Path.{_≡_, refl}
 use Rattle.rules.specs.Packing.{Fit}
-use Rattle.rules.specs.Record.{lastYearOf, figuresOf}
+use Rattle.rules.specs.Record.{figuresOf}
 use Rattle.outcomes.specs.Outcome.{filledBy}
 use Rattle.outcomes.proofs.Passed.{accepted, opening, fields, some}
 use Rattle.record_figures.specs.RecordFigures.{recordFigures}

@@ -1,6 +1,5 @@
 -- The input's years, its title, its line and its record, by the places where they stand (Split). Assumes nothing.
 use native.Mathlib.Omega.{arith}
-use mathlib.Core.Path.{_∙_}
 use Rattle.titled_input.proofs.Inputs.{record-part}
 use Rattle.reports.specs.Report.{reportIn}
 use borrow.Author.Needs.{needs}
