@@ -1,6 +1,6 @@
 #!/usr/bin/env python3
 """make_cases.py: writes the stored input and expected output of the test programs read_cases, write_cases, run_cases and inflation_cases and of the programs
-reserve, reserve_many, gather, fields, report, csv, pack and unpack, and the input of motor_account and report_html; the records of the examples from their
+reserve, reserve_many, gather, fields, report, report_html, csv, pack, unpack and rates, and the input of motor_account; the records of the examples from their
 texts, their pages and their lists as comma-separated values (tests/pages for the valuation year 2026, tests/pages/2027); records that question 7 refuses, or 13
 before it, with what is said of them (tests/refusals); and the texts that pack must accept or refuse, with the record of each or what pack says (tests/texts).
 
@@ -10,6 +10,7 @@ the Rattle code.
 import glob
 import os
 import random
+import re
 from fractions import Fraction
 
 import inflation
@@ -835,9 +836,10 @@ def of_year(year, rest):
 HEAD = ("Taylor's <motor> account & more</h1></title><script>\x01\t\x7f \u00e9".encode("utf-8"), 1967)
 
 
-def of_report(year, record, title=b"", first=0):
-    """What a report's program is given: the valuation year and the first origin year in two bytes each, the title behind its length, and then the record."""
-    return year.to_bytes(2, "big") + first.to_bytes(2, "big") + bytes([len(title)]) + title + record
+def of_report(year, record, title=b"", first=0, line=b""):
+    """What a report's program is given: the valuation year and the first origin year in two bytes each, the title and a line of inflation, each behind its length
+    and of length 0 where there is none, and then the record."""
+    return year.to_bytes(2, "big") + first.to_bytes(2, "big") + bytes([len(title)]) + title + bytes([len(line)]) + line + record
 
 
 def main():
@@ -884,7 +886,8 @@ def main():
     examples()
     refusals()
     refused_pages()
-    lost_page()
+    given_pages()
+    rates()
     texts()
 
 
@@ -1100,24 +1103,30 @@ def gather(record):
 
 
 def examples():
-    """The record, the page and the list of every example; the longest of them is what pack, unpack and csv are given."""
+    """The record, the page and the list of every example, the page with its line of inflation where it has one; the longest of them is what pack, unpack and csv
+    are given."""
     for path in sorted(glob.glob(os.path.join(HERE, "..", "examples", "*.txt"))):
         name = os.path.splitext(os.path.basename(path))[0]
         with open(path, "rb") as text:
             given = text.read()
         fields, said = sheet.read(given)
         assert said is None, said
-        record = model.pack(fields)
+        record, line = model.pack(fields), page.line_of_inflation(given)
         put(os.path.splitext(path)[0] + ".rec", record)
         for year, folder in ((2026, "pages"), (2027, os.path.join("pages", "2027"))):
             if year == 2026 or name in ("two_years", "liability_tail"):
-                put(os.path.join(HERE, folder, name + ".txt"), page.page(year, record))
-                put(os.path.join(HERE, folder, name + ".html"), page.page(year, record, True))
-                put(os.path.join(HERE, folder, name + ".csv"), page.csv(year, record))
+                store_pages(os.path.join(HERE, folder, name), year, record, line=line)
         if name == "liability_book":
             store("pack", given, record)
             store("unpack", record, page.sheet(fields))
             store("csv", of_year(2027, record), page.csv(2027, record))
+
+
+def store_pages(path, year, record, title=b"", first=0, line=b""):
+    """The pages and the list of a record that is accepted."""
+    put(path + ".txt", page.page(year, record, False, title, first, line))
+    put(path + ".html", page.page(year, record, True, title, first, line))
+    put(path + ".csv", page.csv(year, record))
 
 
 def refusals():
@@ -1158,17 +1167,18 @@ def refusals():
 
 
 def refused_pages():
-    """A record that each question refuses, behind its year, and the pages that say so; then others, for the place and the figures of each (tests/pages/refused)."""
+    """A record that each question refuses, behind its year, and the pages that say so; then others, for the place and the figures of each, and some with a line of
+    inflation (tests/pages/refused)."""
     folder = os.path.join(HERE, "pages", "refused")
     stored = set()
 
-    def store_page(name, year, record, first):
+    def store_page(name, year, record, first, line=b""):
         number_ = model.run(year, record, 505)[0]
         assert name[:2] == f"{number_:02}" and name not in stored, (name, number_)
         stored.add(name)
-        put(os.path.join(folder, name + ".given"), of_report(year, record, b"", first))
-        put(os.path.join(folder, name + ".txt"), page.refused_page(year, record, False, b"", first))
-        put(os.path.join(folder, name + ".html"), page.refused_page(year, record, True, b"", first))
+        put(os.path.join(folder, name + ".given"), of_report(year, record, b"", first, line))
+        put(os.path.join(folder, name + ".txt"), page.refused_page(year, record, False, b"", first, line))
+        put(os.path.join(folder, name + ".html"), page.refused_page(year, record, True, b"", first, line))
 
     left = set(page.QUESTIONS) - {3}
     for year, _, record in run_inputs():
@@ -1182,6 +1192,9 @@ def refused_pages():
         assert page.why(int(name[:2]), record, 0)[0] == place, (name, page.why(int(name[:2]), record, 0))
         if also is not None:
             store_page(f"{name}_{also or 'no_first_year'}", year, record, also)
+    for name, year, record, line, said in refused_with_rates():
+        store_page(name, year, record, 2012, line)
+        hold_words(page.refused_page, year, record, line, said)
     for name in sorted({os.path.splitext(file)[0] for file in os.listdir(folder)} - stored):
         print(f"tests/pages/refused/{name} is not made here")
 
@@ -1289,15 +1302,110 @@ def more_refused():
     yield "14_two_rows", 2026, model.pack(fields_of([million] * 4, rows)), "origin year 1, development year 3", None
 
 
-def lost_page():
-    """A record whose averages lose payments and are below zero, with a title (tests/pages/given)."""
-    record = model.pack(fields_of([1000] * 4, [[90000, 9000, 3, 5], [95000, -800, 4], [99000, 9500], [99000]]))
-    given = (record, b"Averages that lose payments", 2024)
-    name = os.path.join(HERE, "pages", "given", "lost")
-    put(name + ".given", of_report(2026, *given))
-    put(name + ".txt", page.page(2026, record, False, *given[1:]))
-    put(name + ".html", page.page(2026, record, True, *given[1:]))
-    put(name + ".csv", page.csv(2026, record))
+def given_pages():
+    """Records that are accepted, with what stands before them, their pages and their lists (tests/pages/given)."""
+    folder = os.path.join(HERE, "pages", "given")
+    stored = set()
+
+    def store_page(name, year, record, *head):
+        assert name not in stored
+        stored.add(name)
+        put(os.path.join(folder, name + ".given"), of_report(year, record, *head))
+        store_pages(os.path.join(folder, name), year, record, *head)
+
+    # averages that lose payments and are below zero
+    lost = fields_of([1000] * 4, [[90000, 9000, 3, 5], [95000, -800, 4], [99000, 9500], [99000]])
+    store_page("lost", 2026, model.pack(lost), b"Averages that lose payments", 2024)
+    for name, year, record, line, said in accepted_with_rates():
+        store_page("inflation_" + name, year, record, b"", 0, line)
+        hold_words(page.page, year, record, line, said)
+    # a title that is a line of inflation too, of other rates
+    line = b"inflation fading 0.08 0.02"
+    store_page("inflation_titled", 2027, with_rates(model.MOTOR_ACCOUNT, line), b"inflation flat 0.05", 2024, line)
+    for name in sorted({os.path.splitext(file)[0] for file in os.listdir(folder)} - stored):
+        print(f"tests/pages/given/{name} is not made here")
+
+
+def with_rates(fields, line):
+    """The record of fields with the indices that a line of inflation makes, also one whose rates are refused."""
+    k, (_, words) = fields[0], sheet.cells(line)
+    at = places(k)["e"]
+    return model.pack(fields[:at] + inflation.every_index(*sheet.call(words), k + 1) + fields[at + k + 1:])
+
+
+def hold_words(make, year, record, line, said):
+    """The pages that `make` makes have a section of the rates, directly between the inputs and what is proved, which says this; or none where nothing is said."""
+    text, web = make(year, record, False, line=line), make(year, record, True, line=line)
+    if not said:
+        assert "Inflation" not in text + web and (text, web) == (make(year, record), make(year, record, True))
+        return
+    words = f"The indices are made from {said}", "Each is the whole number nearest to the path in millionths, a half going up."
+    assert re.findall(r"(?<=\n\n)(?:Inputs as given|Inflation|What is proved)(?=[,\n])", text) == ["Inputs as given", "Inflation", "What is proved"]
+    assert "\n\nInflation\n\n{}\n{}\n\nWhat is proved".format(*words) in text
+    assert f"</section>\n<section>\n<h2>Inflation</h2>\n<p>{' '.join(words)}</p>\n</section>\n<section>\n<h2>What is proved" in web
+    assert re.findall("<h2>(.*?)</h2>", web)[-4:-2] == ["Inputs as given", "Inflation"]
+
+
+# Lines of inflation and what is said of their rates, word for word
+FLAT = b"inflation flat 0.03", "one flat rate of inflation, 0.03."
+FADING = b"inflation fading 0.08 0.02", "a rate of inflation of 0.08 that moves halfway each year toward a long-run rate of 0.02."
+# of four years the third future one, the seventh of all, is year 6
+SHOCK = b"inflation shock 0.10 0.02 3", "a rate of inflation of 0.10 in future year 6 and of 0.02 in the others."
+
+
+def accepted_with_rates():
+    """Name, valuation year, record and line of inflation, and what is said of the rates or None where nothing is."""
+    two, motor, longest = model.TWO_YEARS, model.MOTOR_ACCOUNT, account(15, random.Random(1))
+    for name, year, fields, line, said in (
+            ("flat", 2026, two, *FLAT), ("fading", 2026, motor, *FADING), ("shock", 2027, motor, *SHOCK),
+            # bits in letters of either size, and bits that are all digits
+            ("hex", 2026, two, b"inflation fading 3fB47Ae147aE147b 3f947ae147ae147b",
+             "a rate of inflation of 3fB47Ae147aE147b that moves halfway each year toward a long-run rate of 3f947ae147ae147b."),
+            ("hex_digits", 2026, two, b"inflation flat 3000000000000000", "one flat rate of inflation, 3000000000000000."),
+            # rates as they are typed, and the year without zeros in front
+            ("quotes", 2026, two, b'"inflation", "shock" ,"-0.0100",0.02,"002",,""', "a rate of inflation of -0.0100 in future year 3 and of 0.02 in the others."),
+            ("blanks", 2026, two, b"   inflation  flat \t 000.0300 ", "one flat rate of inflation, 000.0300."),
+            # the longest line, and with 16 years the longest rates
+            ("longest_line", 2026, motor, SHOCK[0].replace(b" ", b" " * 57) + b"    ", SHOCK[1]),
+            ("16_years", 2026, longest, b"inflation shock -0.12345678901234 -0.02000000000001 16",
+             "a rate of inflation of -0.12345678901234 in future year 31 and of -0.02000000000001 in the others.")):
+        yield name, year, with_rates(fields, line), line, said
+    # the example without its line, as where its record is all there is
+    yield "none", 2026, with_rates(motor, b"inflation fading 0.10 0.04"), b"", None
+    # the first index is another one, and the last
+    for name, fields, line, place, step in (("first_index", two, FLAT[0], 0, -1), ("last_index", motor, FADING[0], 3, 1)):
+        made = model.read(with_rates(fields, line), model.field_count(fields[0]))
+        at = places(fields[0])["e"] + place
+        yield name, 2026, model.pack(changed(made, at, made[at] + step)), line, None
+    # a year past those wanted and a rate past its limit, with the indices that they would make
+    for name, line in (("refused_year", b"inflation shock 0.10 0.02 3"), ("refused_rate", b"inflation fading 1.00000000000001 -0.5")):
+        yield name, 2026, with_rates(two, line), line, None
+    # bytes that are no line of inflation, as many as there may be
+    yield "other_bytes", 2026, model.pack(two), bytes(range(1, 256)), None
+
+
+def refused_with_rates():
+    """As accepted_with_rates, of records that are refused: the rates are named where the inputs are, from question 6 on."""
+    two, motor = model.TWO_YEARS, model.MOTOR_ACCOUNT
+    at, late = places(1), places(3)
+    yield "01_inflation", 2026, b"", FLAT[0], None
+    yield "02_inflation", 2026, with_rates(two, FLAT[0])[:-1], FLAT[0], None
+    yield "04_inflation", 2026, with_rates(changed(two, at["n"], 0), FLAT[0]), FLAT[0], None
+    yield "05_inflation", 2026, with_rates(changed(two, at["b"], 0), FLAT[0]), FLAT[0], None
+    yield "06_inflation", 2026, with_rates(changed(two, at["P"], -1), FLAT[0]), *FLAT
+    yield "08_inflation", 2027, with_rates(fields_of([1] * 4, [[5, 5, 5, 1], [5, 0, 0], [0, 0], [0]]), FADING[0]), *FADING
+    yield "12_inflation", 2026, with_rates(changed(motor, late["U"], 10**10), SHOCK[0]), *SHOCK
+    yield "12_inflation_other_rates", 2026, with_rates(changed(motor, late["U"], 10**10), SHOCK[0]), FADING[0], None
+
+
+def rates():
+    """A text whose line of inflation stands behind comments, blank lines and lines with another label, and has a comment after it."""
+    line = b'  "inflation"  fading 0.10\t0.04 '
+    before = (b'# inflation flat 3\n"# inflation flat 3",,\n\n \t,;"\n  # inflation flat 3\nk 3\r\npaid inflation flat 3 # inflation flat 3\n'
+              b"inflations flat 3\nInflation flat 3\n\tinflation flat 3\n,inflation,flat,3\n")
+    given = before + line + b"# as the economists send it\ninflation flat 0.05\n"
+    assert page.line_of_inflation(given) == line
+    store("rates", given, line)
 
 
 def texts():
@@ -1346,10 +1454,10 @@ SAID = {
         "line 7: number 2 of `fading` is `0.0x`, and a decimal of at most 15 digits or 16 hex digits is due",
     "\n\n\n\n\nk 3\ninflation,fading,,0.02\n":
         "line 7: number 1 of `fading` is an empty cell, and a decimal of at most 15 digits or 16 hex digits is due",
-    "\n\n\n\n\nk 3\ninflation shock 0.1 0.02 x\n": "line 7: number 3 of `shock` is `x`, and a whole number is due",
+    "\n\n\n\n\nk 3\ninflation shock 0.1 0.02 x\n": "line 7: number 3 of `shock` is `x`, and a year from 1 to 4 is due",
     "\n\n\n\n\nk 3\ninflation flat 3\n": "refused 20: line 7: number 1 of `flat` is `3`, and a rate from -0.5 to 1.0 is due",
     "\n\n\n\n\nk 3\ninflation shock 0.1 0.02 9\n": "refused 20: line 7: number 3 of `shock` is `9`, and a year from 1 to 4 is due",
-    "\n\n\n\n\nk 15\ninflation flat 0.144\n": "refused 21: line 7: the index of year 12 leaves 1 to 5,000,000",
+    "\n\n\n\n\nk 3\ninflation flat 1\n": "refused 21: line 7: the index of year 3 leaves 1 to 5,000,000",
 }
 
 

@@ -3,14 +3,17 @@
 Written from the design of the page, docs/SHEET.md and the definitions of the list's lines and of the sheet, by a hand that had read the definitions of the
 report's tables, plots and figures too, and before any Rattle code made a page. The words of a refused record are those of the design's table of refused records, six
 of them changed on purpose; the place where the answer is no and the figures there are worked out from documents 01 and 02, without the Rattle code. The numbers come
-from model.py. make_cases.py makes of it what report, csv and unpack are expected to write.
+from model.py; the line of inflation is read by sheet.py, and its indices are those of inflation.py. make_cases.py makes of it what report, csv, rates and unpack
+are expected to write.
 """
 
 import itertools
 import os
 import textwrap
 
+import inflation
 import model
+import sheet as texts
 
 def fixed(value, decimals):
     """A number that counts units of 10^-decimals."""
@@ -413,6 +416,44 @@ def inputs(page, year, given, k, first):
     page.end()
 
 
+def line_of_inflation(text):
+    """The first line of inflation of a text as it is typed, up to its comment; nothing where there is none."""
+    for line in text.removeprefix(texts.MARK).split(b"\n"):
+        typed = texts.content(line)
+        if texts.cells(typed)[0] == b"inflation":
+            return typed
+    return b""
+
+
+# of each shape of inflation what its indices are made from, with its numbers in their order
+MADE_FROM = {
+    "flat": "one flat rate of inflation, {}.",
+    "fading": "a rate of inflation of {} that moves halfway each year toward a long-run rate of {}.",
+    "shock": "a rate of inflation of {0} in future year {2} and of {1} in the others.",
+}
+
+
+def rates_said(line, e, first):
+    """The two sentences about a line of inflation whose rates make just these indices; None of any other line. The year of a shock is called as in the table of indices."""
+    label, words = texts.cells(texts.content(line))
+    if label != b"inflation" or texts.inflation_problem(words, len(e)) or inflation.every_index(*texts.call(words), len(e)) != e:
+        return None
+    shape = words[0].decode()
+    count = 1 + inflation.SHAPES[shape]
+    # rates as they are typed
+    made_from = MADE_FROM[shape].format(*(rate.decode() for rate in words[1:count]), *(first + len(e) - 1 + int(year) for year in words[count:]))
+    return f"The indices are made from {made_from}", "Each is the whole number nearest to the path in millionths, a half going up."
+
+
+def rates(page, line, e, first):
+    """The section of a line of inflation, where its rates make the record's indices."""
+    said = rates_said(line, e, first)
+    if said:
+        page.start("Inflation")
+        page.put(f"<p>{' '.join(said)}</p>\n" if page.html else "\n" + "\n".join(said) + "\n")
+        page.end()
+
+
 PROVED = [
     "1. Every figure on this page is proved, for every record that can be accepted and not for tried ones only, to be what the rules define from the record; docs/PROVED.md of the "
     "package names each statement, what it rests on and what is not covered.",
@@ -448,15 +489,16 @@ def record_section(page, record):
     digits = record.hex()
     page.start("The record")
     if page.html:
-        page.paragraph(f"All inputs but the valuation year, title and first year are these {len(record)} bytes, in hexadecimal; the report can be made again from them.")
+        page.paragraph(f"All inputs but the valuation year, title, first year and any rates of inflation are these {len(record)} bytes, in hexadecimal; the report can be made again from them.")
         page.paragraph(f"<code>{digits}</code>")
     else:
         page.put("".join(digits[place:place + 64] + "\n" for place in range(0, len(digits), 64)))
     page.end()
 
 
-def page(year, record, html=False, title=b"", first=0):
-    """The page that report, or report_html, writes of a record that the engine accepts in a valuation year, as text of one byte a character."""
+def page(year, record, html=False, title=b"", first=0, line=b""):
+    """The page that report, or report_html, writes of a record that the engine accepts in a valuation year, given with a line of inflation or none, as text of one
+    byte a character."""
     f, made = Figures(year, record), Page(html)
     opening(made, year, title, first, f.k, len(record))
     key_figures(made, f, first)
@@ -467,6 +509,7 @@ def page(year, record, html=False, title=b"", first=0):
     expense(made, f)
     chain_ladder(made, f, first)
     inputs(made, year, model.lists(model.read(record, model.field_count(f.k))), f.k, first)
+    rates(made, line, f.e, first)
     proved(made, f)
     record_section(made, record)
     made.web("</body>\n</html>\n")
@@ -698,8 +741,8 @@ def nothing_left(page, record):
     page.end()
 
 
-def refused_page(year, record, html=False, title=b"", first=0):
-    """The page of a record that the engine refuses in a valuation year."""
+def refused_page(year, record, html=False, title=b"", first=0, line=b""):
+    """The page of a record that the engine refuses in a valuation year, given with a line of inflation or none."""
     number = model.run(year, record, 505)[0]
     asked, said, advice = QUESTIONS[number]
     place, figures = why(number, record, first)
@@ -721,7 +764,9 @@ def refused_page(year, record, html=False, title=b"", first=0):
     if number == 8:
         nothing_left(made, record)
     if number > 5:
-        inputs(made, year, model.lists(model.read(record, model.field_count(k))), k, first)
+        given = model.lists(model.read(record, model.field_count(k)))
+        inputs(made, year, given, k, first)
+        rates(made, line, given["e"], first)
     made.start("What is proved")
     text = ("Every record is proved to get either all of its figures or the number of the first question, in the order in which they are put, whose answer is no; a refused record "
             "leaves nothing half done. The questions before this one were answered yes.")

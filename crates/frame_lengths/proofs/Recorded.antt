@@ -10,11 +10,11 @@ use Rattle.parts.proofs.Lengths.{only-most, section-start-most, section-end-mos
 use Rattle.hexadecimal.proofs.Digits.{digits-most}
 use Rattle.record_section.specs.RecordSection.{digitsText, recordSection}
 
-text-most : (bytes : ℕ) → length (digitsText bytes) ≤ 180
+text-most : (bytes : ℕ) → length (digitsText bytes) ≤ 210
 unfolding digitsText
 text-most bytes = simp length-append (omega (arith, length-most bytes))
 
-pub record-most : (html : Bool) (packed : List ℕ) → length (recordSection html packed) ≤ 300 + 3 * length packed
+pub record-most : (html : Bool) (packed : List ℕ) → length (recordSection html packed) ≤ 330 + 3 * length packed
 unfolding recordSection
 record-most true packed =
     simp length-append

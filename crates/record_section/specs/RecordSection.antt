@@ -10,7 +10,7 @@ use Rattle.hexadecimal.specs.Hexadecimal.{digitsIn}
 -- what the digits are, on the page of HTML
 unfoldable pub digitsText : ℕ → List ℕ
 digitsText bytes =
-    ascii "<p>All inputs but the valuation year, title and first year are these "
+    ascii "<p>All inputs but the valuation year, title, first year and any rates of inflation are these "
     ++ (decimal bytes ++ ascii " bytes, in hexadecimal; the report can be made again from them.</p>\n<p><code>")
 
 unfoldable pub recordSection : Bool → List ℕ → List ℕ

@@ -17,7 +17,7 @@ fn put_digits_text(out: &mut [u8], at: usize, bytes: usize) -> usize
     let a = put_bytes(
         out,
         at,
-        b"<p>All inputs but the valuation year, title and first year are these ",
+        b"<p>All inputs but the valuation year, title, first year and any rates of inflation are these ",
     );
     let b = put_decimal(out, a, bytes as u64);
     put_bytes(
