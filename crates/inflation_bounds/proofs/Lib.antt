@@ -3,4 +3,3 @@ pub mod Halfway
 pub mod Rates
 pub mod Paths
 pub mod Calls
-pub mod Examples

@@ -1,4 +1,5 @@
--- Worked calls for indices: each shape, both sides of the limits, and what is refused. The numbers are those of a machine's own floats. Assumes nothing.
+-- Worked calls for the indices of inflation (request 5 of document 02): each shape, both sides of the limits, and what is refused; they are ours, and the numbers those of a machine's
+-- own floats. A table apart, since in the one of Marked they take more steps than a check grants to one theorem. Assumes nothing.
 use mathlib.Core.Path.{_≡_, refl}
 use mathlib.Core.Bool.{true, false}
 use mathlib.Core.List.{List, [], _∷_, map}
@@ -43,8 +44,8 @@ abbrev belowLeast : Float
 belowLeast = ofBits binary64 0xbfe0_0000_0000_0001
 
 -- what the rules give, and what is expected
-abbrev pub calls : List (List ℕ × List ℕ)
-calls =
+abbrev pub callTable : List (List ℕ × List ℕ)
+callTable =
     (call (Flat twoPercent) 4, accepted (1020000 ∷ 1040400 ∷ 1061208 ∷ 1082432 ∷ []))
     ∷ (call (Fading sevenPercent twoPercent) 5, accepted (1070000 ∷ 1118150 ∷ 1154490 ∷ 1184795 ∷ 1212194 ∷ []))
     ∷ (call (Shock tenPercent twoPercent 3) 4, accepted (1020000 ∷ 1040400 ∷ 1144440 ∷ 1167329 ∷ []))
@@ -64,6 +65,6 @@ calls =
     ∷ (call (Shock mostRate mostRate 3) 2, refused 20)
     ∷ []
 
-pub calls-hold : map (λ row. row .0) calls ≡ map (λ row. row .1) calls
+pub calls-hold : map (λ row. row .0) callTable ≡ map (λ row. row .1) callTable
 unfolding upTo padded every firstNo afterCall fadingAfter rateAfter pathAfter nearestWhole scaledAfter indexAfter rateFits shapeFits ratesPass indicesPass inflationQuestions inflationAnswer indicesOf ofBits add sub mul neg le isNan
 calls-hold = refl
