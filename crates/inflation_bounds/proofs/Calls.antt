@@ -7,14 +7,14 @@ use Prim.Native.Nat.{ℕ, zero, suc, _≤_, _<_}
 use native.Mathlib.Omega.{arith}
 use borrow.Author.Tests.{leb-true, leb-false, le-leb, lt-leb}
 use lib.Dec.{leb}
-use lib.ListN.{length, replicate, length-append, length-replicate}
+use lib.ListN.{length, replicate}
 use Rattle.rules.specs.Lists.{upTo, below, padded, every, between}
 use Rattle.rules.specs.Questions.{firstNo, afterCall}
 use Rattle.rules.specs.Record.{mostIndex}
 use Rattle.rules.specs.Inflation.{mostYears, rateAfter, WithinHalf, scaledAfter, indexAfter, ratesPass, indicesPass, inflationQuestions, inflationAnswer, indicesOf}
 use Rattle.rules.specs.declared.Inflation.{Inflation}
 use Rattle.laws.proofs.Lists.{both-right, length-upTo, every-append, fails-at}
-use Rattle.laws.proofs.Padded.{filled-at, filled-past}
+use Rattle.laws.proofs.Padded.{filled-length, filled-at, filled-past}
 use Rattle.laws.proofs.Questions.{yes-at, after-refusal}
 use Rattle.inflation_index.proofs.Whole.{nearest-within, nearest-only}
 use Rattle.inflation.proofs.Answers.{years-most, index-within}
@@ -112,10 +112,6 @@ module _ (shape : Inflation) (years : ℕ) (h : inflationAnswer shape years ≡ 
   few : years ≤ mostYears
   few = years-most shape years (rates-passed shape years h)
 
-  sixteen : length (padded mostYears 0 (upTo (indexAfter shape) years)) ≡ mostYears
-  unfolding padded
-  sixteen = simp (length-append, length-replicate, length-upTo) (omega (arith, few))
-
   from-least : (n : ℕ) → n < years → leastIndex ≤ indexAfter shape n
   from-least n l = least shape years (rates-passed shape years h) n (omega (arith, few))
 
@@ -139,6 +135,6 @@ accepted shape years h = record {
   most = λ n l. rw (entry-is shape years h n l) (to-most shape years h n l);
   rates = passed shape years (rates-passed shape years h) .rates;
   path = passed shape years (rates-passed shape years h) .path;
-  sixteen = rw (values shape years h) (sixteen shape years h);
+  sixteen = rw (values shape years h) (filled-length mostYears 0 (indexAfter shape) years (few shape years h));
   rest = λ n l. rw (values shape years h) (filled-past mostYears 0 (indexAfter shape) (λ (x : ℕ). x ≡ 0) 0 refl refl years n l);
 }

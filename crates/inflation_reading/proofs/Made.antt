@@ -7,14 +7,14 @@ use native.Mathlib.Omega.{arith}
 use borrow.Author.Tests.{eqb-true, leb-true, eq-eqb, ne-eqb}
 use lib.Dec.{eqb, leb}
 use lib.IntN.{ℤ, pos}
-use lib.ListN.{length, getD, take, replicate, length-append, length-replicate}
+use lib.ListN.{length, getD, take}
 use Rattle.rules.specs.Lists.{upTo, padded}
 use Rattle.rules.specs.Questions.{afterCall}
 use Rattle.rules.specs.Record.{mostIndex}
 use Rattle.rules.specs.Inflation.{mostYears, indexAfter, inflationAnswer, indicesOf}
 use Rattle.rules.specs.declared.Inflation.{Inflation}
 use Rattle.laws.proofs.Lists.{both-right, length-upTo, take-padded}
-use Rattle.laws.proofs.Padded.{filled-at}
+use Rattle.laws.proofs.Padded.{filled-length, filled-at}
 use Rattle.inflation.proofs.Answers.{index-within}
 use Rattle.inflation_line.specs.InflationLine.{isInflation, shapeOf, faultIn}
 use Rattle.inflation_line.proofs.Lines.{fault-accepted}
@@ -53,10 +53,8 @@ module _ (shape : Inflation) (years : ℕ) (h : inflationAnswer shape years ≡ 
       rw (h, filled-at mostYears 0 (indexAfter shape) years n 0 l) (omega arith)
 
   pub call-length : years ≤ mostYears → length (indicesOf shape years .values) ≡ mostYears
-  unfolding indicesOf afterCall padded
-  call-length l =
-      let indices = upTo (indexAfter shape) years in
-      rw h (length-append {A = ℕ} indices (replicate (mostYears - length indices) 0) ∙ omega (arith, length-replicate {A = ℕ} (mostYears - length indices) 0, length-upTo (indexAfter shape) years))
+  unfolding indicesOf afterCall
+  call-length l = rw h (filled-length mostYears 0 (indexAfter shape) years l)
 
 -- a line that stands for the indices, and any other
 module _ (n i : ℕ) (vs : List ℤ) (line : List ℕ) where

@@ -4,7 +4,7 @@ use Prim.Native.Nat.{ℕ, zero, suc, _+_, _-_, _≤_, _<_}
 use native.Mathlib.Nat.{sub-zero}
 use native.Mathlib.Numerals.{add-one}
 use native.Mathlib.Omega.{arith}
-use lib.ListN.{length, getD, set, replicate, List·getD-append, getD-replicate}
+use lib.ListN.{length, getD, set, replicate, length-append, length-replicate, List·getD-append, getD-replicate}
 use lib.Seq.{getD-append-add}
 use Rattle.rules.specs.Lists.{upTo, padded}
 use Rattle.laws.proofs.Lists.{length-upTo, getD-upTo, padded-more}
@@ -25,6 +25,11 @@ module _ {A : Type 0} (m : ℕ) (z : A) (f : ℕ → A) where
   pub filled-more : (n : ℕ) → n < m → set (padded m z (upTo f n)) n (f n) ≡ padded m z (upTo f (n + 1))
   unfolding upTo
   filled-more n h = rw (add-one n) (padded-more m z (upTo f n) (f n) n (length-upTo f n) h)
+
+  -- the array is as long as before
+  pub filled-length : (n : ℕ) → n ≤ m → length (padded m z (upTo f n)) ≡ m
+  unfolding padded
+  filled-length n h = simp (length-append, length-replicate, length-upTo) (omega (arith, h))
 
   -- value i
   pub filled-at : (n i : ℕ) (d : A) → i < n → getD (padded m z (upTo f n)) i d ≡ f i

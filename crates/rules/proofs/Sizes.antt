@@ -1,6 +1,8 @@
--- The lengths that document 01 and request 3 of document 02 name for k = 1 and k = 15, computed from the layout. Assumes nothing.
+-- The lengths that document 01 and request 3 of document 02 name for k = 1 and k = 15, computed from the layout, and those of the longest history (request 11).
+-- Assumes nothing.
 use mathlib.Core.Path.{_≡_, refl}
 use Rattle.rules.specs.Lists.{total}
+use Rattle.rules.specs.History.{mostHistory, mostWidth, historyStart, developmentYears, historyCells, positionCount, historyCount}
 use Rattle.rules.specs.Record.{mostBytes, mostFields, cells, layout, kindsOf, widths, bitCount, byteCount, fieldCount}
 
 pub two-years : (bitCount 1 ≡ 357) × ((byteCount 1 ≡ 45) × (fieldCount 1 ≡ 14))
@@ -15,3 +17,8 @@ sixteen-years = (refl, (refl, refl))
 pub most-cells : cells 15 ≡ 136
 unfolding cells
 most-cells = refl
+
+-- a history of 64 years has 904 cells, and a window of 16 years over it 1,617 entries
+pub most-history : (historyCells mostHistory ≡ 904) × (historyCount mostHistory mostWidth ≡ 1617)
+unfolding historyCells historyStart developmentYears historyCount positionCount
+most-history = (refl, refl)

@@ -7,6 +7,7 @@ pub mod Writing
 pub mod Inflation
 pub mod Triangle
 pub mod Separation
+pub mod History
 pub mod Exact
 pub mod Positive
 pub mod Tail

@@ -28,6 +28,17 @@ pub const MOST_BYTES: usize = 797;
 pub const MOST_FIELDS: usize = 203;
 
 pub const MOST_ENTRIES: usize = 505;
+// The most origin years of a history, the least and the most of a window's width, and the most of a history's cells and of its list's entries: those of 64 years, and
+// of windows of 16.
+pub const MOST_HISTORY: usize = 64;
+
+pub const LEAST_WIDTH: usize = 2;
+
+pub const MOST_WIDTH: usize = 16;
+
+pub const MOST_HISTORY_CELLS: usize = 904;
+
+pub const MOST_HISTORY_ENTRIES: usize = 1617;
 
 // Shares and levels of the years 0 to k as one set of factors, zero past them. A share counts billionths, a level hundredths a claim.
 pub struct Factors {
