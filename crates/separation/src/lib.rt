@@ -10,13 +10,13 @@ use total_questions::totals_answer;
 use totals::fill_totals;
 ghost use mathlib.Core.Path.{_≡_};
 ghost use mathlib.Core.List.{List};
-ghost use Prim.Native.Nat.{_-_, _*_, _/_, _≤_, _<_};
+ghost use Prim.Native.Nat.{_+_, _-_, _*_, _/_, _≤_, _<_};
 ghost use lib.IntN.{ℤ};
-ghost use lib.ListN.{getD};
-ghost use Rattle.rules.specs.Triangle.{ZeroOutside};
+ghost use lib.ListN.{length, getD};
 ghost use Rattle.rules.specs.Questions.{afterCall};
 ghost use Rattle.rules.specs.Separation.{billion, noFactors, factorsOf, separateAnswer, separated};
 ghost use Rattle.totals.specs.CellSizes.{Cells};
+ghost use Rattle.totals.specs.Squares.{cutOf};
 ghost use Rattle.totals.specs.Summed.{Summed};
 ghost use Rattle.total_questions.specs.TotalQuestions.{Ready, totalsAnswer};
 ghost use Rattle.separation.specs.Walk.{FactorsFound, withYear};
@@ -129,13 +129,13 @@ pub fn separate_totals(columns: &[i64; 16], diagonals: &[i64; 16], k: usize) -> 
     Separation { answer, factors: f }
 }
 
-// The same of any square of averages: its totals are formed first.
-pub fn separate(square: &[[i64; 16]; 16], k: usize) -> Separation
-    requires { ⌜ (k < 16) × (Cells (now square) × ZeroOutside (now square) k) ⌝ }
-    ensures { λ r. ⌜ (r .answer ≡ separateAnswer (now (square .entry)) k) × (r .factors ≡ separated (now (square .entry)) k) ⌝ }
+// The same of a square of averages cut out of rows, those from `first` on: its totals are formed first.
+pub fn separate(rows: &[[i64; 16]], first: usize, k: usize) -> Separation
+    requires { ⌜ (Cells (now rows) × (first + k < length (now rows))) × (k < 16) ⌝ }
+    ensures { λ r. ⌜ (r .answer ≡ separateAnswer (cutOf (now (rows .entry)) first k) k) × (r .factors ≡ separated (cutOf (now (rows .entry)) first k) k) ⌝ }
 {
     let mut columns = [0i64; 16];
     let mut diagonals = [0i64; 16];
-    fill_totals(square, k, &mut columns, &mut diagonals);
+    fill_totals(rows, first, k, &mut columns, &mut diagonals);
     separate_totals(&columns, &diagonals, k)
 }

@@ -12,7 +12,6 @@ ghost use mathlib.Core.Path.{_≡_};
 ghost use mathlib.Core.List.{_∷_};
 ghost use lib.IntN.{pos};
 ghost use lib.ListN.{replicate};
-ghost use Rattle.rules.specs.Triangle.{ZeroOutside};
 ghost use Rattle.rules.specs.Separation.{billion};
 ghost use Rattle.totals.specs.CellSizes.{Cells};
 
@@ -34,7 +33,7 @@ fn row(first: i64, second: i64, third: i64) -> [i64; 16]
 
 // The averages of the case.
 fn averages() -> [[i64; 16]; 16]
-    ensures { λ r. ⌜ Cells r × ZeroOutside r 2 ⌝ }
+    ensures { λ r. ⌜ Cells r ⌝ }
 {
     let mut square = [[0i64; 16]; 16];
     square[0] = row(0, 5000, 999_999);
@@ -96,12 +95,12 @@ fn compare_factors<'a>(shares: &'a [u64; 16], levels: &'a [u64; 16]) -> u64
 
 // How many figures of the walk over a square's totals are as printed.
 fn compare_walk(square: &[[i64; 16]; 16]) -> u64
-    requires { ⌜ Cells (now square) × ZeroOutside (now square) 2 ⌝ }
+    requires { ⌜ Cells (now square) ⌝ }
     ensures { λ r. ⌜ r ≤ 3 ⌝ }
 {
     let mut columns = [0i64; 16];
     let mut diagonals = [0i64; 16];
-    fill_totals(square, LATEST, &mut columns, &mut diagonals);
+    fill_totals(square, 0, LATEST, &mut columns, &mut diagonals);
     let f = walk(&columns, &diagonals, LATEST);
     compare_factors(&f.shares, &f.levels)
 }
@@ -109,7 +108,7 @@ fn compare_walk(square: &[[i64; 16]; 16]) -> u64
 fn main() {
     let square = averages();
     let walked = compare_walk(&square);
-    let separation = separate(&square, LATEST);
+    let separation = separate(&square, 0, LATEST);
     let same = walked + compare(b"refused ", separation.answer, 9);
     put_number(same);
     put_text(b" of ");

@@ -1,2 +1,3 @@
 pub mod CellSizes
+pub mod Squares
 pub mod Summed

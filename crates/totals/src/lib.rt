@@ -1,10 +1,12 @@
-// The totals of the columns and of the diagonals of averages: the step for one cell, and a pass by row over a square. Laws about them, and about T, stand in proofs/.
+// The totals of the columns and of the diagonals of averages: the step for one cell, and a pass by row over a square cut out of rows. Laws about them, and about T, stand in proofs/.
 ghost use mathlib.Core.Path.{_≡_};
 ghost use Prim.Native.Nat.{_+_, _≤_, _<_};
 ghost use lib.IntN.{pos, natAbs, _+ℤ_};
-ghost use lib.ListN.{getD, set};
-ghost use Rattle.rules.specs.Triangle.{ZeroOutside, TotalsIn, TotalsSoFar, CellPassed};
+ghost use lib.ListN.{length, getD, set};
+ghost use Rattle.rules.specs.Triangle.{TotalsSoFar, CellPassed};
 ghost use Rattle.totals.specs.CellSizes.{mostAverage, Cells, TotalsSmall};
+ghost use Rattle.totals.specs.Squares.{cutOf};
+ghost use Rattle.totals.specs.Summed.{Summed};
 
 // The diagonal of the cell in row i and column j.
 fn diagonal_of(i: usize, j: usize) -> usize
@@ -35,38 +37,42 @@ pub fn add_cell(cell: i64, i: usize, j: usize, columns: &mut [i64; 16], diagonal
     add_to(diagonals, h, cell);
 }
 
-// Adds the cells of row i to the totals, one after another.
+// Adds the cells of row i of the square cut out of the rows from `first` on, one after another.
 fn add_row(
-    square: &[[i64; 16]; 16],
+    rows: &[[i64; 16]],
+    first: usize,
     k: usize,
     i: usize,
     columns: &mut [i64; 16],
     diagonals: &mut [i64; 16],
 )
-    requires { ⌜ Cells (now square)
-        × (ZeroOutside (now square) k × ((k < 16) × ((i ≤ k) × TotalsSoFar (now square) i 0 (now columns) (now diagonals)))) ⌝ }
-    ensures { λ _. ⌜ TotalsSoFar (now (square .entry)) (i + 1) 0 (now (columns .exit)) (now (diagonals .exit)) ⌝ }
+    requires { ⌜ (Cells (now rows) × (first + k < length (now rows)))
+        × ((k < 16) × ((i ≤ k) × TotalsSoFar (cutOf (now rows) first k) i 0 (now columns) (now diagonals))) ⌝ }
+    ensures { λ _. ⌜ TotalsSoFar (cutOf (now (rows .entry)) first k) (i + 1) 0 (now (columns .exit)) (now (diagonals .exit)) ⌝ }
 {
+    let at = first + i;
     let count = k + 1 - i;
     for j in 0..count {
-        add_cell(square[i][j], i, j, columns, diagonals);
+        add_cell(rows[at][j], i, j, columns, diagonals);
     }
 }
 
-// The totals of the columns and of the diagonals of a square, in one pass over the cells of the triangle, row by row, whatever the lists held.
+// The totals of the columns and of the diagonals of the square cut out of the rows from `first` on, in one pass over the cells of its triangle, row by row, whatever the
+// lists held.
 pub fn fill_totals(
-    square: &[[i64; 16]; 16],
+    rows: &[[i64; 16]],
+    first: usize,
     k: usize,
     columns: &mut [i64; 16],
     diagonals: &mut [i64; 16],
 )
-    requires { ⌜ Cells (now square) × (ZeroOutside (now square) k × (k < 16)) ⌝ }
-    ensures { λ _. ⌜ TotalsIn (now (square .entry)) (now (columns .exit)) (now (diagonals .exit)) ⌝ }
+    requires { ⌜ (Cells (now rows) × (first + k < length (now rows))) × (k < 16) ⌝ }
+    ensures { λ _. ⌜ Summed (cutOf (now (rows .entry)) first k) k (now (columns .exit)) (now (diagonals .exit)) ⌝ }
 {
     *columns = [0i64; 16];
     *diagonals = [0i64; 16];
     let n = k + 1;
     for i in 0..n {
-        add_row(square, k, i, columns, diagonals);
+        add_row(rows, first, k, i, columns, diagonals);
     }
 }

@@ -1,6 +1,6 @@
 -- The rows make the square. Assumes nothing.
 use borrow.Author.Needs.{needs}
-use Rattle.three_years.proofs.Square.{cells, outside}
+use Rattle.three_years.proofs.Square.{cells}
 use Rattle.three_years.proofs.averages.Statement.{statement}
 use Rattle.three_years.proofs.averages.Tie as tie
 
@@ -23,7 +23,7 @@ array-set-from-square-3 : tie.Need-array-set-from-square-3
 array-set-from-square-3 c = search needs
 
 returns : tie.Need-returns
-returns c = rw (c .row3 .ensures, c .before .row2 .ensures, c .before .before .row .ensures) (cells, outside)
+returns c = rw (c .row3 .ensures, c .before .row2 .ensures, c .before .before .row .ensures) cells
 
 pub averages-spec : {M : Type 1} → statement M
 averages-spec =

@@ -1,6 +1,7 @@
 -- The totals are those of the square. Assumes nothing.
 use native.Mathlib.Omega.{arith}
 use borrow.Author.Needs.{needs}
+use Rattle.totals.specs.Squares.{cutOf}
 use Rattle.three_years.proofs.compare_walk.Statement.{statement}
 use Rattle.three_years.proofs.compare_walk.Tie as tie
 
@@ -10,8 +11,8 @@ fill-totals-requires c κs = search needs
 walk-requires : tie.Need-walk-requires
 walk-requires c κs =
     let at = c .before .before in
-    let s = at .before .before .before in
-    (omega arith, (s .args .square .now, record { cells = s .pre .0; outside = s .pre .1; totals = at .fill-totals .ensures }))
+    let s = at .before .before .before .before in
+    (omega arith, (cutOf (s .args .square .now) 0 2, at .fill-totals .ensures))
 
 compare-factors-requires : tie.Need-compare-factors-requires
 compare-factors-requires c κs = search needs
