@@ -1,11 +1,12 @@
 #!/usr/bin/env python3
-"""make_cases.py: writes the stored input and expected output of the test programs read_cases, write_cases, run_cases and inflation_cases and of the programs
-reserve, reserve_many, gather, fields, report, report_html, csv, pack, unpack and rates, and the input of motor_account; the records of the examples from their
-texts, their pages and their lists as comma-separated values (tests/pages for the valuation year 2026, tests/pages/2027); records that question 7 refuses, or 13
-before it, with what is said of them (tests/refusals); and the texts that pack must accept or refuse, with the record of each or what pack says (tests/texts).
+"""make_cases.py: writes the stored input and expected output of the test programs read_cases, write_cases, run_cases, inflation_cases and history_cases and of
+the programs reserve, reserve_many, gather, fields, report, report_html, csv, pack, unpack and rates, and the input of motor_account; the records of the examples
+from their texts, their pages and their lists as comma-separated values (tests/pages for the valuation year 2026, tests/pages/2027); records that question 7
+refuses, or 13 before it, with what is said of them (tests/refusals); and the texts that pack must accept or refuse, with the record of each or what pack says
+(tests/texts).
 
-What is expected comes from model.py, inflation.py, page.py and sheet.py, which are written from documents 01 and 02 and from the docs and share nothing with
-the Rattle code.
+What is expected comes from model.py, inflation.py, history.py, page.py and sheet.py, which are written from documents 01 and 02 and from the docs and share
+nothing with the Rattle code.
 """
 import glob
 import os
@@ -13,6 +14,7 @@ import random
 import re
 from fractions import Fraction
 
+import history
 import inflation
 import model
 import page
@@ -492,7 +494,7 @@ def unsolved():
             # A_1 would be 0; l_1 would be too large
             (8, [100] * 4, [[5000, 45000, 2000000, 50000000], [0, 0, 0], [0, 1], [0]]),
             (8, [100] * 3, [[5000, 200000, 8000000], [0, 1], [0]])):
-        assert model.positive_solution([[model.average(paid, claims) for paid in row] for claims, row in zip(n, rows)]) is None
+        assert model.positive_solution(model.averages(n, rows)) is None
         yield number_, fields_of(n, rows)
 
 
@@ -871,6 +873,7 @@ def main():
     print("cases by number:", {number_: numbers.count(number_) for number_ in sorted(set(numbers))})
     changed_answers()
     inflation_cases()
+    history_cases()
     record = model.pack(model.TWO_YEARS)
     store("fields", record, "".join(f"{v}\n" for v in model.TWO_YEARS))
     record = model.pack(model.MOTOR_ACCOUNT)
@@ -1089,6 +1092,57 @@ def inflation_cases():
     assert {name for name, *_ in TOLD_APART} == set(inflation.BLUNDERS)
     store("inflation_cases", b"".join(calls), wanted)
     print("calls by number:", {number_: numbers.count(number_) for number_ in sorted(set(numbers))})
+
+
+def cut_out(exposures, P):
+    """What a run says of the record that is cut out for a window, its other fields plain: the number, and the shares and levels where it is 0. The record's
+    questions 6 and 13 come before 7 to 10, so of what they refuse it says nothing of the separation."""
+    fields = fields_of(exposures, P, w=0, U=[0] * len(P))
+    count = model.cells(len(P) - 1)
+    number_, results = model.run(2026, model.pack(fields), model.result_count(len(P) - 1))
+    return number_, results and results[count:count + 2 * len(P)]
+
+
+def hold_positions(calls):
+    """Each position equals the record cut out for it under questions 7 to 10 alone: where none but those can say no of the record, the number, the shares and
+    the levels are the same. Prints how many were of each number, and how many of what else the record is refused for."""
+    same, other = {}, {}
+    for years, width, exposures, cells, room in calls:
+        if history.history(years, width, exposures, cells, room)[0]:
+            continue
+        rows = history.by_row(years, cells)
+        for start, (number_, shares, levels) in enumerate(history.positions(width, exposures, rows)):
+            run, factors = cut_out(*history.window(exposures, rows, width, start))
+            if run in (0, 7, 8, 9, 10):
+                assert (run, factors or [0] * 2 * width) == (number_, shares + levels), (years, width, start)
+                same[number_] = same.get(number_, 0) + 1
+            else:
+                other[run, number_] = other.get((run, number_), 0) + 1
+    assert set(same) == {0, 7, 8, 9, 10} and {(6, 0), (13, 0)} <= set(other), (same, other)
+    print("positions as their records, by number:", dict(sorted(same.items())), "and refused otherwise:", dict(sorted(other.items())))
+
+
+def history_bytes(years, width, exposures, cells, room):
+    """What history_cases is given of a call."""
+    # it takes lists that are so long
+    assert len(exposures) <= 128 and len(cells) <= 1024 and room <= 2048
+    eight, two = (lambda values, size=size: b"".join(value.to_bytes(size, "big") for value in values) for size in (8, 2))
+    return eight((years, width)) + two((len(exposures), len(cells), room)) + eight(exposures) + b"".join(map(number, cells))
+
+
+def history_cases():
+    """What history_cases is given, each call once, and for each the answer and the whole result."""
+    calls = {history_bytes(*call): call for call in history.calls()}
+    wanted, numbers = "", []
+    for call in calls.values():
+        number_, result = history.history(*call)
+        numbers.append(number_)
+        wanted += shown(number_, result, call[-1])
+    # history_cases stops after so many
+    assert len(calls) <= 1000
+    store("history_cases", b"".join(calls), wanted)
+    print("histories by number:", {number_: numbers.count(number_) for number_ in sorted(set(numbers))})
+    hold_positions(calls.values())
 
 
 def gather(record):

@@ -139,6 +139,11 @@ def average(paid, claims):
     return round(Fraction(100 * paid, claims))
 
 
+def averages(n, P):
+    """The averages of the increments P, both by row."""
+    return [[average(paid, claims) for paid in row] for claims, row in zip(n, P)]
+
+
 def cumulatives(P):
     """C by row, under question 6; P by row."""
     C = [[sum(row[:j + 1]) for j in range(len(row))] for row in P]
@@ -275,7 +280,7 @@ def ratio_used(year, p, k, P, b, w, X):
 def forecast(year, k, n, P, e, b, w, U, a, C):
     """The entries of the result list up to p, and the tail payments, which end it, under questions 7 to 12 and 15 to 19."""
     years = range(k + 1)
-    s = [[average(P[i][j], n[i]) for j in range(k + 1 - i)] for i in years]
+    s = averages(n, P)
     r, levels, latest = separate(s)
     L = [None] + [latest * e[t - 1] // M for t in range(1, k + 1)]
     y = [[n[i] * (r[j] * L[i + j - k] // S) // 100 for j in range(k + 1 - i, k + 1)] for i in years]
@@ -363,7 +368,7 @@ def marked():
     assert put((12, 160))[0] == 0 and put((12, 160))[1][17] == M
     assert [run(year, pack(THREE_YEARS), result_count(2)) for year in (2026, 2027)] == [(13, None)] * 2
     # of its separation itself: A_1 and A_0, refused 9, and l_1 would be too large too
-    s = [[average(paid, 100) for paid in row] for row in by_row(2, lists(THREE_YEARS)["P"])]
+    s = averages([100] * 3, by_row(2, lists(THREE_YEARS)["P"]))
     A, d = running_shares(s)
     assert A == [0, 1000, S] and level(A, d, 1) > S and answer(separate, s) == (9, None)
     # an amount of 100 for year 0, carried to year 1 by e_2 / e_1 = 1.1: provisions, claims not reported and reserves

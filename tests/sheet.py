@@ -1,7 +1,8 @@
-"""Figures typed as text, read by cells, in plain Python: the fields, or what pack says.
+"""Figures and histories typed as text, read by cells, in plain Python: the numbers, or what is said of the text.
 
 Written from the rules of docs/SHEET.md, with regular expressions and splitting, and not from the Rattle code. make_cases.py makes of it what pack is
-expected to give for each text of tests/texts. The indices of an `inflation` line are those of inflation.py.
+expected to give for each text of tests/texts, and history_texts.py what is said of each text of a history. The indices of an `inflation` line are those of
+inflation.py.
 """
 
 import re
@@ -17,6 +18,22 @@ def table(k):
     return ([("k", 1, 1, 15), ("exposures", k + 1, 1, 10**6)] + [("paid", k + 1 - i, -amount, amount) for i in range(k + 1)] +
             [("indices", k + 1, 1, 5 * 10**6), ("reporting", k + 1, 0, 10**6), ("weight", 1, 0, 10**6), ("ulae", k + 1, 0, amount),
              ("tail", 1, 0, amount)])
+
+
+def history_table(years):
+    """The lines of a history of so many years, as table."""
+    amount = 10**10
+    return ([("years", 1, 1, 64), ("width", 1, 2, 16), ("exposures", years, 1, 10**6)] +
+            [("paid", min(16, years - i), -amount, amount) for i in range(years)])
+
+
+# the refusal where a number of the line due at a place is out of its range
+def refusal(place):
+    return 4 if place else 1
+
+
+def history_refusal(place):
+    return 28 if place > 1 else 27
 
 
 def content(line):
@@ -73,7 +90,7 @@ def starts(name):
     return "`indices` or `inflation`" if name == "indices" else f"`{name}`"
 
 
-def problem(due, label, words):
+def problem(due, label, words, number_refused=1):
     """What is wrong with a line where this one is due: the refusal, if it is one, and the words; None where nothing is."""
     name, count, least, most = due
     if label != name.encode():
@@ -86,7 +103,7 @@ def problem(due, label, words):
         return "", counted(name, count, words)
     for number, word in enumerate(words, 1):
         if not least <= int(word) <= most:
-            return f"refused {1 if name == 'k' else 4}: ", about(number, name, word, number_due)
+            return f"refused {number_refused}: ", about(number, name, word, number_due)
     return None
 
 
@@ -152,33 +169,52 @@ def ahead(lines):
     return None
 
 
+def lines_of(text):
+    """The lines of a text, without the mark at its start."""
+    return (text[3:] if text.startswith(MARK) else text).split(b"\n")
+
+
+def by_lines(lines, lines_due, refused, stands_for=lambda due, label: False):
+    """The numbers of the lines, which are those due after the first number, and None, or None and what is said of the first that is not. A line that stands for the
+    one due goes to its place as it is."""
+    numbers, place = [], 0
+    for number, label, words in filled(lines):
+        due = lines_due(numbers[0] if numbers else 0)
+        if place == len(due):
+            return None, f"line {number}: ".encode() + named(label) + b" stands where the text should end: there is more than the figures call for"
+        if stands_for(due[place][0], label):
+            numbers += inflation.every_index(*call(words), numbers[0] + 1)
+        else:
+            wrong = problem(due[place], label, words, refused(place))
+            if wrong:
+                return None, said(number, wrong)
+            numbers += [int(word) for word in words]
+        place += 1
+    due = lines_due(numbers[0] if numbers else 0)
+    if place < len(due):
+        return None, f"line {len(lines)}: the text ends where {starts(due[place][0])} is due".encode()
+    return numbers, None
+
+
 def read(text):
     """The fields of a text and None, or None and what pack says."""
     if not text:
         return None, b"nothing arrived: no text on standard input"
     if len(text) > 65535:
         return None, b"the text is longer than 65,535 bytes"
-    lines = (text[3:] if text.startswith(MARK) else text).split(b"\n")
+    lines = lines_of(text)
     first = ahead(list(filled(lines)))
     if first:
         return None, first
-    fields, place = [], 0
-    for number, label, words in filled(lines):
-        due = table(fields[0] if fields else 0)
-        if place == len(due):
-            return None, f"line {number}: ".encode() + named(label) + b" stands where the text should end: there is more than the figures call for"
-        if due[place][0] == "indices" and label == b"inflation":
-            fields += inflation.every_index(*call(words), fields[0] + 1)
-        else:
-            wrong = problem(due[place], label, words)
-            if wrong:
-                return None, said(number, wrong)
-            fields += [int(word) for word in words]
-        place += 1
-    due = table(fields[0] if fields else 0)
-    if place < len(due):
-        return None, f"line {len(lines)}: the text ends where {starts(due[place][0])} is due".encode()
+    fields, wrong = by_lines(lines, table, refusal, lambda due, label: due == "indices" and label == b"inflation")
+    if wrong:
+        return None, wrong
     k = fields[0]
     if sum(fields[-2 * k - 4:-k - 3]) != 10**6:
         return None, b"refused 5: the reporting shares do not sum to 1,000,000"
     return fields, None
+
+
+def read_history(text):
+    """Years, width, exposures and increments by row of the text of a history, all in one list, and None, or None and what is said of it."""
+    return by_lines(lines_of(text), history_table, history_refusal)

@@ -1,5 +1,5 @@
-/* Doonamurk, a reserving engine: from one record of paid claims, exposures and assumptions to its result list for a valuation year; and from inflation rates to
- * yearly indices.
+/* Doonamurk, a reserving engine: from one record of paid claims, exposures and assumptions to its result list for a valuation year; from a long history of paid
+ * claims to the shares and levels of each of its windows; and from inflation rates to yearly indices.
  *
  * Link target/lib/libdoonamurk.a or libdoonamurk.so (bindings/build makes both; x86-64 Linux). docs/FORMAT.md has the record, the lists and the
  * questions.
@@ -16,6 +16,9 @@
  * The questions, asked in this order; the answer is the number of the first that says no:
  *   20  Is every rate a number from -0.5 to 1.0, a shock's year among the years wanted, and their number from 1 to 16? (flat, fading, shock)
  *   21  Is every index of a year wanted from 1 to 5,000,000? (flat, fading, shock)
+ *   27  Has the history at most 64 years, and is the width from 2 to 16 and no more than the history's years? (history)
+ *   28  Have the exposures, the cells and the lent result just the lengths that the years and the width call for, and is every exposure from 1 to 1,000,000 and
+ *       every cell from -10^10 to 10^10? (history)
  *    1  Is there a first byte, and is k at least 1? (write: is k from 1 to 15?)
  *    2  Is the length just what k calls for, and every filling bit zero? (write: has the buffer just the length that k calls for, and each list its own?)
  *    3  Does the list that is filled hold all entries? (run, read)
@@ -37,7 +40,7 @@
  *   17  From valuation year 2027 on: is the corrected ULAE ratio at most 1,000,000?
  *   14  Is every completed cumulative at most 10^11?
  * run asks 1 to 19, but 15 to 17 only from valuation year 2027 on; read asks 1 to 5, and write 1, 2, 4 and 5. flat, fading and shock ask 20 and 21 and no
- * other, for they come before a record is made.
+ * other, for they come before a record is made. history asks 27 and 28, and 7 to 10 of each position of its window, whose number stands in the result.
  */
 #ifndef DOONAMURK_H
 #define DOONAMURK_H
@@ -59,6 +62,15 @@ extern "C" {
 
 /* The most years that a call of inflation rates may want. */
 #define DOONAMURK_YEARS_MAX 16
+
+/* Of a history: the most origin years, the most development years of one of them, the least and the largest width of a window, the cells of the longest history,
+ * and the entries of the longest result. */
+#define DOONAMURK_HISTORY_YEARS_MAX 64
+#define DOONAMURK_HISTORY_DEVELOPMENT_MAX 16
+#define DOONAMURK_WIDTH_MIN 2
+#define DOONAMURK_WIDTH_MAX 16
+#define DOONAMURK_HISTORY_CELLS_MAX 904
+#define DOONAMURK_HISTORY_RESULTS_MAX 1617
 
 /* For k from 1 to 15: the cells of the triangle, the bytes of the record, its fields, and the entries of the result list. */
 static inline size_t doonamurk_cells(size_t k) { return (k + 1) * (k + 2) / 2; }
@@ -159,6 +171,35 @@ uint64_t doonamurk_read(const uint8_t *record, size_t record_len, int64_t *list,
 uint64_t doonamurk_write(uint64_t k, const uint64_t *exposures, size_t n, const int64_t *increments, size_t c,
                          const uint64_t *indices, size_t e, const uint64_t *reporting, size_t b, uint64_t weight,
                          const uint64_t *ulae, size_t u, uint64_t tail, uint8_t *record, size_t record_len);
+
+/* For years up to 64: the cells of a history, and the place of origin year i (below years) and development year j (below 16 and below years - i) among them. For a
+ * width of at most the years: the entries of a result, and where a position starts in it: the number, and then `width` shares and `width` levels. */
+static inline size_t doonamurk_history_cells(size_t years) { return years <= 16 ? years * (years + 1) / 2 : 136 + 16 * (years - 16); }
+static inline size_t doonamurk_history_cell(size_t years, size_t i, size_t j)
+{
+    return doonamurk_history_cells(years) - doonamurk_history_cells(years - i) + j;
+}
+static inline size_t doonamurk_history_count(size_t years, size_t width) { return (years - width + 1) * (1 + 2 * width); }
+static inline size_t doonamurk_position_start(size_t width, size_t position) { return position * (1 + 2 * width); }
+
+/* Slides a window of `width` origin years over a history, one origin year at a time up to the latest payment year, and gives the shares and levels of each of its
+ * positions, years - width + 1 of them.
+ *
+ * Position a is the triangle of the origin years a to a + width - 1 and of their cells that are paid by the last of these years, so it is that of a record with
+ * k = width - 1. Of each position the result has 0, its shares in billionths (development years 0 to k) and its levels in hundredths a claim (payment years 0 to k
+ * counted from its first); or the number of the first of questions 7 to 10 that says no of the triangle, and zeros in their places.
+ *
+ * Answers 0 and fills all of result. Else answers 27 or 28 and leaves all of result as it was: 27 where years is above 64, or width outside 2 to 16 or above years
+ * (so for 0 years too), then 28 where a list or the result has another length than below or a number is out of its range, also a cell that no window has.
+ *
+ * years          the origin years of the history, the oldest first, at most 64
+ * width          the origin years of the window, 2 to 16
+ * exposures, n   n = years exposures, 1 to 1,000,000
+ * cells, c       c = doonamurk_history_cells(years) paid increments, row by row, -10^10 to 10^10: origin year i has its first min(16, years - i) development years
+ * result, m      the buffer that is filled, m = doonamurk_history_count(years, width), no entry more
+ *
+ * The caller owns all of them and nothing is kept or freed; none may be null and result must not overlap a list; any number of threads may call at once. */
+uint64_t doonamurk_history(uint64_t years, uint64_t width, const uint64_t *exposures, size_t n, const int64_t *cells, size_t c, int64_t *result, size_t m);
 
 /* What flat, fading and shock hand back. */
 typedef struct {

@@ -1,5 +1,5 @@
 /* Tests the C functions on Taylor's motor account, on document 01's two years, also with payments after the last year and in other valuation years, on
- * inflation rates, on refusals, and from several threads at once. Says which check fails, and ends with status 1. */
+ * histories, on inflation rates, on refusals, and from several threads at once. Says which check fails, and ends with status 1. */
 #include "doonamurk.h"
 
 #include <pthread.h>
@@ -318,6 +318,149 @@ static void refused_writes(void)
     check(answer == 4 && memcmp(record, before, sizeof record) == 0, "write refused 4: an amount still to be paid above 10^10");
 }
 
+/* The motor account as a history, through windows of each width; in those of four years it is the record's, and the cut of its first three is 004's. */
+static void motor_history(void)
+{
+    static const struct { uint64_t width; size_t count; int64_t due[15]; } windows[] = {
+        {2, 15, {0, 672853828, 327146172, 74904, 86200, 0, 670800450, 329199550, 86463, 88700, 0, 665995975, 334004025, 89339, 99400}},
+        {3, 14, {0, 609925952, 297955317, 92118731, 82632, 94946, 97700, 0, 608846923, 302243819, 88909258, 95262, 97355, 109100}},
+        {4, 9, {0, 583475514, 287767456, 86614799, 42142231, 86378, 98939, 101998, 113900}},
+    };
+    for (size_t i = 0; i < sizeof windows / sizeof *windows; i++) {
+        int64_t result[24];
+        size_t count = windows[i].count;
+        fill(result, 24);
+        check(count == doonamurk_history_count(4, windows[i].width), "entries of the motor account's windows");
+        check(doonamurk_history(4, windows[i].width, motor_exposures, 4, motor_increments, 10, result, count) == 0, "the motor account as a history");
+        check(memcmp(result, windows[i].due, count * sizeof *result) == 0, "windows of the motor account");
+        check(filled(result, count, 24), "entries past a history's result keep what they held");
+    }
+}
+
+/* A history of sixty-four years, all that fits, and its sizes and places. */
+static uint64_t long_exposures[DOONAMURK_HISTORY_YEARS_MAX + 1];
+static int64_t long_cells[DOONAMURK_HISTORY_CELLS_MAX + 17];
+
+static void fill_long(void)
+{
+    size_t at = 0;
+    for (size_t i = 0; i < DOONAMURK_HISTORY_YEARS_MAX; i++) {
+        long_exposures[i] = 1000 + 7 * i;
+        for (size_t j = 0; j < 16 && i + j < DOONAMURK_HISTORY_YEARS_MAX; j++) {
+            check(doonamurk_history_cell(DOONAMURK_HISTORY_YEARS_MAX, i, j) == at, "the place of a history's cell");
+            long_cells[at++] = (int64_t)((900000 + 31000 * (i + j)) >> (2 * j / 3));
+        }
+    }
+    check(at == DOONAMURK_HISTORY_CELLS_MAX && at == doonamurk_history_cells(DOONAMURK_HISTORY_YEARS_MAX), "the cells of a long history");
+    check(doonamurk_history_count(64, 16) == DOONAMURK_HISTORY_RESULTS_MAX && doonamurk_history_count(2, 2) == 5, "entries of a history's result");
+    long_exposures[DOONAMURK_HISTORY_YEARS_MAX] = 1;
+}
+
+/* Each position equals the record that is cut out for it. */
+static void cut_out(void)
+{
+    for (size_t width = DOONAMURK_WIDTH_MIN; width <= DOONAMURK_WIDTH_MAX; width++) {
+        static int64_t result[DOONAMURK_HISTORY_RESULTS_MAX + 4];
+        size_t years = DOONAMURK_HISTORY_YEARS_MAX, k = width - 1, count = doonamurk_history_count(years, width);
+        fill(result, count + 4);
+        check(doonamurk_history(years, width, long_exposures, years, long_cells, DOONAMURK_HISTORY_CELLS_MAX, result, count) == 0, "a long history");
+        check(filled(result, count, count + 4), "entries past a long history's result keep what they held");
+        for (size_t a = 0; a + width <= years; a++) {
+            const uint64_t none[16] = {0}, all[16] = {1000000};
+            uint64_t level[16];
+            int64_t cells[136], list[DOONAMURK_RESULTS_MAX];
+            uint8_t record[DOONAMURK_RECORD_MAX];
+            size_t at = 0, bytes = doonamurk_record_bytes(k);
+            for (size_t i = 0; i < width; i++) {
+                level[i] = 1000000;
+                for (size_t j = 0; i + j < width; j++)
+                    cells[at++] = long_cells[doonamurk_history_cell(years, a + i, j)];
+            }
+            check(doonamurk_write(k, long_exposures + a, width, cells, at, level, width, all, width, 0, none, width, 0, record, bytes) == 0
+                  && doonamurk_run(2026, record, bytes, list, DOONAMURK_RESULTS_MAX) == 0, "the record that is cut out for a position");
+            const int64_t *position = result + doonamurk_position_start(width, a);
+            check(position[0] == 0 && memcmp(position + 1, list + doonamurk_section_start(k, DOONAMURK_SHARES), 2 * width * sizeof *list) == 0,
+                  "a position equals the record that is cut out for it");
+        }
+    }
+}
+
+/* A position that is refused has its number and zeros, and the others are as they are: 7 by a column below zero, 8 by a year without payments, 10 by a level above
+ * 10^9, and 9, which takes three years, by a running share of 0. */
+static void refused_positions(void)
+{
+    static const uint64_t hundred[6] = {100, 100, 100, 100, 100, 100};
+    static const int64_t two[21] = {60, 40, 0, 0, 0, 0, 66, -1, 0, 0, 0, 80, 5, 0, 0, 0, 1000000, 0, 1000, 1000000, 1};
+    static const int64_t numbers[5] = {0, 7, 8, 0, 10};
+    int64_t result[25];
+    check(doonamurk_history(6, 2, hundred, 6, two, 21, result, 25) == 0, "a history with refused positions");
+    for (size_t a = 0; a < 5; a++) {
+        const int64_t *position = result + doonamurk_position_start(2, a);
+        check(position[0] == numbers[a], "the number of a position");
+        check(numbers[a] == 0 ? position[1] + position[2] == 1000000000 : position[1] == 0 && position[2] == 0 && position[3] == 0 && position[4] == 0,
+              "shares that sum to 10^9, or zeros");
+    }
+    static const int64_t three[6] = {0, 5000, 999999, 0, 0, 1}, nine[7] = {9, 0, 0, 0, 0, 0, 0};
+    check(doonamurk_history(3, 3, hundred, 3, three, 6, result, 7) == 0 && memcmp(result, nine, sizeof nine) == 0, "a position that 9 refuses");
+}
+
+/* A refused history leaves every entry. */
+static void history_is(uint64_t number, uint64_t years, uint64_t width, size_t n, size_t c, size_t m, const char *what)
+{
+    static int64_t result[DOONAMURK_HISTORY_RESULTS_MAX + 8];
+    fill(result, DOONAMURK_HISTORY_RESULTS_MAX + 8);
+    check(doonamurk_history(years, width, long_exposures, n, long_cells, c, result, m) == number, what);
+    check(number == 0 || filled(result, 0, DOONAMURK_HISTORY_RESULTS_MAX + 8), what);
+}
+
+static void refused_histories(void)
+{
+    const uint64_t far = (uint64_t)1 << 32, sign = (uint64_t)1 << 63;
+    history_is(0, 64, 16, 64, 904, 1617, "the longest history");
+    history_is(27, 65, 16, 65, 920, 1650, "refused 27: 65 years");
+    history_is(27, 0, 2, 0, 0, 0, "refused 27: no years");
+    history_is(27, 1, 1, 1, 1, 3, "refused 27: one year");
+    history_is(27, 1, 2, 1, 1, 5, "refused 27: a width above the years");
+    history_is(27, 5, 6, 5, 15, 13, "refused 27: a width above the years");
+    history_is(27, 20, 17, 20, 200, 140, "refused 27: a width of 17");
+    history_is(27, 20, 1, 20, 200, 60, "refused 27: a width of 1");
+    history_is(27, 20, 0, 20, 200, 21, "refused 27: a width of 0");
+    history_is(27, far + 20, 2, 20, 200, 95, "refused 27: years past 32 bits");
+    history_is(27, 20, far + 2, 20, 200, 95, "refused 27: a width past 32 bits");
+    history_is(27, sign + 20, sign + 2, 20, 200, 95, "refused 27: years and a width past 63 bits");
+    history_is(27, UINT64_MAX, 2, 20, 200, 95, "refused 27: the most years of 64 bits");
+    history_is(27, 20, UINT64_MAX, 20, 200, 95, "refused 27: the largest width of 64 bits");
+    history_is(27, 65, 2, 64, 904, 0, "refused 27 before 28");
+    history_is(28, 20, 2, 19, 200, 95, "refused 28: an exposure too few");
+    history_is(28, 20, 2, 21, 200, 95, "refused 28: an exposure too many");
+    history_is(28, 20, 2, 20, 199, 95, "refused 28: a cell too few");
+    history_is(28, 20, 2, 20, 201, 95, "refused 28: a cell too many");
+    history_is(28, 20, 2, 20, 200, 94, "refused 28: a result that is an entry too short");
+    history_is(28, 20, 2, 20, 200, 96, "refused 28: a result that is an entry too long");
+    history_is(28, 20, 2, 20, 200, 0, "refused 28: no result");
+    static const uint64_t claims[] = {0, 1000001, ((uint64_t)1 << 32) + 1, (uint64_t)1 << 63, UINT64_MAX};
+    for (size_t i = 0; i < sizeof claims / sizeof *claims; i++) {
+        uint64_t before = long_exposures[19];
+        long_exposures[19] = claims[i];
+        history_is(28, 20, 2, 20, 200, 95, "refused 28: an exposure out of its range");
+        history_is(27, 20, 1, 20, 200, 60, "refused 27 before 28: an exposure out of its range");
+        long_exposures[19] = before;
+    }
+    /* the first cell, the last one, and one that no window of two years has */
+    static const int64_t amounts[] = {10000000001, -10000000001, INT64_MAX, INT64_MIN};
+    const size_t places[] = {0, 199, doonamurk_history_cell(20, 3, 15)};
+    for (size_t i = 0; i < sizeof amounts / sizeof *amounts; i++)
+        for (size_t p = 0; p < sizeof places / sizeof *places; p++) {
+            int64_t before = long_cells[places[p]];
+            long_cells[places[p]] = amounts[i];
+            history_is(28, 20, 2, 20, 200, 95, "refused 28: a cell out of its range");
+            history_is(27, 20, 17, 20, 200, 140, "refused 27 before 28: a cell out of its range");
+            long_cells[places[p]] = amounts[i] < 0 ? -10000000000 : 10000000000;
+            history_is(0, 20, 2, 20, 200, 95, "a cell at its limit");
+            long_cells[places[p]] = before;
+        }
+}
+
 enum shape { FLAT, FADING, SHOCK };
 
 /* A call of inflation rates; the second rate and the year are those that its shape has. */
@@ -440,7 +583,7 @@ static void years_wanted(void)
 #define THREADS 4
 #define RUNS 2000
 
-/* What a thread is given and hands back: the record and the list are shared and only read, the count of lists and indices that differ is its own. */
+/* What a thread is given and hands back: the record and the list are shared and only read, the count of what differs is its own. */
 struct work {
     const uint8_t *record;
     const int64_t *expected;
@@ -458,6 +601,10 @@ static void *run_many(void *given)
         if (answer != 0 || memcmp(results, work->expected, count * sizeof *results) != 0 || !filled(results, count, DOONAMURK_RESULTS_MAX))
             work->different++;
         if (!same(doonamurk_shock(0.1, 0.02, 3, 4), (doonamurk_indices){0, {1020000, 1040400, 1144440, 1167329}}))
+            work->different++;
+        /* The motor account as a history with one position: its shares and levels stand in the list too. */
+        int64_t position[9];
+        if (doonamurk_history(4, 4, motor_exposures, 4, motor_increments, 10, position, 9) != 0 || memcmp(position + 1, work->expected + 10, 8 * sizeof *position) != 0)
             work->different++;
     }
     return NULL;
@@ -481,7 +628,7 @@ static void threads(void)
     check(started == THREADS, "every thread starts");
     for (int n = 0; n < started; n++) {
         pthread_join(thread[n], NULL);
-        check(work[n].different == 0, "threads that run at once have the same list and the same indices");
+        check(work[n].different == 0, "threads that run at once have the same list, indices and position");
     }
 }
 
@@ -499,6 +646,11 @@ int main(void)
     solutions();
     growth_refusals();
     refused_writes();
+    motor_history();
+    fill_long();
+    cut_out();
+    refused_positions();
+    refused_histories();
     worked_indices();
     rates();
     years_wanted();

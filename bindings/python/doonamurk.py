@@ -1,9 +1,10 @@
-"""Calls the proved reserving engine from Python: run, read and write, and flat, fading and shock for indices of inflation rates, over the shared library that
-bindings/build makes.
+"""Calls the proved reserving engine from Python: run, read and write, history for the windows of a long history, and flat, fading and shock for indices of
+inflation rates, over the shared library that bindings/build makes.
 
     import doonamurk
     results = doonamurk.run(open("examples/motor_account.rec", "rb").read(), year=2026)
     doonamurk.sections(results)["provisions"]        {0: 0, 1: 52, 2: 166, 3: 542}, by origin year
+    doonamurk.history(2, 2, [1, 1], [60, 40, 66])    [Position(refused=0, shares=[622641509, 377358491], levels=[9636, 10600])]
     doonamurk.flat(0.02, 4)                          [1020000, 1040400, 1061208, 1082432], years 1 to 4 in millionths
 
 A refusal is raised as Refused, with the number of the first question that says no. docs/FORMAT.md has the record, the lists and the questions.
@@ -20,6 +21,7 @@ Of every call here:
 import ctypes
 import operator
 import os
+from collections import namedtuple
 from pathlib import Path
 
 K_MAX = 15
@@ -27,11 +29,21 @@ RECORD_MAX = 797
 FIELDS_MAX = 203
 RESULTS_MAX = 505
 YEARS_MAX = 16
+# Of a history: its origin years, the development years of one of them, the width of a window, its cells and the entries of its result.
+HISTORY_YEARS_MAX = 64
+HISTORY_DEVELOPMENT_MAX = 16
+WIDTH_MIN, WIDTH_MAX = 2, 16
+HISTORY_CELLS_MAX = 904
+HISTORY_RESULTS_MAX = 1617
 
-# In the order in which they are asked: 20 and 21 of rates only, which come before a record is made.
+# In the order in which they are asked: 20 and 21 of rates only, which come before a record is made, and 27 and 28 of histories only, whose positions are then
+# asked 7 to 10.
 QUESTIONS = {
     20: "Is every rate a number from -0.5 to 1.0, a shock's year among the years wanted, and their number from 1 to 16?",
     21: "Is every index of a year wanted from 1 to 5,000,000?",
+    27: "Has the history at most 64 years, and is the width from 2 to 16 and no more than the history's years?",
+    28: "Have the exposures, the cells and the lent result just the lengths that the years and the width call for, and is every exposure from 1 to 1,000,000 and "
+        "every cell from -10^10 to 10^10?",
     1: "Is there a first byte, and is k at least 1?",
     2: "Is the length just what k calls for, and every filling bit zero?",
     3: "Does the list hold all entries?",
@@ -92,6 +104,17 @@ def field_count(k):
 def result_count(k):
     """The entries of a result list with years 0 to k, for k from 1 to 15."""
     return 3 * cells(k) + 6 * k + 7
+
+
+def history_cells(years):
+    """The cells of a history of so many years, row by row: origin year i has its first min(16, years - i) development years."""
+    least = min(years, HISTORY_DEVELOPMENT_MAX)
+    return least * (least + 1) // 2 + HISTORY_DEVELOPMENT_MAX * (years - least)
+
+
+def history_count(years, width):
+    """The entries of a history's result, for a width of at most its years."""
+    return (years - width + 1) * (1 + 2 * width)
 
 
 # The sections of a result list in their order: name, the years of its entries, unit (docs/FORMAT.md has the same table).
@@ -164,6 +187,8 @@ def _load():
     library.doonamurk_write.argtypes = [
         ctypes.c_uint64, list_, size, signed_list, size, list_, size, list_, size, ctypes.c_uint64, list_, size, ctypes.c_uint64, byte_list, size
     ]
+    library.doonamurk_history.restype = ctypes.c_uint64
+    library.doonamurk_history.argtypes = [ctypes.c_uint64, ctypes.c_uint64, list_, size, signed_list, size, signed_list, size]
     library.doonamurk_flat.restype = library.doonamurk_fading.restype = library.doonamurk_shock.restype = _Indices
     library.doonamurk_flat.argtypes = [ctypes.c_double, ctypes.c_uint64]
     library.doonamurk_fading.argtypes = [ctypes.c_double, ctypes.c_double, ctypes.c_uint64]
@@ -264,6 +289,37 @@ def write(k, exposures, increments, indices, reporting, weight, ulae, tail):
     if number:
         raise Refused(number, WRITE_QUESTIONS[number])
     return bytes(record)
+
+
+# A position of a window: 0 or the first of questions 7 to 10 that says no, the shares in billionths by development year, and the levels in hundredths a claim by
+# payment year, counted from the position's first; zeros where it is refused.
+Position = namedtuple("Position", "refused shares levels")
+
+
+def history(years, width, exposures, cells):
+    """Slides a window of `width` origin years over a history, one origin year at a time up to the latest payment year: a list of a Position for each of its
+    years - width + 1 positions, the oldest first. Position a is the triangle of the origin years a to a + width - 1 and of their cells that are paid by the last
+    of them.
+
+    The history has `years` origin years, at most 64, the oldest first; `exposures` one for each, from 1 to 1,000,000; and `cells` the paid increments row by row,
+    from -10^10 to 10^10, history_cells(years) of them: origin year i has its first min(16, years - i) development years.
+
+    Refusals: a position that one of questions 7 to 10 refuses has its number, and zeros. Raises Refused for the whole with 27 where `years` is above 64 or `width`
+    outside 2 to 16 or above `years`, then with 28 where a list has another length or a number is out of its range, one that no window has too. Raises
+    OverflowError for a number that 64 bits cannot hold, and TypeError for one that is no whole number; both name the argument.
+    Ownership: the numbers are copied in and no list is changed or kept; the positions are new, the caller's.
+    Threads: any number may call at once, with the same lists too as long as none of them is changed meanwhile."""
+    natural = ctypes.c_uint64
+    years, width = (_numbers(name, natural, [value])[0] for name, value in (("years", years), ("width", width)))
+    exposures, cells = _numbers("exposures", natural, exposures), _numbers("cells", ctypes.c_int64, cells)
+    # Other years or another width are refused under question 27 whatever the result, so it need not be large.
+    count = history_count(years, width) if width <= years <= HISTORY_YEARS_MAX else 0
+    result = (ctypes.c_int64 * count)()
+    number = _library.doonamurk_history(years, width, exposures, len(exposures), cells, len(cells), result, count)
+    if number:
+        raise Refused(number, QUESTIONS[number])
+    places = range(0, count, 1 + 2 * width)
+    return [Position(result[at], result[at + 1 : at + 1 + width], result[at + 1 + width : at + 1 + 2 * width]) for at in places]
 
 
 def _rate_of(name, rate):

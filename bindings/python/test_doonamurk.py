@@ -1,5 +1,5 @@
-"""Taylor's motor account, document 01's two years, payments after the last year, valuation years, refusals, the way from fields to a record and back, and
-indices of inflation rates.
+"""Taylor's motor account, document 01's two years, payments after the last year, valuation years, refusals, the way from fields to a record and back, the
+windows of histories, and indices of inflation rates.
 
     python3 -m unittest discover bindings/python
 """
@@ -206,7 +206,7 @@ class Calls(unittest.TestCase):
             record = doonamurk.write(**three_years, increments=increments)
             for year in (2026, 2027):
                 self.refused(number, doonamurk.run, record, year)
-        order = [20, 21, 1, 2, 3, 4, 5, 6, 13, 7, 8, 9, 10, 18, 19, 11, 12, 15, 16, 17, 14]
+        order = [20, 21, 27, 28, 1, 2, 3, 4, 5, 6, 13, 7, 8, 9, 10, 18, 19, 11, 12, 15, 16, 17, 14]
         self.assertEqual((list(doonamurk.QUESTIONS), list(doonamurk.WRITE_QUESTIONS)), (order, order))
 
     def test_triangles_without_the_solution_that_the_method_needs(self):
@@ -307,6 +307,131 @@ class Calls(unittest.TestCase):
         for thread in threads:
             thread.join()
         self.assertEqual(wrong, [])
+
+
+def rows(years):
+    """The origin year and the development year of each cell of a history."""
+    return [(i, j) for i in range(years) for j in range(min(16, years - i))]
+
+
+# A history of sixty-four years that is accepted everywhere: payments fall with the development year and rise with the payment year.
+LONG_EXPOSURES = [1000 + 7 * i for i in range(64)]
+LONG_CELLS = [(900000 + 31000 * (i + j)) >> (2 * j // 3) for i, j in rows(64)]
+
+
+class History(unittest.TestCase):
+    def refused(self, number, *arguments):
+        """A call is refused; the library's own leaves what it is lent, of the length that is needed and of others."""
+        with self.assertRaises(doonamurk.Refused) as caught:
+            doonamurk.history(*arguments)
+        self.assertEqual((caught.exception.number, caught.exception.question), (number, doonamurk.QUESTIONS[number]))
+        years, width, exposures, cells = arguments
+        n, c = (ctypes.c_uint64 * len(exposures))(*exposures), (ctypes.c_int64 * len(cells))(*cells)
+        for room in {0, 5, max((min(years, 70) - min(width, 20) + 1) * (1 + 2 * min(width, 20)), 0)}:
+            pattern = [-1000 - place for place in range(room + 4)]
+            lent = (ctypes.c_int64 * (room + 4))(*pattern)
+            self.assertEqual(doonamurk._library.doonamurk_history(years, width, n, len(n), c, len(c), lent, room), number)
+            self.assertEqual(list(lent), pattern)
+
+    def test_sizes(self):
+        self.assertEqual([doonamurk.history_cells(years) for years in (0, 1, 2, 15, 16, 17, 64)], [0, 1, 3, 120, 136, 152, doonamurk.HISTORY_CELLS_MAX])
+        self.assertEqual((doonamurk.history_count(2, 2), doonamurk.history_count(64, 16)), (5, doonamurk.HISTORY_RESULTS_MAX))
+        for years in range(65):
+            self.assertEqual(len(rows(years)), doonamurk.history_cells(years))
+
+    def test_two_years(self):
+        self.assertEqual(doonamurk.history(2, 2, [1, 1], [60, 40, 66]), [(0, [622641509, 377358491], [9636, 10600])])
+
+    def test_motor_account_through_windows_of_each_width(self):
+        """In windows of four years it is the record's, and document 01 has 0.6099 for the cut of its first three."""
+        for width, due in (
+            (2, [(0, [672853828, 327146172], [74904, 86200]), (0, [670800450, 329199550], [86463, 88700]), (0, [665995975, 334004025], [89339, 99400])]),
+            (3, [(0, [609925952, 297955317, 92118731], [82632, 94946, 97700]), (0, [608846923, 302243819, 88909258], [95262, 97355, 109100])]),
+            (4, [(0, SHARES, LEVELS)]),
+        ):
+            self.assertEqual(doonamurk.history(4, width, MOTOR["exposures"], MOTOR["increments"]), due)
+
+    def test_each_position_equals_the_record_that_is_cut_out_for_it(self):
+        by_years = dict(zip(rows(64), LONG_CELLS))
+        for width in range(2, 17):
+            positions = doonamurk.history(64, width, LONG_EXPOSURES, LONG_CELLS)
+            self.assertEqual(len(positions), 65 - width)
+            for start, position in enumerate(positions):
+                increments = [by_years[start + i, j] for i in range(width) for j in range(width - i)]
+                exposures = LONG_EXPOSURES[start : start + width]
+                record = doonamurk.write(width - 1, exposures, increments, [1000000] * width, [1000000] + [0] * (width - 1), 0, [0] * width, 0)
+                named = doonamurk.sections(doonamurk.run(record, 2026))
+                self.assertEqual(position, (0, list(named["shares"].values()), list(named["levels"].values())))
+
+    def test_refused_positions(self):
+        """7 by a column below zero, 8 by a year without payments, 10 by a level above 10^9, beside accepted ones; 9, which takes three years, by a running share
+        of 0."""
+        cells = [60, 40, 0, 0, 0, 0, 66, -1, 0, 0, 0, 80, 5, 0, 0, 0, 1000000, 0, 1000, 1000000, 1]
+        positions = doonamurk.history(6, 2, [100] * 6, cells)
+        self.assertEqual([position.refused for position in positions], [0, 7, 8, 0, 10])
+        for position in positions:
+            self.assertEqual(sum(position.shares), 0 if position.refused else 10**9)
+            self.assertEqual(position.levels == [0, 0], position.refused != 0)
+        self.assertEqual(doonamurk.history(3, 3, [100] * 3, [0, 5000, 999999, 0, 0, 1]), [(9, [0] * 3, [0] * 3)])
+        # questions 13 and 6 are not put: nothing is paid at first, and more is paid back than was paid
+        self.assertEqual([position.refused for position in doonamurk.history(3, 2, [1] * 3, [0, 40, 0, 66, 5, 70])], [0, 0])
+        self.assertEqual([position.refused for position in doonamurk.history(3, 3, [1] * 3, [60, 90, 5, 70, -80, 90])], [0])
+
+    def test_a_lent_result_of_another_length(self):
+        """The library's own call, for Python makes the result as long as it must be: refused with 28 and left, and filled to its end where the length is right."""
+        n, c = (ctypes.c_uint64 * 4)(*MOTOR["exposures"]), (ctypes.c_int64 * 10)(*MOTOR["increments"])
+        for room in (0, 13, 14, 15, doonamurk.HISTORY_RESULTS_MAX):
+            pattern = [-1000 - place for place in range(room + 4)]
+            lent = (ctypes.c_int64 * (room + 4))(*pattern)
+            self.assertEqual(doonamurk._library.doonamurk_history(4, 3, n, 4, c, 10, lent, room), 0 if room == 14 else 28)
+            filled = [entry for position in doonamurk.history(4, 3, n, c) for entry in (position.refused, *position.shares, *position.levels)]
+            self.assertEqual(list(lent), filled + pattern[14:] if room == 14 else pattern)
+
+    def test_years_and_widths(self):
+        def of(years, width):
+            return years, width, LONG_EXPOSURES[: min(years, 64)] + [1] * (min(years, 66) - 64), [1] * doonamurk.history_cells(min(years, 66))
+
+        for years, width in ((2, 2), (5, 5), (16, 16), (17, 16), (64, 2), (64, 16)):
+            self.assertEqual(len(doonamurk.history(*of(years, width))), years - width + 1)
+        for years, width in ((0, 0), (0, 2), (1, 1), (1, 2), (2, 0), (2, 1), (2, 3), (5, 6), (17, 17), (64, 17), (65, 2), (66, 16), (20, 2**32 + 2),
+                             (20, 2**63 + 2), (20, 2**64 - 1), (2**32 + 20, 2), (2**63 + 20, 2**63 + 2), (2**64 - 1, 2), (2**64 - 1, 2**64 - 1)):
+            self.refused(27, *of(years, width))
+
+    def test_lengths_and_ranges(self):
+        exposures, cells = LONG_EXPOSURES[:20], [1000] * doonamurk.history_cells(20)
+        for changed in (exposures[:-1], exposures + [1], []):
+            self.refused(28, 20, 2, changed, cells)
+        for changed in (cells[:-1], cells + [1], []):
+            self.refused(28, 20, 2, exposures, changed)
+        for bad in (0, 10**6 + 1, 2**32 + 1, 2**63, 2**64 - 1):
+            for place in (0, 7, 19):
+                self.refused(28, 20, 2, [*exposures[:place], bad, *exposures[place + 1 :]], cells)
+        # the first cell, the last one, and one that no window of two years has
+        for place in (0, len(cells) - 1, rows(20).index((3, 15))):
+            for bad in (10**10 + 1, -(10**10) - 1, 2**63 - 1, -(2**63)):
+                self.refused(28, 20, 2, exposures, [*cells[:place], bad, *cells[place + 1 :]])
+            for limit in (10**10, -(10**10)):
+                self.assertEqual(len(doonamurk.history(20, 2, exposures, [*cells[:place], limit, *cells[place + 1 :]])), 19)
+
+    def test_27_comes_before_28(self):
+        for years, width in ((65, 2), (0, 2), (4, 1), (4, 17), (4, 5), (2**64 - 1, 2)):
+            for exposures, cells in (([0] * 4, [1] * 10), ([1] * 3, [1] * 10), ([1] * 4, [10**10 + 1] * 10), ([1] * 4, [1] * 9)):
+                self.refused(27, years, width, exposures, cells)
+
+    def test_what_a_number_may_be(self):
+        for name, call in (
+            ("years", lambda wrong: doonamurk.history(wrong, 2, [1, 1], [60, 40, 66])),
+            ("width", lambda wrong: doonamurk.history(2, wrong, [1, 1], [60, 40, 66])),
+            ("exposures", lambda wrong: doonamurk.history(2, 2, [wrong, 1], [60, 40, 66])),
+            ("cells", lambda wrong: doonamurk.history(2, 2, [1, 1], [wrong, 40, 66])),
+        ):
+            for wrong in (2.0, "2", None):
+                with self.assertRaisesRegex(TypeError, f"^{name}: whole numbers are due"):
+                    call(wrong)
+            for wrong in (2**64, -(2**64)):
+                with self.assertRaisesRegex(OverflowError, f"^{name}: number 1 is {wrong}, not from "):
+                    call(wrong)
+        self.assertEqual(doonamurk.history(2, 2, array.array("Q", [1, 1]), (60, 40, 66))[0].refused, 0)
 
 
 def of_bits(bits):

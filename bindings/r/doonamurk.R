@@ -1,11 +1,12 @@
 # Calls the proved reserving engine from R: doonamurk_run gives the result list of a record for a valuation year, doonamurk_sections its sections by name,
-# doonamurk_read the fields of a record, and doonamurk_write makes a record of figures. doonamurk_flat, doonamurk_fading and doonamurk_shock make yearly indices
-# of inflation rates.
+# doonamurk_read the fields of a record, and doonamurk_write makes a record of figures. doonamurk_history gives the shares and levels of every window of a long
+# history. doonamurk_flat, doonamurk_fading and doonamurk_shock make yearly indices of inflation rates.
 #
 #     source("bindings/r/doonamurk.R")
 #     doonamurk_load("target/lib/doonamurk_r.so")
 #     f <- "examples/motor_account.rec"
 #     doonamurk_run(readBin(f, "raw", file.size(f)), year = 2026)     all of the file: cut short, a file that is too long could pass for a record
+#     doonamurk_history(2, c(1, 1), rbind(c(60, 40), c(66, NA)))$shares   a row for each position of a window of two years: 622641509 377358491
 #     doonamurk_flat(0.02, 4)                                         1020000 1040400 1061208 1082432, years 1 to 4 in millionths
 #
 # The library is made by bindings/test, or by hand after bindings/build:
@@ -15,10 +16,16 @@
 # A refusal is an R error of class "doonamurk_refused" with the number of the first question that says no. The record, the lists and the questions are
 # in docs/FORMAT.md.
 
-# By their numbers, in the order in which they are asked: 20 and 21 of rates only, which come before a record is made.
+# By their numbers, in the order in which they are asked: 20 and 21 of rates only, which come before a record is made, and 27 and 28 of histories only, whose
+# positions are then asked 7 to 10.
 doonamurk_questions <- c(
   "20" = "Is every rate a number from -0.5 to 1.0, a shock's year among the years wanted, and their number from 1 to 16?",
   "21" = "Is every index of a year wanted from 1 to 5,000,000?",
+  "27" = "Has the history at most 64 years, and is the width from 2 to 16 and no more than the history's years?",
+  "28" = paste(
+    "Have the exposures, the cells and the lent result just the lengths that the years and the width call for, and is every exposure from 1 to 1,000,000 and",
+    "every cell from -10^10 to 10^10?"
+  ),
   "1" = "Is there a first byte, and is k at least 1?",
   "2" = "Is the length just what k calls for, and every filling bit zero?",
   "3" = "Does the list hold all entries?",
@@ -166,6 +173,46 @@ doonamurk_write <- function(exposures, paid, indices, reporting, weight, ulae, t
   if (out$answer < 0) stop("there is no memory for the lists")
   if (out$answer > 0) stop(doonamurk_refused(out$answer, doonamurk_write_questions))
   out$record
+}
+
+# Slides a window of `width` origin years over a history, one origin year at a time up to the latest payment year, and gives the shares and levels of each of its
+# positions. Position a is the triangle of the origin years a to a + width - 1 and of their cells that are paid by the last of them.
+# The history is `exposures`, one for each origin year, the oldest first, and `paid`, a matrix of origin years by development years, which are as many as the origin
+# years and at most 16, NA where a cell is paid after the latest year.
+# Gives a list of `refused`, for each position 0 or the first of questions 7 to 10 that says no, `shares` in billionths, a matrix of positions by development years,
+# and `levels` in hundredths a claim, a matrix of positions by payment years counted from the position's first; rows of zeros where a position is refused. Positions
+# are named by their first origin year, from 0.
+# Refusals: an error of class "doonamurk_refused" whose number is 27 where there are more than 64 years, or the width is outside 2 to 16 or above the years; then 28
+# where there are not as many exposures as years, or an exposure is outside 1 to 1,000,000 or a cell outside -10^10 to 10^10, one that no window has too. A matrix of
+# another form, or numbers that are not whole, are plain errors that name the argument.
+# Ownership: the vectors are copied in and not changed or kept; the list is a new one.
+# Threads: as above.
+doonamurk_history <- function(width, exposures, paid) {
+  width <- doonamurk_years("width", width)
+  if (!is.matrix(paid) || ncol(paid) != min(nrow(paid), 16)) {
+    stop("paid: a matrix of origin years by as many development years, at most 16, is due", call. = FALSE)
+  }
+  years <- nrow(paid)
+  given <- outer(seq_len(years), seq_len(ncol(paid)), `+`) <= years + 1
+  if (any(is.na(paid[given]))) stop("paid: a cell up to the diagonal is NA", call. = FALSE)
+  if (any(!is.na(paid[!given]))) stop("paid: a cell below the diagonal is not NA", call. = FALSE)
+  exposures <- doonamurk_whole("exposures", exposures)
+  cells <- doonamurk_whole("paid", t(paid)[t(given)], -2^53)
+  # Other years or another width are refused under question 27 whatever the result, so it need not be large.
+  count <- if (years <= 64 && width <= years) (years - width + 1) * (1 + 2 * width) else 0
+  out <- .C(
+    "doonamurk_r_history", as.double(years), width, exposures, length(exposures), cells, length(cells),
+    result = double(count), as.integer(count), answer = 0L
+  )
+  if (out$answer < 0) stop("an entry is past 2^53, or there is no memory for the lists")
+  if (out$answer > 0) stop(doonamurk_refused(out$answer))
+  # The entries go position by position, and R fills a matrix column by column.
+  entries <- matrix(out$result, ncol = 1 + 2 * width, byrow = TRUE)
+  positions <- as.character(seq_len(nrow(entries)) - 1)
+  part <- function(from, years) {
+    matrix(entries[, from + seq_len(width)], ncol = width, dimnames = setNames(list(positions, as.character(seq_len(width) - 1)), c("position", years)))
+  }
+  list(refused = setNames(entries[, 1], positions), shares = part(1, "development"), levels = part(1 + width, "payment"))
 }
 
 # One rate as a double, NA_real_ and NaN too: question 20 is the engine's to ask. A vector of another type or length is an error that names the argument.

@@ -1,7 +1,7 @@
 /* What R's .C can call: R has no 64-bit whole numbers and passes everything by reference, so results, indices and years are doubles and counts ints.
  *
  * Every result is far below 2^53 (the largest, a total of provisions, is below 2^44), so a double holds it exactly; fits() checks it all the same,
- * and the answer is then -1. A refused run, read or write leaves R's vectors as they were.
+ * and the answer is then -1. A refused run, read, write or history leaves R's vectors as they were.
  *
  * Threads: nothing here is shared or kept between calls, so any number could call at once; R itself calls from one thread only. R owns every vector. */
 #include "../c/doonamurk.h"
@@ -78,6 +78,27 @@ void doonamurk_r_write(const double *k, const double *numbers, const int *counts
     free(b);
     free(u);
     free(p);
+}
+
+/* The result of a history of *years years, the entries of its positions one after another, for a window of *width years; both are whole and from 0 to 2^53.
+ * exposures has *n doubles and cells *c, row by row, all whole and at most 2^53 in size, and no exposure below zero; result has *m. *answer is 0, or 27 or 28, or
+ * -1 where an entry is past 2^53 or there is no memory; result is filled only where it is 0. */
+void doonamurk_r_history(const double *years, const double *width, const double *exposures, const int *n, const double *cells, const int *c, double *result,
+                         const int *m, int *answer)
+{
+    uint64_t *claims = whole(exposures, (size_t)*n);
+    int64_t *paid = malloc(((size_t)*c + 1) * sizeof *paid), *list = malloc(((size_t)*m + 1) * sizeof *list);
+    *answer = -1;
+    if (claims && paid && list) {
+        for (int i = 0; i < *c; i++)
+            paid[i] = (int64_t)cells[i];
+        *answer = (int)doonamurk_history((uint64_t)*years, (uint64_t)*width, claims, (size_t)*n, paid, (size_t)*c, list, (size_t)*m);
+        if (*answer == 0)
+            *answer = hand_out(list, result, (size_t)*m);
+    }
+    free(claims);
+    free(paid);
+    free(list);
 }
 
 /* Hands out all sixteen indices, as the engine does: zeros past the years wanted, or on a refusal. Its answer is 0, 20 or 21, or -1 as above. */

@@ -1,5 +1,5 @@
-# Taylor's motor account, document 01's two years, payments after the last year, valuation years, refusals, and indices of inflation rates. From the
-# repository's root, after bindings/build and with the glue compiled:
+# Taylor's motor account, document 01's two years, payments after the last year, valuation years, refusals, the windows of histories, and indices of inflation
+# rates. From the repository's root, after bindings/build and with the glue compiled:
 #
 #     Rscript bindings/r/test.R
 #
@@ -135,7 +135,7 @@ stopifnot(
   refused(doonamurk_run(two_years_paid(c(0, -1, 66)), 2026)) == 6,
   vapply(c(2026, 2027), function(year) refused(doonamurk_run(three_years_paid(c(0, 5000, 999999)), year)), 0) == 13,
   vapply(c(2026, 2027), function(year) refused(doonamurk_run(three_years_paid(c(5000, 45000, 2000000)), year)), 0) == 9,
-  names(doonamurk_questions) == c(20, 21, 1:6, 13, 7:10, 18, 19, 11, 12, 15:17, 14),
+  names(doonamurk_questions) == c(20, 21, 27, 28, 1:6, 13, 7:10, 18, 19, 11, 12, 15:17, 14),
   names(doonamurk_write_questions) == names(doonamurk_questions)
 )
 
@@ -182,6 +182,88 @@ stopifnot(
 )
 words <- tryCatch(write_motor(paid_ = matrix(5, 1, 1)), doonamurk_refused = conditionMessage)
 stopifnot(words == "refused 1: Is k from 1 to 15?")
+
+# The windows of a history: the two years, and the motor account through windows of each width; in those of four years it is the record's, and document 01 has
+# 0.6099 for the cut of its first three.
+two_years_history <- doonamurk_history(2, c(1, 1), rbind(c(60, 40), c(66, NA)))
+by_two <- doonamurk_history(2, rep(1, 4), paid)
+by_three <- doonamurk_history(3, rep(1, 4), paid)
+by_four <- doonamurk_history(4, rep(1, 4), paid)
+stopifnot(
+  two_years_history$refused == 0, two_years_history$shares == c(622641509, 377358491), two_years_history$levels == c(9636, 10600),
+  identical(names(by_two), c("refused", "shares", "levels")), names(by_two$refused) == c("0", "1", "2"), dim(by_two$shares) == c(3, 2),
+  by_two$shares == rbind(c(672853828, 327146172), c(670800450, 329199550), c(665995975, 334004025)),
+  by_two$levels == rbind(c(74904, 86200), c(86463, 88700), c(89339, 99400)),
+  by_three$shares == rbind(c(609925952, 297955317, 92118731), c(608846923, 302243819, 88909258)),
+  by_three$levels == rbind(c(82632, 94946, 97700), c(95262, 97355, 109100)), by_three$shares["1", "2"] == 88909258,
+  by_four$refused == 0, dim(by_four$shares) == c(1, 4), by_four$shares == results[11:14], by_four$levels == results[15:18]
+)
+
+# A history of 64 years: origin year i has its first min(16, 64 - i) development years. Each position equals the record that is cut out for it.
+history_of <- function(years, cell) {
+  columns <- min(16, years)
+  origin <- matrix(rep(seq_len(years) - 1, columns), years, columns)
+  development <- matrix(rep(seq_len(columns) - 1, each = years), years, columns)
+  replace(cell(origin, development), origin + development >= years, NA)
+}
+long_paid <- history_of(64, function(i, j) (900000 + 31000 * (i + j)) %/% 2^((2 * j) %/% 3))
+long_exposures <- 1000 + 7 * 0:63
+for (width in c(2, 3, 16)) {
+  windows <- doonamurk_history(width, long_exposures, long_paid)
+  stopifnot(windows$refused == 0, dim(windows$levels) == c(65 - width, width), rowSums(windows$shares) == 1e9)
+  for (start in c(0, 20, 64 - width)) {
+    cut_out <- long_paid[start + seq_len(width), seq_len(width)]
+    cut_out[outer(seq_len(width), seq_len(width), `+`) > width + 1] <- NA
+    bytes <- doonamurk_write(long_exposures[start + seq_len(width)], cut_out, rep(1000000, width), c(1000000, rep(0, width - 1)), 0, rep(0, width), 0)
+    cut_out <- doonamurk_sections(doonamurk_run(bytes, 2026))
+    stopifnot(windows$shares[as.character(start), ] == cut_out$shares, windows$levels[as.character(start), ] == cut_out$levels)
+  }
+}
+
+# Positions that 7, 8, 10 and 9 refuse have their number and zeros.
+beside <- doonamurk_history(2, rep(100, 6), rbind(
+  c(60, 40, 0, 0, 0, 0), c(66, -1, 0, 0, 0, NA), c(80, 5, 0, 0, NA, NA), c(0, 1000000, 0, NA, NA, NA), c(1000, 1000000, NA, NA, NA, NA), c(1, rep(NA, 5))
+))
+nine <- doonamurk_history(3, rep(100, 3), rbind(c(0, 5000, 999999), c(0, 0, NA), c(1, NA, NA)))
+stopifnot(
+  beside$refused == c(0, 7, 8, 0, 10), rowSums(beside$shares) == ifelse(beside$refused == 0, 1e9, 0), (rowSums(beside$levels) == 0) == (beside$refused != 0),
+  nine$refused == 9, nine$shares == 0, nine$levels == 0, dim(nine$levels) == c(1, 3)
+)
+
+# Years, widths, lengths and ranges; 27 comes before 28.
+ones <- function(years) history_of(years, function(i, j) 0 * i + 1)
+number_of <- function(years, width, exposures = rep(1, years), paid = ones(years)) refused(doonamurk_history(width, exposures, paid))
+stopifnot(
+  mapply(number_of, c(2, 5, 16, 17, 64, 64), c(2, 5, 16, 16, 2, 16)) == 0,
+  mapply(number_of, c(1, 1, 2, 2, 2, 5, 17, 64, 65, 65, 20, 20), c(1, 2, 0, 1, 3, 6, 17, 17, 2, 16, 2^32 + 2, 2^53)) == 27,
+  refused(doonamurk_history(2, numeric(0), matrix(0, 0, 0))) == 27,
+  number_of(20, 2, rep(1, 19)) == 28, number_of(20, 2, rep(1, 21)) == 28, number_of(20, 2, numeric(0)) == 28,
+  vapply(c(0, 1000001, 2^32 + 1, 2^53), function(bad) number_of(20, 2, c(rep(1, 19), bad)), 0) == 28,
+  # the first cell, the last one, and one that no window of two years has
+  vapply(list(c(1, 1), c(20, 1), c(4, 16)), function(place) {
+    put_in <- function(value) number_of(20, 2, paid = replace(ones(20), place[1] + 20 * (place[2] - 1), value))
+    all(vapply(c(10000000001, -10000000001, 2^53, -2^53), put_in, 0) == 28, vapply(c(10000000000, -10000000000), put_in, 0) == 0)
+  }, TRUE),
+  number_of(65, 2, 0) == 27, number_of(4, 17, rep(0, 4)) == 27, number_of(4, 5, paid = 10000000001 * ones(4)) == 27,
+  says(doonamurk_history(2, 1, matrix(60, 1, 1))) ==
+    "refused 27: Has the history at most 64 years, and is the width from 2 to 16 and no more than the history's years?",
+  grepl("^refused 28: Have the exposures, .* and every cell from -10\\^10 to 10\\^10\\?$", says(doonamurk_history(2, 1, ones(2)))),
+  grepl("^width: whole numbers from 0 to 2\\^53 are due", vapply(list(-1, 2.5, 2^54, NA, "2"), function(width) says(doonamurk_history(width, c(1, 1), ones(2))), "")),
+  grepl("^width: one number is due", says(doonamurk_history(2:3, rep(1, 4), ones(4)))),
+  grepl("^exposures: ", says(doonamurk_history(2, c(1, NA), ones(2)))),
+  grepl("^paid: a matrix of origin years", c(says(doonamurk_history(2, c(1, 1), c(60, 40, 66))), says(doonamurk_history(2, rep(1, 20), matrix(1, 20, 20))))),
+  grepl("^paid: a cell up to the diagonal is NA", says(doonamurk_history(2, c(1, 1), rbind(c(60, NA), c(66, NA))))),
+  grepl("^paid: a cell below the diagonal is not NA", says(doonamurk_history(2, c(1, 1), rbind(c(60, 40), c(66, 0))))),
+  grepl("^paid: whole", says(doonamurk_history(2, c(1, 1), ones(2) / 2)))
+)
+
+# A refused history leaves the lent vector: the glue's own call, on vectors of other lengths than 14.
+left_by_history <- function(room) {
+  pattern <- -1000.5 - seq_len(room + 4)
+  out <- .C("doonamurk_r_history", 4, 3, rep(1, 4), 4L, as.double(t(paid)[!is.na(t(paid))]), 10L, lent = pattern, as.integer(room), answer = 0L)
+  out$answer == 28 && identical(out$lent, pattern)
+}
+stopifnot(left_by_history(0), left_by_history(13), left_by_history(15), left_by_history(1617), !left_by_history(14))
 
 # Indices of inflation rates: those of the years wanted, or the number of a refusal. The glue's own call has the same, and sixteen values always, zeros past
 # those.

@@ -1,6 +1,6 @@
 //! Safe calls of the proved reserving engine: [`run`] gives the result list of a record for a valuation year, [`read`] its fields, and [`write`] makes the
-//! record of given fields. Each has a form that fills a buffer of the caller's and one that returns a `Vec`. [`flat`], [`fading`] and [`shock`] make yearly
-//! indices of inflation rates.
+//! record of given fields; [`history`] gives the shares and levels of every window of a long history. Each has a form that fills a buffer of the caller's and one
+//! that returns a `Vec`. [`flat`], [`fading`] and [`shock`] make yearly indices of inflation rates.
 //!
 //! The engine has no global state, allocates nothing and keeps nothing: any number of threads may call at once.
 //! The record, the lists and the questions are described in `docs/FORMAT.md`.
@@ -17,6 +17,15 @@ pub const FIELDS_MAX: usize = 203;
 pub const RESULTS_MAX: usize = 505;
 /// The most years that a call of inflation rates may want.
 pub const YEARS_MAX: usize = 16;
+/// The most origin years of a history, and the most development years of one of them.
+pub const HISTORY_YEARS_MAX: usize = 64;
+pub const HISTORY_DEVELOPMENT_MAX: usize = 16;
+/// The least and the largest width of a window.
+pub const WIDTH_MIN: usize = 2;
+pub const WIDTH_MAX: usize = 16;
+/// The cells of the longest history, and the entries of the longest result of one.
+pub const HISTORY_CELLS_MAX: usize = 904;
+pub const HISTORY_RESULTS_MAX: usize = 1617;
 
 /// The cells of a triangle with years 0 to k.
 pub const fn cells(k: usize) -> usize {
@@ -36,6 +45,25 @@ pub const fn field_count(k: usize) -> usize {
 /// The entries of a result list with years 0 to k, for k from 1 to 15.
 pub const fn result_count(k: usize) -> usize {
     3 * cells(k) + 6 * k + 7
+}
+
+/// The cells of a history of so many years, row by row: origin year i has its first min(16, `years` - i) development years.
+pub const fn history_cells(years: usize) -> usize {
+    if years <= HISTORY_DEVELOPMENT_MAX {
+        years * (years + 1) / 2
+    } else {
+        cells(K_MAX) + HISTORY_DEVELOPMENT_MAX * (years - HISTORY_DEVELOPMENT_MAX)
+    }
+}
+
+/// The place of origin year i and development year j, i below `years` and j below min(16, `years` - i), among the cells of a history.
+pub const fn history_cell(years: usize, i: usize, j: usize) -> usize {
+    history_cells(years) - history_cells(years - i) + j
+}
+
+/// The entries of a history's result, for a width of at most `years`: 1 + 2 * `width` of each of its `years` - `width` + 1 positions.
+pub const fn history_count(years: usize, width: usize) -> usize {
+    (years - width + 1) * (1 + 2 * width)
 }
 
 mod engine {
@@ -70,6 +98,16 @@ mod engine {
             record: *mut u8,
             record_len: usize,
         ) -> u64;
+        pub fn doonamurk_history(
+            years: u64,
+            width: u64,
+            exposures: *const u64,
+            n: usize,
+            cells: *const i64,
+            c: usize,
+            result: *mut i64,
+            m: usize,
+        ) -> u64;
         pub fn doonamurk_flat(rate: f64, years: u64) -> super::Indices;
         pub fn doonamurk_fading(rate: f64, long_run: f64, years: u64) -> super::Indices;
         pub fn doonamurk_shock(rate: f64, other: f64, year: u64, years: u64) -> super::Indices;
@@ -82,6 +120,7 @@ pub enum Call {
     Run,
     Read,
     Write,
+    History,
     /// [`flat`], [`fading`] or [`shock`].
     Inflation,
 }
@@ -99,7 +138,7 @@ impl Refused {
         self.call
     }
 
-    /// The number of the question, 1 to 21.
+    /// The number of the question: 1 to 21, 27 or 28.
     pub fn number(&self) -> u64 {
         self.number
     }
@@ -111,6 +150,8 @@ impl Refused {
                 "Is every rate a number from -0.5 to 1.0, a shock's year among the years wanted, and their number from 1 to 16?"
             }
             (_, 21) => "Is every index of a year wanted from 1 to 5,000,000?",
+            (_, 27) => "Has the history at most 64 years, and is the width from 2 to 16 and no more than the history's years?",
+            (_, 28) => "Have the exposures, the cells and the lent result just the lengths that the years and the width call for, and is every exposure from 1 to 1,000,000 and every cell from -10^10 to 10^10?",
             (Call::Write, 1) => "Is k from 1 to 15?",
             (Call::Write, 2) => {
                 "Has the buffer just the length that k calls for, and each list its own?"
@@ -351,6 +392,83 @@ pub fn write_to_vec(fields: &Fields) -> Result<Vec<u8>, Refused> {
     let mut record = vec![0; record_bytes(k)];
     write(fields, &mut record)?;
     Ok(record)
+}
+
+/// Slides a window of `width` origin years over a history, one origin year at a time up to the latest payment year, and gives the shares and levels of each of
+/// its positions.
+///
+/// Position a is the triangle of the origin years a to a + `width` - 1 and of their cells that are paid by the last of them. It has 1 + 2 * `width` entries: 0,
+/// its shares in billionths by development year and its levels in hundredths a claim by payment year; or the number of the first of the questions 7 to 10 that
+/// says no of the triangle, and zeros. [`positions`] takes a result apart.
+///
+/// `exposures` has one for each of the `years` origin years, 1 to 1,000,000, and `cells` the paid increments row by row, as many as [`history_cells`], -10^10 to
+/// 10^10: origin year i has its first min(16, `years` - i) development years. `Ok` fills all of `result`, which must have just the [`history_count`] of `years`
+/// and `width`. `Err` names question 27 where `years` is above 64 or `width` is outside 2 to 16 or above `years`, then 28 where a list or the result has another
+/// length or a number is out of its range, one that no window has too, and leaves all of `result` as it was. All buffers stay the caller's, nothing is kept.
+/// Safe to call from any number of threads.
+pub fn history(
+    years: u64,
+    width: u64,
+    exposures: &[u64],
+    cells: &[i64],
+    result: &mut [i64],
+) -> Result<(), Refused> {
+    // SAFETY: all are slices, so each pointer is non-null and valid for its length, and a lent slice overlaps no borrowed one.
+    let number = unsafe {
+        engine::doonamurk_history(
+            years,
+            width,
+            exposures.as_ptr(),
+            exposures.len(),
+            cells.as_ptr(),
+            cells.len(),
+            result.as_mut_ptr(),
+            result.len(),
+        )
+    };
+    outcome(Call::History, number)
+}
+
+/// The result of a history in a `Vec`. As [`history`], except that the result always has its length.
+pub fn history_to_vec(
+    years: u64,
+    width: u64,
+    exposures: &[u64],
+    cells: &[i64],
+) -> Result<Vec<i64>, Refused> {
+    // Other years or another width are refused under question 27 whatever the result, so it need not be large.
+    let fits = years <= HISTORY_YEARS_MAX as u64 && width <= years;
+    let count = if fits {
+        history_count(years as usize, width as usize)
+    } else {
+        0
+    };
+    let mut result = vec![0; count];
+    history(years, width, exposures, cells, &mut result)?;
+    Ok(result)
+}
+
+/// One position of a window in a history.
+#[derive(Clone, Copy, Debug, PartialEq, Eq)]
+pub struct Position<'a> {
+    /// 0, or the number of the first of the questions 7 to 10 that says no.
+    pub refused: i64,
+    /// Shares in billionths, development years 0 to width - 1; zeros where it is refused.
+    pub shares: &'a [i64],
+    /// Levels in hundredths a claim, payment years 0 to width - 1 counted from the position's first; zeros where it is refused.
+    pub levels: &'a [i64],
+}
+
+/// The positions of a history's result, the first origin year's first.
+pub fn positions(width: usize, result: &[i64]) -> impl Iterator<Item = Position<'_>> {
+    result.chunks_exact(1 + 2 * width).map(move |entries| {
+        let (shares, levels) = entries[1..].split_at(width);
+        Position {
+            refused: entries[0],
+            shares,
+            levels,
+        }
+    })
 }
 
 /// What [`flat`], [`fading`] and [`shock`] hand back, laid out as C has it.

@@ -1,10 +1,12 @@
 //! Taylor's motor account, document 01's two years, payments after the last year, valuation years, refusals, threads, the way from fields to a record and
-//! back, and indices of inflation rates.
+//! back, the windows of histories, and indices of inflation rates.
 
 use doonamurk::{
-    cell, cells, fading, field_count, flat, future_cell, read, read_to_vec, record_bytes,
-    result_count, run, run_to_vec, sections, shock, write, write_to_vec, Call, Fields, Indices,
-    FIELDS_MAX, K_MAX, RECORD_MAX, RESULTS_MAX, YEARS_MAX,
+    cell, cells, fading, field_count, flat, future_cell, history, history_cell, history_cells,
+    history_count, history_to_vec, positions, read, read_to_vec, record_bytes, result_count, run,
+    run_to_vec, sections, shock, write, write_to_vec, Call, Fields, Indices, Position, FIELDS_MAX,
+    HISTORY_CELLS_MAX, HISTORY_DEVELOPMENT_MAX, HISTORY_RESULTS_MAX, HISTORY_YEARS_MAX, K_MAX,
+    RECORD_MAX, RESULTS_MAX, WIDTH_MAX, WIDTH_MIN, YEARS_MAX,
 };
 
 const MOTOR: Fields = Fields {
@@ -485,6 +487,270 @@ fn threads_run_at_once_and_agree() {
             });
         }
     });
+}
+
+/// A history that is accepted in every position: payments fall with the development year and rise with the payment year.
+fn long_history(years: usize) -> (Vec<u64>, Vec<i64>) {
+    let exposures = (0..years as u64).map(|i| 1000 + 7 * i).collect();
+    let mut cells = Vec::new();
+    for i in 0..years {
+        for j in 0..HISTORY_DEVELOPMENT_MAX.min(years - i) {
+            assert_eq!(history_cell(years, i, j), cells.len());
+            cells.push((900_000 + 31_000 * (i + j) as i64) >> (2 * j / 3));
+        }
+    }
+    assert_eq!(cells.len(), history_cells(years));
+    (exposures, cells)
+}
+
+#[test]
+fn sizes_of_histories() {
+    let counts = [0, 1, 2, 15, 16, 17, HISTORY_YEARS_MAX].map(history_cells);
+    assert_eq!(counts, [0, 1, 3, 120, 136, 152, HISTORY_CELLS_MAX]);
+    assert_eq!(history_count(2, 2), 5);
+    assert_eq!(
+        history_count(HISTORY_YEARS_MAX, WIDTH_MAX),
+        HISTORY_RESULTS_MAX
+    );
+}
+
+/// In windows of four years the motor account is the record's, and document 01 has 0.6099 for the cut of its first three.
+#[test]
+fn motor_account_through_windows_of_each_width() {
+    let due: [(usize, &[Position]); 3] = [
+        (
+            2,
+            &[
+                Position {
+                    refused: 0,
+                    shares: &[672_853_828, 327_146_172],
+                    levels: &[74_904, 86_200],
+                },
+                Position {
+                    refused: 0,
+                    shares: &[670_800_450, 329_199_550],
+                    levels: &[86_463, 88_700],
+                },
+                Position {
+                    refused: 0,
+                    shares: &[665_995_975, 334_004_025],
+                    levels: &[89_339, 99_400],
+                },
+            ],
+        ),
+        (
+            3,
+            &[
+                Position {
+                    refused: 0,
+                    shares: &[609_925_952, 297_955_317, 92_118_731],
+                    levels: &[82_632, 94_946, 97_700],
+                },
+                Position {
+                    refused: 0,
+                    shares: &[608_846_923, 302_243_819, 88_909_258],
+                    levels: &[95_262, 97_355, 109_100],
+                },
+            ],
+        ),
+        (
+            4,
+            &[Position {
+                refused: 0,
+                shares: &[583_475_514, 287_767_456, 86_614_799, 42_142_231],
+                levels: &[86_378, 98_939, 101_998, 113_900],
+            }],
+        ),
+    ];
+    for (width, due) in due {
+        let result =
+            history_to_vec(4, width as u64, MOTOR.exposures, MOTOR.increments).expect("accepted");
+        assert!(positions(width, &result).eq(due.iter().copied()));
+    }
+}
+
+#[test]
+fn each_position_equals_the_record_that_is_cut_out_for_it() {
+    let years = HISTORY_YEARS_MAX;
+    let (exposures, cells) = long_history(years);
+    for width in WIDTH_MIN..=WIDTH_MAX {
+        let k = width - 1;
+        let result =
+            history_to_vec(years as u64, width as u64, &exposures, &cells).expect("accepted");
+        assert_eq!(positions(width, &result).count(), years - width + 1);
+        for (start, position) in positions(width, &result).enumerate() {
+            let rows = (0..width).map(|i| &cells[history_cell(years, start + i, 0)..][..width - i]);
+            let mut reporting = vec![0; width];
+            reporting[0] = 1_000_000;
+            let record = write_to_vec(&Fields {
+                k: k as u64,
+                exposures: &exposures[start..start + width],
+                increments: &rows.collect::<Vec<_>>().concat(),
+                indices: &vec![1_000_000; width],
+                reporting: &reporting,
+                weight: 0,
+                ulae: &vec![0; width],
+                tail: 0,
+            })
+            .expect("written");
+            let list = run_to_vec(2026, &record).expect("accepted");
+            let named = sections(k, &list).expect("a whole list");
+            let cut_out = Position {
+                refused: 0,
+                shares: named.shares,
+                levels: named.levels,
+            };
+            assert_eq!(position, cut_out);
+        }
+    }
+}
+
+/// 7 by a column below zero, 8 by a year without payments, 10 by a level above 10^9, beside accepted ones; 9, which takes three years, by a running share of 0.
+#[test]
+fn refused_positions_have_their_number_and_zeros() {
+    let cells = [
+        60, 40, 0, 0, 0, 0, 66, -1, 0, 0, 0, 80, 5, 0, 0, 0, 1_000_000, 0, 1_000, 1_000_000, 1,
+    ];
+    let result = history_to_vec(6, 2, &[100; 6], &cells).expect("accepted");
+    let numbers: Vec<i64> = positions(2, &result)
+        .map(|position| position.refused)
+        .collect();
+    assert_eq!(numbers, [0, 7, 8, 0, 10]);
+    for position in positions(2, &result) {
+        let zeros = position.shares == [0, 0] && position.levels == [0, 0];
+        assert_eq!(zeros, position.refused != 0);
+        assert!(zeros || position.shares.iter().sum::<i64>() == 1_000_000_000);
+    }
+    let nine = history_to_vec(3, 3, &[100; 3], &[0, 5_000, 999_999, 0, 0, 1]);
+    assert_eq!(nine, Ok(vec![9, 0, 0, 0, 0, 0, 0]));
+    // Questions 13 and 6 are not put: nothing is paid at first, and more is paid back than was paid.
+    let unasked: [(u64, [i64; 6]); 2] = [(2, [0, 40, 0, 66, 5, 70]), (3, [60, 90, 5, 70, -80, 90])];
+    for (width, cells) in unasked {
+        let result = history_to_vec(3, width, &[1; 3], &cells).expect("accepted");
+        assert!(positions(width as usize, &result).all(|position| position.refused == 0));
+    }
+}
+
+/// A refused history: its number, and the result as it was lent.
+fn history_number(years: u64, width: u64, exposures: &[u64], cells: &[i64], room: usize) -> u64 {
+    let mut result = vec![-7; room];
+    let outcome = history(years, width, exposures, cells, &mut result);
+    let number = outcome.map_or_else(|refused| refused.number(), |()| 0);
+    assert!(number == 0 || result.iter().all(|&entry| entry == -7));
+    number
+}
+
+#[test]
+fn years_and_widths_of_histories() {
+    let far = 1 << 32;
+    let sign = 1 << 63;
+    let sizes: [(u64, u64, u64); 24] = [
+        (2, 2, 0),
+        (5, 5, 0),
+        (16, 16, 0),
+        (17, 16, 0),
+        (64, 2, 0),
+        (64, 16, 0),
+        (0, 0, 27),
+        (0, 2, 27),
+        (1, 1, 27),
+        (1, 2, 27),
+        (2, 1, 27),
+        (2, 3, 27),
+        (5, 6, 27),
+        (17, 17, 27),
+        (64, 17, 27),
+        (64, 1, 27),
+        (65, 2, 27),
+        (66, 16, 27),
+        (20, far + 2, 27),
+        (20, u64::MAX, 27),
+        (far + 20, 2, 27),
+        (sign + 20, sign + 2, 27),
+        (u64::MAX, 2, 27),
+        (u64::MAX, u64::MAX, 27),
+    ];
+    for (years, width, number) in sizes {
+        let few = years.min(66) as usize;
+        let (exposures, cells) = long_history(few);
+        let room = if width as usize <= few {
+            history_count(few, width as usize)
+        } else {
+            5
+        };
+        assert_eq!(
+            history_number(years, width, &exposures, &cells, room),
+            number,
+            "{years}, {width}"
+        );
+        let to_vec = history_to_vec(years, width, &exposures, &cells);
+        assert_eq!(
+            to_vec.map_or_else(|refused| refused.number(), |_| 0),
+            number
+        );
+        // 27 before 28
+        if number == 27 {
+            assert_eq!(history_number(years, width, &[0; 4], &cells, room), 27);
+            assert_eq!(
+                history_number(years, width, &exposures, &[i64::MIN; 10], room + 1),
+                27
+            );
+        }
+    }
+}
+
+#[test]
+fn lengths_and_ranges_of_histories() {
+    let (exposures, cells) = long_history(20);
+    let number = |exposures: &[u64], cells: &[i64], room: usize| {
+        history_number(20, 2, exposures, cells, room)
+    };
+    assert_eq!(number(&exposures, &cells, 95), 0);
+    for room in [0, 94, 96, HISTORY_RESULTS_MAX] {
+        assert_eq!(number(&exposures, &cells, room), 28);
+    }
+    let longer = [&exposures[..], &[1]].concat();
+    for changed in [&exposures[1..], &[], &longer] {
+        assert_eq!(number(changed, &cells, 95), 28);
+    }
+    let longer = [&cells[..], &[1]].concat();
+    for changed in [&cells[1..], &[], &longer] {
+        assert_eq!(number(&exposures, changed, 95), 28);
+    }
+    for bad in [0, 1_000_001, (1 << 32) + 1, 1 << 63, u64::MAX] {
+        for place in [0, 7, 19] {
+            let mut changed = exposures.clone();
+            changed[place] = bad;
+            assert_eq!(number(&changed, &cells, 95), 28);
+        }
+    }
+    // The first cell, the last one, and one that no window of two years has.
+    for place in [0, cells.len() - 1, history_cell(20, 3, 15)] {
+        let mut changed = cells.clone();
+        for bad in [10_000_000_001, -10_000_000_001, i64::MAX, i64::MIN] {
+            changed[place] = bad;
+            assert_eq!(number(&exposures, &changed, 95), 28);
+        }
+        for limit in [10_000_000_000, -10_000_000_000] {
+            changed[place] = limit;
+            assert_eq!(number(&exposures, &changed, 95), 0);
+        }
+    }
+}
+
+#[test]
+fn a_refusal_of_a_history_says_its_question() {
+    let refusal = history_to_vec(1, 2, &[1], &[60]).expect_err("refused");
+    assert_eq!((refusal.number(), refusal.call()), (27, Call::History));
+    assert_eq!(
+        refusal.to_string(),
+        "refused 27: Has the history at most 64 years, and is the width from 2 to 16 and no more than the history's years?"
+    );
+    let refusal = history_to_vec(2, 2, &[1], &[60]).expect_err("refused");
+    assert_eq!((refusal.number(), refusal.call()), (28, Call::History));
+    assert!(refusal
+        .question()
+        .ends_with("every cell from -10^10 to 10^10?"));
 }
 
 /// What a call hands back that is refused, or accepted with these indices: zeros past them.

@@ -33,7 +33,7 @@ fn fill_list(years: usize, width: usize, exposures: &[u64], cells: &[i64], resul
     ensures { λ _. ⌜ now (result .exit) ≡ historyList years width (now (exposures .entry)) (now (cells .entry)) ⌝ }
 {
     let mut rows = [[0i64; 16]; MOST_HISTORY];
-    fill_history(years, exposures, cells, &mut rows);
+    fill_history(years, width, exposures, cells, &mut rows);
     fill_positions(result, &rows, width - 1, years - width + 1);
 }
 

@@ -1,9 +1,9 @@
-// The averages of a history, each worked out once.
+// The averages of a history that windows of a width can have, each worked out once.
 use averages::average;
 use history_cells::development_years;
 use rules::MOST_HISTORY;
 ghost use mathlib.Core.Path.{_≡_};
-ghost use Prim.Native.Nat.{_+_, _≤_};
+ghost use Prim.Native.Nat.{_+_, _≤_, min};
 ghost use lib.IntN.{pos};
 ghost use lib.ListN.{length, getD, replicate};
 ghost use lib.Seq.{sets};
@@ -27,9 +27,17 @@ fn fill_year(row: &mut [i64; 16], cells: &[i64], at: usize, count: usize, claims
     }
 }
 
-// The averages of a history by origin year, into rows of zeros.
+// The lesser of two numbers.
+fn lesser(a: usize, b: usize) -> usize
+    ensures { λ r. ⌜ r ≡ min a b ⌝ }
+{
+    if a < b { a } else { b }
+}
+
+// The averages by origin year that windows of a width can have, into rows of zeros.
 pub fn fill_history(
     years: usize,
+    width: usize,
     exposures: &[u64],
     cells: &[i64],
     rows: &mut [[i64; 16]; MOST_HISTORY],
@@ -37,12 +45,13 @@ pub fn fill_history(
     requires { ⌜ (years ≤ mostHistory)
         × (((length (now exposures) ≡ years) × (length (now cells) ≡ historyCells years))
         × ((Claims years (now exposures) × Increments (now cells)) × (now rows ≡ replicate mostHistory noYear))) ⌝ }
-    ensures { λ _. ⌜ now (rows .exit) ≡ historyRows years (now (exposures .entry)) (now (cells .entry)) years ⌝ }
+    ensures { λ _. ⌜ now (rows .exit) ≡ historyRows years width (now (exposures .entry)) (now (cells .entry)) years ⌝ }
 {
     let mut at: usize = 0;
     for i in 0..years {
-        let count = development_years(years, i);
+        let paid = development_years(years, i);
+        let count = lesser(width, paid);
         fill_year(&mut rows[i], cells, at, count, exposures[i]);
-        at += count;
+        at += paid;
     }
 }

@@ -17,12 +17,12 @@ use Rattle.line_reading.specs.Reads.{Reads}
 use Rattle.line_reading.proofs.Known.{line-step, good-none}
 
 -- the first line, read into a list of zeros
-module _ (line : List ℕ) (f : Found) (list : List ℤ) (word₀ word : List ℕ) (h : Reads (readLine 1 0 [] line) f (replicate mostFields (pos 0)) list word₀ word) where
+module _ (line : List ℕ) (f : Found) (list : List ℤ) (word₀ word : List ℕ) (h : Reads (readLine false 1 0 [] line) f (replicate mostFields (pos 0)) list word₀ word) where
   abbrev t : Typed
-  t = readLine 1 0 [] line
+  t = readLine false 1 0 [] line
 
   few : length (t .numbers) ≤ mostFields
-  few = line-step 1 0 [] line good-none .most
+  few = line-step false 1 0 [] line (good-none false) .most
 
   count : f .count ≡ length (t .numbers)
   count = ap (λ (x : Found). x .count) (h .said)
@@ -37,7 +37,7 @@ module _ (line : List ℕ) (f : Found) (list : List ℤ) (word₀ word : List �
   first-year = ap lastYearIn (ap (take (f .count)) (h .stored) ∙ take-sets (replicate mostFields (pos 0)) (t .numbers) (f .count) (sym count) (omega (arith, count, few, length-replicate mostFields (pos 0))))
 
   pub first-few : lastYearIn (t .numbers) < 16
-  first-few = line-step 1 0 [] line good-none .few
+  first-few = omega (arith, line-step false 1 0 [] line (good-none false) .few)
 
 -- by k and by the line
 module _ (ls : List (List ℕ)) where

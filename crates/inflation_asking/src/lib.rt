@@ -80,7 +80,7 @@ pub fn year_asked(text: &[u8]) -> u64
         word: 0,
         count: 0,
     };
-    let found = read_line(line_wanted(false, text), f, &mut list, &mut word);
+    let found = read_line(false, line_wanted(false, text), f, &mut list, &mut word);
     last_year(&list, found.count)
 }
 

@@ -1,4 +1,4 @@
-// The next line of a text of figures, where a line of inflation may stand for the indices.
+// The next line of a text, where of figures a line of inflation may stand for the indices.
 use entries::put_naturals;
 use inflation::inflation_indices;
 use inflation_line::fault_in;
@@ -10,19 +10,22 @@ use sheet::Found;
 ghost use mathlib.Core.Path.{_≡_};
 ghost use mathlib.Core.Bool.{true};
 ghost use mathlib.Core.List.{map};
-ghost use Prim.Native.Nat.{_+_, _<_, _^_};
+ghost use Prim.Native.Nat.{_+_, _<_, _≤_, _^_};
 ghost use lib.IntN.{pos};
 ghost use lib.ListN.{length, take};
 ghost use lib.Seq.{sets};
-ghost use Rattle.rules.specs.Record.{mostFields};
+ghost use Rattle.sheet.specs.Table.{mostFirst, roomIn};
 ghost use Rattle.sheet.specs.Sheet.{standsForIndices, indicesMade, readNext};
 ghost use Rattle.line_reading.specs.Reads.{Reads, Good};
 
-// Whether a line of inflation stands at a place where the indices are due, and makes them.
-fn stands_for_indices(k: usize, place: usize, line: &[u8]) -> bool
-    requires { ⌜ k < 16 ⌝ }
-    ensures { λ r. ⌜ r ≡ standsForIndices k place (now (line .entry)) ⌝ }
+// Whether a line of inflation stands at a place of figures where the indices are due, and makes them.
+fn stands_for_indices(history: bool, k: usize, place: usize, line: &[u8]) -> bool
+    requires { ⌜ k ≤ mostFirst history ⌝ }
+    ensures { λ r. ⌜ r ≡ standsForIndices history k place (now (line .entry)) ⌝ }
 {
+    if history {
+        return false;
+    }
     if place != k + 3 {
         return false;
     }
@@ -33,8 +36,8 @@ fn stands_for_indices(k: usize, place: usize, line: &[u8]) -> bool
 }
 
 // Puts the indices that it makes into the list from place `at` on.
-fn put_made(list: &mut [i64], at: usize, k: usize, place: usize, line: &[u8])
-    requires { ⌜ (k < 16) × ((at + k < length (now list)) × (standsForIndices k place (now line) ≡ true)) ⌝ }
+fn put_made(list: &mut [i64], at: usize, history: bool, k: usize, place: usize, line: &[u8])
+    requires { ⌜ (k < 16) × ((at + k < length (now list)) × (standsForIndices history k place (now line) ≡ true)) ⌝ }
     ensures { λ _. ⌜ now (list .exit) ≡ sets (now (list .entry)) at (map pos (indicesMade k (now (line .entry)))) ⌝ }
 {
     let made = inflation_indices(shape_of(line), k as u64 + 1);
@@ -43,14 +46,14 @@ fn put_made(list: &mut [i64], at: usize, k: usize, place: usize, line: &[u8])
 }
 
 // The next line of a text, after what was found so far.
-pub fn read_next(line: &[u8], f: Found, list: &mut [i64], word: &mut [u8]) -> Found
-    requires { ⌜ (f .line < 2 ^ 63) × ((length (now list) ≡ mostFields) × Good (take (f .count) (now list)) (f .place) (f .count)) ⌝ }
-    ensures { λ r. ⌜ Reads (readNext (f .line + 1) (f .place) (take (f .count) (now (list .entry))) (now (line .entry)))
+pub fn read_next(history: bool, line: &[u8], f: Found, list: &mut [i64], word: &mut [u8]) -> Found
+    requires { ⌜ (f .line < 2 ^ 63) × ((length (now list) ≡ roomIn history) × Good history (take (f .count) (now list)) (f .place) (f .count)) ⌝ }
+    ensures { λ r. ⌜ Reads (readNext history (f .line + 1) (f .place) (take (f .count) (now (list .entry))) (now (line .entry)))
         r (now (list .entry)) (now (list .exit)) (now (word .entry)) (now (word .exit)) ⌝ }
 {
     let k = last_year(list, f.count) as usize;
-    if stands_for_indices(k, f.place, line) {
-        put_made(list, f.count, k, f.place, line);
+    if stands_for_indices(history, k, f.place, line) {
+        put_made(list, f.count, history, k, f.place, line);
         let years = k + 1;
         return Found {
             problem: 0,
@@ -61,5 +64,5 @@ pub fn read_next(line: &[u8], f: Found, list: &mut [i64], word: &mut [u8]) -> Fo
             count: f.count + years,
         };
     }
-    read_line(line, f, list, word)
+    read_line(history, line, f, list, word)
 }

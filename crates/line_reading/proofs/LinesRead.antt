@@ -1,6 +1,6 @@
 -- What a line comes to, and what is stored of it. Assumes nothing.
 use mathlib.Core.Path.{_≡_, sym, ap, _∙_}
-use mathlib.Core.Bool.{true, false}
+use mathlib.Core.Bool.{Bool, true, false}
 use mathlib.Core.List.{List, [], _++_, map}
 use Prim.Native.Nat.{ℕ, suc, _+_}
 use native.Mathlib.Numerals.{add-one}
@@ -17,7 +17,7 @@ use Rattle.composing.proofs.Puts.{put-none}
 use Rattle.scanning.specs.Numbers.{wholeOf}
 use Rattle.cells.specs.Cells.{isBare, labelOf, cellsOf}
 use Rattle.sheet.specs.declared.Wrong.{Wrong}
-use Rattle.sheet.specs.Table.{lineCount, dueAt}
+use Rattle.sheet.specs.Table.{linesIn, dueIn}
 use Rattle.sheet.specs.Sheet.{lastYearIn, wrongIn, wordIn, Typed, typed, fine, readLine}
 use Rattle.line_reading.specs.Reads.{found, Reads}
 
@@ -36,25 +36,25 @@ pub all-numbers : (cs : List (List ℕ)) (n : ℕ) → length cs ≡ n → upTo 
 all-numbers cs n e = sym (map-upTo wholeOf (λ i. getD cs i []) n) ∙ ap (map wholeOf) (upTo-self cs n [] e)
 
 -- a line: nothing in it, no line due any more, not as due, as due
-module _ (n i : ℕ) (vs : List ℤ) (line : List ℕ) where
-  pub line-bare : isBare line ≡ true → readLine n i vs line ≡ fine n i vs
+module _ (history : Bool) (n i : ℕ) (vs : List ℤ) (line : List ℕ) where
+  pub line-bare : isBare line ≡ true → readLine history n i vs line ≡ fine n i vs
   unfolding readLine
   line-bare h = rw h
 
-  pub line-over : isBare line ≡ false → i ≡ lineCount (lastYearIn vs) → readLine n i vs line ≡ typed 6 n i 0 (labelOf line) vs
+  pub line-over : isBare line ≡ false → i ≡ linesIn history (lastYearIn vs) → readLine history n i vs line ≡ typed 6 n i 0 (labelOf line) vs
   unfolding readLine
-  line-over h e = rw (h, eq-eqb i (lineCount (lastYearIn vs)) e)
+  line-over h e = rw (h, eq-eqb i (linesIn history (lastYearIn vs)) e)
 
-  module _ (filled : isBare line ≡ false) (due : i ≡ lineCount (lastYearIn vs) → ⊥) where
-    pub line-wrong : (w : Wrong) → w ≡ wrongIn (dueAt (lastYearIn vs) i) line → (w .problem ≡ 0 → ⊥)
-        → readLine n i vs line ≡ typed (w .problem) n i (w .cell) (wordIn w line) vs
+  module _ (filled : isBare line ≡ false) (due : i ≡ linesIn history (lastYearIn vs) → ⊥) where
+    pub line-wrong : (w : Wrong) → w ≡ wrongIn (dueIn history (lastYearIn vs) i) line → (w .problem ≡ 0 → ⊥)
+        → readLine history n i vs line ≡ typed (w .problem) n i (w .cell) (wordIn w line) vs
     unfolding readLine
-    line-wrong w e h = rw (filled, ne-eqb i (lineCount (lastYearIn vs)) due, ← e, ne-eqb (w .problem) 0 h)
+    line-wrong w e h = rw (filled, ne-eqb i (linesIn history (lastYearIn vs)) due, ← e, ne-eqb (w .problem) 0 h)
 
-    pub line-fine : (w : Wrong) → w ≡ wrongIn (dueAt (lastYearIn vs) i) line → w .problem ≡ 0
-        → readLine n i vs line ≡ fine n (suc i) (vs ++ map wholeOf (cellsOf line))
+    pub line-fine : (w : Wrong) → w ≡ wrongIn (dueIn history (lastYearIn vs) i) line → w .problem ≡ 0
+        → readLine history n i vs line ≡ fine n (suc i) (vs ++ map wholeOf (cellsOf line))
     unfolding readLine
-    line-fine w e h = rw (filled, ne-eqb i (lineCount (lastYearIn vs)) due, ← e, eq-eqb (w .problem) 0 h)
+    line-fine w e h = rw (filled, ne-eqb i (linesIn history (lastYearIn vs)) due, ← e, eq-eqb (w .problem) 0 h)
 
 -- nothing is stored, and a word or none is put
 pub reads-kept : {t : Typed} {w : ℕ} {word₀ word : List ℕ} (list : List ℤ) (p n i c m : ℕ) (xs : List ℕ) → t ≡ typed p n i c xs (take m list) → length (take m list) ≡ m

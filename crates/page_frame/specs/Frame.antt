@@ -6,7 +6,7 @@ use Rattle.composing.specs.Text.{ascii, decimal}
 use Rattle.titles.specs.Titles.{titleIn}
 use Rattle.parts.specs.Parts.{only}
 
--- the style after the valuation year at the foot of a sheet: the page and its text; tables and their shades; plots; paper
+-- the style after the year at the foot of a sheet: the page and its text; tables and their shades; plots; paper
 unfoldable pub pageStyle : List ℕ
 pageStyle =
     ascii "\";font:8px Arial,sans-serif}@bottom-right{content:counter(page) \" / \" counter(pages);font:8px Arial,sans-serif}}\n*{print-color-adjust:exact;-webkit-print-color-adjust:exact}\nbody{font:15px/1.45 Arial,Helvetica,sans-serif;max-width:1240px;margin:0 auto;padding:12px 16px;color:#111;background:#fff}\nh1{font-size:1.6em;line-height:1.2;margin:.3em 0;overflow-wrap:anywhere}\nh2{font-size:1.2em;margin:2em 0 .4em;border-bottom:2px solid #1b4f7a}\np{max-width:52em;margin:.4em 0}\ncode{font-size:.85em;overflow-wrap:anywhere}\n.p{display:flex;flex-wrap:wrap;gap:0 36px;align-items:flex-start}\n.t,figure{overflow-x:auto;max-width:100%;margin:.9em 0}\n.p figure{flex-grow:1}\n"
@@ -30,22 +30,26 @@ paperStyle =
 unfoldable pub style : List ℕ
 style = pageStyle ++ (tableStyle ++ (shadeStyle ++ (plotStyle ++ paperStyle)))
 
--- what stands before the style: the title, and the foot of a sheet up to the valuation year
-unfoldable pub headStart : List ℕ → ℕ → List ℕ
-headStart title year =
+-- what stands before the style: the title, and the foot of a sheet up to the words and the year that it ends with
+unfoldable pub headStart : List ℕ → List ℕ → ℕ → List ℕ
+headStart title words year =
     ascii "<!DOCTYPE html>\n<html lang=\"en\">\n<head>\n<meta charset=\"utf-8\">\n<meta name=\"viewport\" content=\"width=device-width,initial-scale=1\">\n<title>"
     ++ (titleIn true title
-    ++ (ascii "</title>\n<style>\n@page{size:A4 landscape;margin:11mm 10mm 14mm;@bottom-left{content:\"Doonamurk 1.0, valuation year " ++ decimal year))
+    ++ (ascii "</title>\n<style>\n@page{size:A4 landscape;margin:11mm 10mm 14mm;@bottom-left{content:\"Doonamurk 1.0, " ++ (words ++ decimal year)))
 
-unfoldable pub webStart : List ℕ → ℕ → List ℕ
-webStart title year = headStart title year ++ (style ++ (ascii "</style>\n</head>\n<body>\n<h1>" ++ (titleIn true title ++ ascii "</h1>\n")))
+unfoldable pub webStart : List ℕ → List ℕ → ℕ → List ℕ
+webStart title words year = headStart title words year ++ (style ++ (ascii "</style>\n</head>\n<body>\n<h1>" ++ (titleIn true title ++ ascii "</h1>\n")))
 
--- the start of the page: on the page of text the title alone
+-- the start of a page: on a page of text the title alone
 unfoldable pub textStart : List ℕ → List ℕ
 textStart title = titleIn false title ++ ascii "\n"
 
+unfoldable pub startWith : Bool → List ℕ → List ℕ → ℕ → List ℕ
+startWith html title words year = cond html (webStart title words year) (textStart title)
+
+-- that of a record's page, with the valuation year
 unfoldable pub pageStart : Bool → List ℕ → ℕ → List ℕ
-pageStart html title year = cond html (webStart title year) (textStart title)
+pageStart html title year = startWith html title (ascii "valuation year ") year
 
 -- and its end
 unfoldable pub pageEnd : Bool → List ℕ

@@ -4,9 +4,9 @@ use composing::put_decimal;
 use parts::put_only;
 use titles::put_title;
 ghost use Rattle.composing.specs.Text.{Put};
-ghost use Rattle.page_frame.specs.Frame.{style, headStart, webStart, textStart, pageStart, pageEnd};
+ghost use Rattle.page_frame.specs.Frame.{style, headStart, webStart, textStart, startWith, pageStart, pageEnd};
 
-// The style after the valuation year at the foot of a sheet.
+// The style after the year at the foot of a sheet.
 fn put_style(out: &mut [u8], at: usize) -> usize
     ensures { λ r. ⌜ Put (now (out .entry)) (now (out .exit)) at r style ⌝ }
 {
@@ -38,8 +38,8 @@ fn put_style(out: &mut [u8], at: usize) -> usize
 }
 
 // What stands before it.
-fn put_head_start(out: &mut [u8], at: usize, title: &[u8], year: u64) -> usize
-    ensures { λ r. ⌜ Put (now (out .entry)) (now (out .exit)) at r (headStart (now (title .entry)) year) ⌝ }
+fn put_head_start(out: &mut [u8], at: usize, title: &[u8], words: &[u8], year: u64) -> usize
+    ensures { λ r. ⌜ Put (now (out .entry)) (now (out .exit)) at r (headStart (now (title .entry)) (now (words .entry)) year) ⌝ }
 {
     let a = put_bytes(
         out,
@@ -50,16 +50,17 @@ fn put_head_start(out: &mut [u8], at: usize, title: &[u8], year: u64) -> usize
     let c = put_bytes(
         out,
         b,
-        b"</title>\n<style>\n@page{size:A4 landscape;margin:11mm 10mm 14mm;@bottom-left{content:\"Doonamurk 1.0, valuation year ",
+        b"</title>\n<style>\n@page{size:A4 landscape;margin:11mm 10mm 14mm;@bottom-left{content:\"Doonamurk 1.0, ",
     );
-    put_decimal(out, c, year)
+    let d = put_bytes(out, c, words);
+    put_decimal(out, d, year)
 }
 
 // The start of the page of HTML.
-fn put_web_start(out: &mut [u8], at: usize, title: &[u8], year: u64) -> usize
-    ensures { λ r. ⌜ Put (now (out .entry)) (now (out .exit)) at r (webStart (now (title .entry)) year) ⌝ }
+fn put_web_start(out: &mut [u8], at: usize, title: &[u8], words: &[u8], year: u64) -> usize
+    ensures { λ r. ⌜ Put (now (out .entry)) (now (out .exit)) at r (webStart (now (title .entry)) (now (words .entry)) year) ⌝ }
 {
-    let a = put_head_start(out, at, title, year);
+    let a = put_head_start(out, at, title, words, year);
     let b = put_style(out, a);
     let c = put_bytes(out, b, b"</style>\n</head>\n<body>\n<h1>");
     let d = put_title(out, c, true, title);
@@ -74,15 +75,29 @@ fn put_text_start(out: &mut [u8], at: usize, title: &[u8]) -> usize
     put_bytes(out, end, b"\n")
 }
 
-// The start of the page.
-pub fn put_page_start(out: &mut [u8], at: usize, html: bool, title: &[u8], year: u64) -> usize
-    ensures { λ r. ⌜ Put (now (out .entry)) (now (out .exit)) at r (pageStart html (now (title .entry)) year) ⌝ }
+// The start of a page, the words and the year at the foot of its sheets given.
+pub fn put_start_with(
+    out: &mut [u8],
+    at: usize,
+    html: bool,
+    title: &[u8],
+    words: &[u8],
+    year: u64,
+) -> usize
+    ensures { λ r. ⌜ Put (now (out .entry)) (now (out .exit)) at r (startWith html (now (title .entry)) (now (words .entry)) year) ⌝ }
 {
     if html {
-        put_web_start(out, at, title, year)
+        put_web_start(out, at, title, words, year)
     } else {
         put_text_start(out, at, title)
     }
+}
+
+// That of a record's page.
+pub fn put_page_start(out: &mut [u8], at: usize, html: bool, title: &[u8], year: u64) -> usize
+    ensures { λ r. ⌜ Put (now (out .entry)) (now (out .exit)) at r (pageStart html (now (title .entry)) year) ⌝ }
+{
+    put_start_with(out, at, html, title, b"valuation year ", year)
 }
 
 // And its end.

@@ -1,6 +1,6 @@
 -- The labels as the code holds them, and the table place by place. Assumes nothing.
 use mathlib.Core.Path.{_≡_, refl, sym, _∙_}
-use mathlib.Core.Bool.{cond}
+use mathlib.Core.Bool.{Bool, false, cond}
 use mathlib.Core.List.{List, []}
 use Prim.Native.Nat.{ℕ, zero, suc, _+_, _-_, _*_, _≤_, _<_}
 use native.Mathlib.Omega.{arith}
@@ -19,10 +19,10 @@ use Rattle.composing.proofs.Puts.{put-back, put-length}
 use Rattle.scanning.specs.Parts.{among, before, until, from, past, onto, pieces}
 use Rattle.separating.specs.Separators.{separators}
 use Rattle.cells.specs.Cells.{fromLabel, afterLabel, unspaced, trimmed, unquoted, cellFrom, filled, used, cellsBy, decider, cellsText, cellsOf}
-use Rattle.sheet.specs.Table.{labels, due, lineCount, dueAt, startAt}
+use Rattle.sheet.specs.Table.{labels, due, lineCount, dueAt, dueIn, startIn, startAt}
 
 -- the words of the code's text are the labels: by computing
-pub labels-are : cellsOf (ascii "labels k exposures paid indices reporting weight ulae tail") ≡ labels
+pub labels-are : cellsOf (ascii "labels k exposures paid indices reporting weight ulae tail years width") ≡ labels
 unfolding labels cellsOf decider cellsText cellsBy used filled cellFrom unquoted trimmed unspaced separators afterLabel fromLabel pieces onto past from until before among every
 labels-are = refl
 
@@ -37,7 +37,9 @@ label-short (suc (suc (suc (suc zero)))) = omega arith
 label-short (suc (suc (suc (suc (suc zero))))) = omega arith
 label-short (suc (suc (suc (suc (suc (suc zero)))))) = omega arith
 label-short (suc (suc (suc (suc (suc (suc (suc zero))))))) = omega arith
-label-short (suc (suc (suc (suc (suc (suc (suc (suc row)))))))) = omega arith
+label-short (suc (suc (suc (suc (suc (suc (suc (suc zero)))))))) = omega arith
+label-short (suc (suc (suc (suc (suc (suc (suc (suc (suc zero))))))))) = omega arith
+label-short (suc (suc (suc (suc (suc (suc (suc (suc (suc (suc row)))))))))) = omega arith
 
 -- a label put into nine bytes
 module _ (row n : ℕ) (b : List ℕ) (p : Put (replicate 9 0) b 0 n (getD labels row [])) where
@@ -47,9 +49,12 @@ module _ (row n : ℕ) (b : List ℕ) (p : Put (replicate 9 0) b 0 n (getD label
   pub label-back : take n b ≡ getD labels row []
   label-back = put-back p (label-short row)
 
+pub start-more : (history : Bool) (n place : ℕ) → startIn history n (suc place) ≡ startIn history n place + dueIn history n place .count
+unfolding startIn
+start-more history n place = total-more (λ i. dueIn history n i .count) place
+
 pub line-start-more : (k place : ℕ) → startAt k (suc place) ≡ startAt k place + dueAt k place .count
-unfolding startAt
-line-start-more k place = total-more (λ i. dueAt k i .count) place
+line-start-more k place = start-more false k place
 
 -- the lines of the increments, and those after them
 pub due-paid : (k i : ℕ) → i ≤ k → dueAt k (suc (suc i)) ≡ due 2 (k + 1 - i) (negℤ (pos mostAmount)) (pos mostAmount)
@@ -88,7 +93,7 @@ module _ (k place : ℕ) where
 
 -- how many numbers the lines before a place take: up to an origin year's increments, and all of them
 start-paid : (k i : ℕ) → i ≤ k + 1 → startAt k (suc (suc i)) ≡ k + 2 + rowStart k i
-unfolding startAt dueAt rowStart upTo total
+unfolding startIn dueAt rowStart upTo total
 start-paid k zero h = omega arith
 start-paid k (suc i) h =
     let e : k + 2 + rowStart k i + (k + 1 - i) ≡ k + 2 + (rowStart k i + (k + 1 - i)) = omega arith in
@@ -117,6 +122,6 @@ start-all k =
 
 -- there is room for the numbers of a line among 203
 pub start-room : (k place : ℕ) → k < 16 → place < lineCount k → startAt k place + dueAt k place .count ≤ mostFields
-unfolding startAt
+unfolding startIn
 start-room k place h l =
     omega (arith, line-start-more k place, total-part (λ i. dueAt k i .count) (suc place) (lineCount k) l, start-all k, cells-most k h)

@@ -18,7 +18,7 @@ use Rattle.inflation_line.specs.declared.Fault.{Fault}
 use Rattle.inflation_line.specs.InflationLine.{isInflation, shapeOf, fault, faultIn}
 use Rattle.sheet.specs.declared.Due.{Due}
 use Rattle.sheet.specs.declared.Wrong.{Wrong}
-use Rattle.sheet.specs.Table.{labelDue, lineCount, indicesPlace, dueAt, dueLines}
+use Rattle.sheet.specs.Table.{labelDue, indicesPlace, dueLines, linesIn, dueIn}
 
 -- Writing.
 
@@ -91,39 +91,45 @@ typed p n i c w vs = record { problem = p; line = n; place = i; cell = c; word =
 abbrev pub fine : ℕ → ℕ → List ℤ → Typed
 fine n i vs = typed 0 n i 0 [] vs
 
--- line n held against the line due at place i, after the numbers vs: 6 where none is due any more
-unfoldable pub readLine : ℕ → ℕ → List ℤ → List ℕ → Typed
-readLine n i vs line =
+-- line n of a history, or of figures, held against the line due at place i, after the numbers vs: 6 where none is due any more
+unfoldable pub readLine : Bool → ℕ → ℕ → List ℤ → List ℕ → Typed
+readLine history n i vs line =
     let k = lastYearIn vs in
-    let w = wrongIn (dueAt k i) line in
+    let w = wrongIn (dueIn history k i) line in
     cond (isBare line) (fine n i vs)
-    (cond (eqb i (lineCount k)) (typed 6 n i 0 (labelOf line) vs)
+    (cond (eqb i (linesIn history k)) (typed 6 n i 0 (labelOf line) vs)
     (cond (eqb (w .problem) 0) (fine n (suc i) (vs ++ map wholeOf (cellsOf line))) (typed (w .problem) n i (w .cell) (wordIn w line) vs)))
 
--- whether a line of inflation stands at a place where the indices are due, and makes them
-unfoldable pub standsForIndices : ℕ → ℕ → List ℕ → Bool
-standsForIndices k i line = eqb i (indicesPlace k) && (isInflation line && eqb (faultIn (k + 1) line .kind) 0)
+-- whether a line of inflation stands at a place of figures where the indices are due, and makes them
+unfoldable pub standsForIndices : Bool → ℕ → ℕ → List ℕ → Bool
+standsForIndices history k i line = not history && (eqb i (indicesPlace k) && (isInflation line && eqb (faultIn (k + 1) line .kind) 0))
 
 -- the indices that it makes, one for each of the k + 1 years wanted
 unfoldable pub indicesMade : ℕ → List ℕ → List ℕ
 indicesMade k line = upTo (indexAfter (shapeOf line)) (k + 1)
 
--- line n held against the line due at place i, after the numbers vs, where a line of inflation may stand for the indices
-unfoldable pub readNext : ℕ → ℕ → List ℤ → List ℕ → Typed
-readNext n i vs line =
+-- line n held against the line due at place i, after the numbers vs, where of figures a line of inflation may stand for the indices
+unfoldable pub readNext : Bool → ℕ → ℕ → List ℤ → List ℕ → Typed
+readNext history n i vs line =
     let k = lastYearIn vs in
-    cond (standsForIndices k i line) (fine n (suc i) (vs ++ map pos (indicesMade k line))) (readLine n i vs line)
+    cond (standsForIndices history k i line) (fine n (suc i) (vs ++ map pos (indicesMade k line))) (readLine history n i vs line)
 
 -- the lines of a text, after t; 5 where they end before every line due was there
-unfoldable pub readLines : Typed → List (List ℕ) → Typed
-readLines t [] = cond (eqb (t .place) (lineCount (lastYearIn (t .numbers)))) t (typed 5 (t .line) (t .place) 0 [] (t .numbers))
-readLines t (l ∷ ls) =
-    let u = readNext (suc (t .line)) (t .place) (t .numbers) (contentOf l) in
-    cond (eqb (u .problem) 0) (readLines u ls) u
+unfoldable pub readLines : Bool → Typed → List (List ℕ) → Typed
+readLines history t [] = cond (eqb (t .place) (linesIn history (lastYearIn (t .numbers)))) t (typed 5 (t .line) (t .place) 0 [] (t .numbers))
+readLines history t (l ∷ ls) =
+    let u = readNext history (suc (t .line)) (t .place) (t .numbers) (contentOf l) in
+    cond (eqb (u .problem) 0) (readLines history u ls) u
 
 -- what reading a text comes to
-unfoldable pub readSheet : List ℕ → Typed
-readSheet text = readLines (fine 0 0 []) (lines (unmarked text))
+unfoldable pub readText : Bool → List ℕ → Typed
+readText history text = readLines history (fine 0 0 []) (lines (unmarked text))
+
+abbrev pub readSheet : List ℕ → Typed
+readSheet text = readText false text
+
+abbrev pub readHistory : List ℕ → Typed
+readHistory text = readText true text
 
 -- Asking a line of inflation, before anything else of a text but k is.
 
@@ -140,7 +146,7 @@ lineWanted inflation ls = contentOf (getD ls (linesBefore inflation ls) [])
 
 -- k of some lines: that of the first that is not bare, where it is as due, and 0 else
 unfoldable pub yearAsked : List (List ℕ) → ℕ
-yearAsked ls = lastYearIn (readLine 1 0 [] (lineWanted false ls) .numbers)
+yearAsked ls = lastYearIn (readLine false 1 0 [] (lineWanted false ls) .numbers)
 
 -- the first line of inflation
 abbrev pub inflationLine : List (List ℕ) → List ℕ

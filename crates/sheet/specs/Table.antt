@@ -1,19 +1,30 @@
--- The lines of a sheet of figures: one table, by which they are written, read and named. Assumes nothing.
+-- The lines of a sheet of figures: one table, by which they are written, read and named; and those of a history (docs/SHEET.md). Assumes nothing.
 use Prim.Native.Nat.{ℕ, _+_, _-_}
-use mathlib.Core.Bool.{cond}
+use mathlib.Core.Bool.{Bool, false, cond}
 use mathlib.Core.List.{List, [], _∷_}
 use lib.Dec.{eqb, ltb}
 use lib.IntN.{ℤ, pos, negℤ}
 use lib.ListN.{getD}
 use Rattle.rules.specs.Lists.{total, upTo}
-use Rattle.rules.specs.Record.{million, mostIndex, mostAmount}
+use Rattle.rules.specs.Record.{million, mostIndex, mostAmount, mostFields}
+use Rattle.rules.specs.History.{mostHistory, leastWidth, mostWidth, developmentYears}
 use Rattle.composing.specs.Text.{ascii}
 use Rattle.sheet.specs.declared.Due.{Due}
 
--- the label of each row of the record
+-- the label of each row of the record, and of the two that a history alone has
 unfoldable pub labels : List (List ℕ)
 labels =
-    ascii "k" ∷ ascii "exposures" ∷ ascii "paid" ∷ ascii "indices" ∷ ascii "reporting" ∷ ascii "weight" ∷ ascii "ulae" ∷ ascii "tail" ∷ []
+    ascii "k"
+    ∷ ascii "exposures"
+    ∷ ascii "paid"
+    ∷ ascii "indices"
+    ∷ ascii "reporting"
+    ∷ ascii "weight"
+    ∷ ascii "ulae"
+    ∷ ascii "tail"
+    ∷ ascii "years"
+    ∷ ascii "width"
+    ∷ []
 
 -- a line that is due: its row, how many numbers it takes, the least and the most that each may be
 abbrev pub due : ℕ → ℕ → ℤ → ℤ → Due
@@ -46,6 +57,39 @@ dueAt k place =
 unfoldable pub dueLines : ℕ → List Due
 dueLines k = upTo (dueAt k) (lineCount k)
 
+-- the line due at a place of a history of so many years
+unfoldable pub historyDueAt : ℕ → ℕ → Due
+historyDueAt years place =
+    cond (eqb place 0) (due 8 1 (pos 1) (pos mostHistory))
+    (cond (eqb place 1) (due 9 1 (pos leastWidth) (pos mostWidth))
+    (cond (eqb place 2) (due 1 years (pos 1) (pos million))
+    (due 2 (developmentYears years (place - 3)) (negℤ (pos mostAmount)) (pos mostAmount))))
+
+-- Both tables: that of a history, or that of figures, and n the first number read, years or k.
+
+-- how many lines there are
+abbrev pub linesIn : Bool → ℕ → ℕ
+linesIn history n = cond history (n + 3) (lineCount n)
+
+-- the line due at a place
+abbrev pub dueIn : Bool → ℕ → ℕ → Due
+dueIn history n place = cond history (historyDueAt n place) (dueAt n place)
+
 -- how many numbers the lines before a place take
-unfoldable pub startAt : ℕ → ℕ → ℕ
-startAt k place = total (upTo (λ i. dueAt k i .count) place)
+unfoldable pub startIn : Bool → ℕ → ℕ → ℕ
+startIn history n place = total (upTo (λ i. dueIn history n i .count) place)
+
+abbrev pub startAt : ℕ → ℕ → ℕ
+startAt k place = startIn false k place
+
+-- the most that the first number may be
+abbrev pub mostFirst : Bool → ℕ
+mostFirst history = cond history mostHistory 15
+
+-- the most numbers of a history, those of 64 years: years, width, exposures and increments
+abbrev pub mostNumbers : ℕ
+mostNumbers = 970
+
+-- how many numbers are made room for
+abbrev pub roomIn : Bool → ℕ
+roomIn history = cond history mostNumbers mostFields

@@ -115,7 +115,7 @@ pub fn put_label(out: &mut [u8], at: usize, row: usize) -> usize
         out,
         at,
         cell_at(
-            b"labels k exposures paid indices reporting weight ulae tail",
+            b"labels k exposures paid indices reporting weight ulae tail years width",
             row,
         ),
     )

@@ -1,6 +1,6 @@
 -- A line of inflation that stands for the indices is read as the line of the whole indices that it makes. Assumes nothing.
 use mathlib.Core.Path.{_≡_, refl, sym, _∙_}
-use mathlib.Core.Bool.{true, _&&_}
+use mathlib.Core.Bool.{true, false, _&&_}
 use mathlib.Core.List.{List, [], _∷_, _++_, map, map-append}
 use Prim.Native.Nat.{ℕ, zero, suc, _+_, _≤_, _<_}
 use native.Mathlib.Omega.{arith}
@@ -40,9 +40,9 @@ indices-okay f (suc n) h =
     rw (map-append pos (upTo f n) (f n ∷ []))
     (okay-more (pos 1, pos mostIndex) (map pos (upTo f n)) (pos (f n)) (indices-okay f n (λ i l. h i (omega arith))) (index-okay (f n) (h n (omega arith))))
 
-module _ (k i : ℕ) (line : List ℕ) (h : standsForIndices k i line ≡ true) where
+module _ (k i : ℕ) (line : List ℕ) (h : standsForIndices false k i line ≡ true) where
   place : i ≡ indicesPlace k
-  place = stands-place k i line h
+  place = stands-place false k i line h
 
   made-within : (n : ℕ) → n < k + 1 → (1 ≤ indexAfter (shapeOf line) n) × (indexAfter (shapeOf line) n ≤ mostIndex)
   unfolding standsForIndices
@@ -61,14 +61,14 @@ unfolding labels
 indices-label = refl
 
 -- wherever the line of inflation stands for the indices, that line is read as the same
-pub read-as-indices : (n i : ℕ) (vs : List ℤ) (line : List ℕ) → standsForIndices (lastYearIn vs) i line ≡ true
-    → readNext n i vs line ≡ readNext n i vs (wholeIndices (lastYearIn vs) line)
+pub read-as-indices : (n i : ℕ) (vs : List ℤ) (line : List ℕ) → standsForIndices false (lastYearIn vs) i line ≡ true
+    → readNext false n i vs line ≡ readNext false n i vs (wholeIndices (lastYearIn vs) line)
 unfolding indicesMade
 read-as-indices n i vs line h =
     let k = lastYearIn vs in
     let xs = map pos (indicesMade k line) in
     let e = place k i line h in
     let d : dueAt k i ≡ due 3 (k + 1) (pos 1) (pos mostIndex) = due-indices k i e in
-    let written : readNext n i vs (labelDue (dueAt k i) ++ spaced xs) ≡ fine n (suc i) (vs ++ xs) =
+    let written : readNext false n i vs (labelDue (dueAt k i) ++ spaced xs) ≡ fine n (suc i) (vs ++ xs) =
     written-read n i vs xs (λ z. omega arith) (rw d (made-count k line)) (rw d (indices-okay (indexAfter (shapeOf line)) (k + 1) (made-within k i line h))) in
-    next-made n i vs line h ∙ sym (rw (d, indices-label) at written)
+    next-made false n i vs line h ∙ sym (rw (d, indices-label) at written)

@@ -24,7 +24,7 @@ use Rattle.composing.specs.Text.{Put}
 use Rattle.composing.proofs.Puts.{put-back}
 use Rattle.sheet.specs.Table.{labels, lineCount, dueAt}
 use Rattle.kinds.specs.Kinds.{marked}
-use Rattle.sheet.specs.Sheet.{lineOf, linesOf, lastYearIn, sheetOf, unmarked, fine, readSheet, recordSize, packAnswer, packInto, faultOf, packedAnswer, packedInto}
+use Rattle.sheet.specs.Sheet.{lineOf, linesOf, lastYearIn, sheetOf, unmarked, fine, readText, readSheet, recordSize, packAnswer, packInto, faultOf, packedAnswer, packedInto}
 use Rattle.sheet_writing.specs.Shown.{shownText}
 use Rattle.sheet_writing.proofs.LinesPut.{countsOf, sheet-counts}
 use Rattle.sheet_writing.proofs.Unpacked.{accepted-fields}
@@ -55,7 +55,7 @@ module _ (k : ℕ) (vs : List ℤ) (f : RecordFields k vs) where
 
   -- the text of the fields of a record, read: nothing is wrong, every line due was there, and the numbers are the fields
   pub sheet-back : readSheet (sheetOf vs) ≡ fine (k + 9) (lineCount k) vs
-  unfolding readSheet dueAt total
+  unfolding readText dueAt total
   sheet-back =
       let ds = upTo (λ j. dueAt k (1 + j)) (k + 7) in
       let one : take 1 vs ≡ pos k ∷ [] = first-one vs k (omega (arith, f .size, fields-count k)) (f .first) in

@@ -50,14 +50,16 @@ other-label (suc (suc (suc (suc zero)))) = refl
 other-label (suc (suc (suc (suc (suc zero))))) = refl
 other-label (suc (suc (suc (suc (suc (suc zero)))))) = refl
 other-label (suc (suc (suc (suc (suc (suc (suc zero))))))) = refl
-other-label (suc (suc (suc (suc (suc (suc (suc (suc row)))))))) = refl
+other-label (suc (suc (suc (suc (suc (suc (suc (suc zero)))))))) = refl
+other-label (suc (suc (suc (suc (suc (suc (suc (suc (suc zero))))))))) = refl
+other-label (suc (suc (suc (suc (suc (suc (suc (suc (suc (suc row)))))))))) = refl
 
 -- so that a line as it was written is no line of inflation, and is read as due
 pub no-inflation : (d : Due) (xs : List ℤ) → Word (labelDue d) → isInflation (labelDue d ++ spaced xs) ≡ false
 unfolding isInflation
 no-inflation d xs w = rw (line-label (labelDue d) xs w) (other-label (d .row))
 
-read-plain : (n i : ℕ) (vs : List ℤ) (line : List ℕ) → isInflation line ≡ false → readNext n i vs line ≡ readLine n i vs line
+read-plain : (n i : ℕ) (vs : List ℤ) (line : List ℕ) → isInflation line ≡ false → readNext false n i vs line ≡ readLine false n i vs line
 unfolding readNext standsForIndices
 read-plain n i vs line h = rw (h, and-false (eqb i (indicesPlace (lastYearIn vs))))
 
@@ -120,19 +122,19 @@ line-sound d xs w e o =
 -- a line as it was written is read as its numbers
 pub written-read : (n i : ℕ) (us xs : List ℤ) → (i ≡ lineCount (lastYearIn us) → ⊥) → length xs ≡ dueAt (lastYearIn us) i .count
     → AllOkay (dueAt (lastYearIn us) i .least, dueAt (lastYearIn us) i .most) xs
-    → readNext n i us (labelDue (dueAt (lastYearIn us) i) ++ spaced xs) ≡ fine n (suc i) (us ++ xs)
+    → readNext false n i us (labelDue (dueAt (lastYearIn us) i) ++ spaced xs) ≡ fine n (suc i) (us ++ xs)
 written-read n i us xs left e o =
     let d = dueAt (lastYearIn us) i in
     let w = label-word (d .row) (row-small (lastYearIn us) i) in
     let l = labelDue d ++ spaced xs in
     rw (read-plain n i us l (no-inflation d xs w))
-    (line-fine n i us l (line-filled (labelDue d) xs w) left (wrong 0 0) (sym (line-sound d xs w e o)) refl
+    (line-fine false n i us l (line-filled (labelDue d) xs w) left (wrong 0 0) (sym (line-sound d xs w e o)) refl
     ∙ rw (line-cells (labelDue d) xs w, values-all (d .least, d .most) xs o))
 
 -- one line of a text
 pub one-line : (m i : ℕ) (us : List ℤ) (xs : List ℤ) (rest : List ℕ) → (i ≡ lineCount (lastYearIn us) → ⊥) → length xs ≡ dueAt (lastYearIn us) i .count
     → AllOkay (dueAt (lastYearIn us) i .least, dueAt (lastYearIn us) i .most) xs
-    → readLines (fine m i us) (lines (lineOf (dueAt (lastYearIn us) i) xs ++ rest)) ≡ readLines (fine (suc m) (suc i) (us ++ xs)) (lines rest)
+    → readLines false (fine m i us) (lines (lineOf (dueAt (lastYearIn us) i) xs ++ rest)) ≡ readLines false (fine (suc m) (suc i) (us ++ xs)) (lines rest)
 unfolding lineOf readLines
 one-line m i us xs rest left e o =
     let d = dueAt (lastYearIn us) i in
@@ -140,8 +142,8 @@ one-line m i us xs rest left e o =
     let l = labelDue d ++ spaced xs in
     let text : lineOf d xs ++ rest ≡ labelDue d ++ (spaced xs ++ (10 ∷ rest)) =
     append-assoc (labelDue d) (spaced xs ++ (10 ∷ [])) rest ∙ ap (λ (l : List ℕ). labelDue d ++ l) (append-assoc (spaced xs) (10 ∷ []) rest) in
-    let read : readNext (suc m) i us (contentOf l) ≡ fine (suc m) (suc i) (us ++ xs) = rw (line-content (labelDue d) xs w) (written-read (suc m) i us xs left e o) in
-    ap (λ (l : List ℕ). readLines (fine m i us) (lines l)) text ∙ rw (line-ends (labelDue d) xs rest w, read)
+    let read : readNext false (suc m) i us (contentOf l) ≡ fine (suc m) (suc i) (us ++ xs) = rw (line-content (labelDue d) xs w) (written-read (suc m) i us xs left e o) in
+    ap (λ (l : List ℕ). readLines false (fine m i us) (lines l)) text ∙ rw (line-ends (labelDue d) xs rest w, read)
 
 -- an empty line is no line of inflation
 pub empty-line : isInflation [] ≡ false
@@ -149,7 +151,7 @@ unfolding isInflation labelOf fromLabel from before until sameText
 empty-line = refl
 
 -- the end of a text, after its last line feed
-end-line : (k m : ℕ) (us : List ℤ) → lastYearIn us ≡ k → readLines (fine m (lineCount k) us) (lines []) ≡ fine (suc m) (lineCount k) us
+end-line : (k m : ℕ) (us : List ℤ) → lastYearIn us ≡ k → readLines false (fine m (lineCount k) us) (lines []) ≡ fine (suc m) (lineCount k) us
 unfolding readLines readLine pieces contentOf unreturned uncommented from before isBare every
 end-line k m us e = rw (read-plain (suc m) (lineCount k) us [] empty-line, eq-eqb (lineCount k) (lineCount (lastYearIn us)) (ap lineCount (sym e)))
 
@@ -208,7 +210,7 @@ split (suc n) r rs (v ∷ vs) s =
 
 -- the lines as they were written give the numbers back
 pub lines-sound : (k m i : ℕ) (us : List ℤ) (ds : List Due) (vs : List ℤ) → 1 ≤ length us → lastYearIn us ≡ k → Dues k i ds → EachWithin (dueRanges ds) vs
-    → readLines (fine m i us) (lines (linesOf ds vs)) ≡ fine (suc (m + length ds)) (lineCount k) (us ++ take (countsOf ds) vs)
+    → readLines false (fine m i us) (lines (linesOf ds vs)) ≡ fine (suc (m + length ds)) (lineCount k) (us ++ take (countsOf ds) vs)
 unfolding linesOf total
 lines-sound k m i us [] vs some e h s =
     let f : m + 0 ≡ m = omega arith in

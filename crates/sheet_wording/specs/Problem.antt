@@ -1,12 +1,12 @@
 -- What is wrong with a text of figures, in words (docs/SHEET.md). Assumes nothing.
 use Prim.Native.Nat.{ℕ}
-use mathlib.Core.Bool.{cond}
+use mathlib.Core.Bool.{Bool, cond}
 use mathlib.Core.List.{List, [], _∷_, _++_}
 use lib.Dec.{eqb}
 use lib.ListN.{getD, length, take}
 use Rattle.composing.specs.Text.{ascii, decimal, integer}
 use Rattle.sheet.specs.declared.Due.{Due}
-use Rattle.sheet.specs.Table.{labelDue, dueAt}
+use Rattle.sheet.specs.Table.{labelDue, dueIn}
 use Rattle.sheet.specs.Sheet.{Typed, lastYearIn}
 
 -- a word of the text
@@ -37,7 +37,7 @@ countText d c =
 unfoldable pub orInflation : Due → List ℕ
 orInflation d = cond (eqb (d .row) 3) (ascii " or `inflation`") []
 
--- the words of the problems 1 to 6 of `readSheet`, where d is due, about cell c and the word w
+-- the words of the problems 1 to 6 of `readText`, where d is due, about cell c and the word w
 unfoldable pub problemWords : Due → ℕ → List ℕ → List (List ℕ)
 problemWords d c w =
     []
@@ -53,6 +53,6 @@ problemWords d c w =
 unfoldable pub problemLine : ℕ → ℕ → Due → ℕ → List ℕ → List ℕ
 problemLine p n d c w = ascii "line " ++ (decimal n ++ (ascii ": " ++ (getD (problemWords d c w) p [] ++ ascii "\n")))
 
--- what is wrong with a text; of the word the first 20 bytes
-unfoldable pub problemText : Typed → List ℕ
-problemText t = problemLine (t .problem) (t .line) (dueAt (lastYearIn (t .numbers)) (t .place)) (t .cell) (take 20 (t .word))
+-- what is wrong with a text, of a history or of figures; of the word the first 20 bytes
+unfoldable pub problemText : Bool → Typed → List ℕ
+problemText history t = problemLine (t .problem) (t .line) (dueIn history (lastYearIn (t .numbers)) (t .place)) (t .cell) (take 20 (t .word))

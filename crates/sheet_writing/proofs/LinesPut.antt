@@ -14,7 +14,7 @@ use Rattle.layout.proofs.RecordSizes.{fields-count}
 use Rattle.composing.specs.Text.{Put, integer}
 use Rattle.composing.proofs.Puts.{put-append, put-three, put-same}
 use Rattle.sheet.specs.declared.Due.{Due}
-use Rattle.sheet.specs.Table.{dueAt, dueLines, startAt}
+use Rattle.sheet.specs.Table.{dueAt, dueLines, startIn, startAt}
 use Rattle.sheet.specs.Sheet.{spaced, lineOf, linesOf}
 use Rattle.sheet.proofs.Table.{start-all}
 
@@ -39,7 +39,7 @@ countsOf ds = total (map (λ d. d .count) ds)
 
 -- those of the lines of a sheet before a place, and of all of them
 counts-start : (k n : ℕ) → countsOf (upTo (dueAt k) n) ≡ startAt k n
-unfolding startAt
+unfolding startIn
 counts-start k n = ap total (map-upTo (λ d. d .count) (dueAt k) n)
 
 pub sheet-counts : (k : ℕ) → countsOf (dueLines k) ≡ fieldCount k

@@ -102,47 +102,74 @@ fn still_to_pay(r: &mut Random, limits: bool, size: i64) -> i64 {
     }
 }
 
-fn increment(r: &mut Random, character: Character, k: usize, i: usize, j: usize, size: i64) -> i64 {
-    let usual = size * r.between(70, 130) / 100 / (1 + j * j) as i64;
-    let late = 2 * j > k;
-    match character {
-        Character::Steady => usual + r.between(0, 9),
-        // The last development year pays next to nothing.
-        Character::LongTail if j == k => r.between(0, 2),
-        Character::LongTail => size * r.between(90, 110) / 100 / (1 + j as i64),
-        Character::Negative if j > 0 && r.one_in(4) => -usual / 2,
-        Character::Recoveries if late => -r.between(0, size / (8 * (k as i64 + 1)) + 1),
-        Character::Zeros if r.one_in(2) => 0,
-        Character::Limits => r.pick(&[0, 1, -1, 2, AMOUNT_MAX, AMOUNT_MAX - 1, -AMOUNT_MAX, size]),
-        Character::LargeExposures => r.between(AMOUNT_MAX / 100, AMOUNT_MAX) / (1 + (i + j) as i64),
-        Character::Anything => r.between(-AMOUNT_MAX, AMOUNT_MAX) >> r.below(34),
-        _ => usual,
+/// An account by chance: what it looks like, about how much development year 0 pays, and about how many claims an origin year has.
+pub struct Account {
+    character: Character,
+    size: i64,
+    claims: i64,
+}
+
+impl Account {
+    pub fn new(r: &mut Random) -> Account {
+        Account {
+            character: r.pick(&CHARACTERS),
+            size: r.spread(AMOUNT_MAX as u64 / 2) as i64,
+            claims: r.spread(EXPOSURE_MAX as u64 / 2) as i64,
+        }
+    }
+
+    /// What origin year i is paid in development year j, the last of which is k, in its range.
+    pub fn increment(&self, r: &mut Random, k: usize, i: usize, j: usize) -> i64 {
+        let size = self.size;
+        let usual = size * r.between(70, 130) / 100 / (1 + j * j) as i64;
+        let late = 2 * j > k;
+        let paid = match self.character {
+            Character::Steady => usual + r.between(0, 9),
+            // The last development year pays next to nothing.
+            Character::LongTail if j == k => r.between(0, 2),
+            Character::LongTail => size * r.between(90, 110) / 100 / (1 + j as i64),
+            Character::Negative if j > 0 && r.one_in(4) => -usual / 2,
+            Character::Recoveries if late => -r.between(0, size / (8 * (k as i64 + 1)) + 1),
+            Character::Zeros if r.one_in(2) => 0,
+            Character::Limits => {
+                r.pick(&[0, 1, -1, 2, AMOUNT_MAX, AMOUNT_MAX - 1, -AMOUNT_MAX, size])
+            }
+            Character::LargeExposures => {
+                r.between(AMOUNT_MAX / 100, AMOUNT_MAX) / (1 + (i + j) as i64)
+            }
+            Character::Anything => r.between(-AMOUNT_MAX, AMOUNT_MAX) >> r.below(34),
+            _ => usual,
+        };
+        paid.clamp(-AMOUNT_MAX, AMOUNT_MAX)
+    }
+
+    /// The claims of an origin year, in their range.
+    pub fn exposure(&self, r: &mut Random) -> u64 {
+        let claims = match self.character {
+            Character::Limits => at_limit(r, 1, EXPOSURE_MAX),
+            Character::LargeExposures => r.between(EXPOSURE_MAX - 100_000, EXPOSURE_MAX),
+            Character::Anything => r.between(1, EXPOSURE_MAX),
+            _ => self.claims + r.between(0, self.claims),
+        };
+        claims as u64
     }
 }
 
 /// Fields in range; whether a run accepts them is another matter.
 pub fn fields(r: &mut Random, k: usize) -> Given {
-    let character = r.pick(&CHARACTERS);
-    let size = r.spread(AMOUNT_MAX as u64 / 2) as i64;
-    let claims = r.spread(EXPOSURE_MAX as u64 / 2) as i64;
+    let account = Account::new(r);
     let mut increments = Vec::with_capacity(paper::cells(k));
     for i in 0..=k {
         for j in 0..=k - i {
-            let paid = increment(r, character, k, i, j, size);
-            increments.push(paid.clamp(-AMOUNT_MAX, AMOUNT_MAX));
+            increments.push(account.increment(r, k, i, j));
         }
     }
     let paid: i64 = increments.iter().sum();
-    let limits = matches!(character, Character::Limits);
+    let limits = matches!(account.character, Character::Limits);
     let many = |r: &mut Random, count: usize, one: &dyn Fn(&mut Random) -> i64| {
         (0..count).map(|_| one(r) as u64).collect::<Vec<u64>>()
     };
-    let exposures = many(r, k + 1, &|r| match character {
-        Character::Limits => at_limit(r, 1, EXPOSURE_MAX),
-        Character::LargeExposures => r.between(EXPOSURE_MAX - 100_000, EXPOSURE_MAX),
-        Character::Anything => r.between(1, EXPOSURE_MAX),
-        _ => claims + r.between(0, claims),
-    });
+    let exposures = (0..=k).map(|_| account.exposure(r)).collect();
     let mut indices = many(r, k + 1, &|r| {
         if limits {
             at_limit(r, 1, INDEX_MAX)
@@ -170,7 +197,7 @@ pub fn fields(r: &mut Random, k: usize) -> Given {
         reporting: reporting(r, k),
         weight: at_limit(r, 0, M) as u64,
         ulae,
-        tail: still_to_pay(r, limits, size) as u64,
+        tail: still_to_pay(r, limits, account.size) as u64,
     }
 }
 
@@ -782,6 +809,18 @@ fn set_to_edge(r: &mut Random, k: usize, question: u64) -> Given {
         *paid = (*paid).clamp(-AMOUNT_MAX, AMOUNT_MAX);
     }
     a
+}
+
+/// An account of any character, of halves, or at an edge of the questions that a separation asks.
+pub fn triangle(r: &mut Random, k: usize) -> Given {
+    match r.below(8) {
+        0..=2 => fields(r, k),
+        3 => halves(r, k),
+        _ => {
+            let question = r.pick(&[7, 8, 9, 10]);
+            set_to_edge(r, k, question)
+        }
+    }
 }
 
 /// The last year's ultimate at 10^12 or near it: a million claims, and the future indices raised until it is passed.

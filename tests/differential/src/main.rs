@@ -1,19 +1,20 @@
-//! Holds the proved reader, writer and engine against document 01 in plain Rust (`paper.rs`), on records made by chance from a seed, and the proved indices of
-//! inflation against document 02 (`inflation.rs`), on rates made by chance.
+//! Holds the proved reader, writer and engine against document 01 in plain Rust (`paper.rs`), on records made by chance from a seed, and against document 02 the
+//! proved indices of inflation (`inflation.rs`), on rates made by chance, and the proved windows of a history (`history.rs`), on histories made by chance.
 //!
 //!     differential [--seconds N] [--seed S] [--cases N]
+//!     differential --histories ..             the same, with a history in each case and nothing else
 //!     differential --records YEAR N FOLDER    writes N records that are accepted in this valuation year into the folder, one a file
 //!     differential --stream YEAR N FOLDER     writes N records of all kinds, damaged ones too, into the folder as one stream, `records`, the year in two
 //!                                             bytes and each record behind its length, and the line of each by plain Rust, `rows`
 //!
 //! Each case compares the answer and every entry of the lent buffer, those past the list too; a record is run in 2026, in 2027 and in one other valuation
-//! year. What is lent is the middle of a larger array, and what stands on both sides of it must stay. A call for inflation indices goes with each case, about
-//! a tenth of its time. A difference is printed and ends with status 1.
+//! year. What is lent is the middle of a larger array, and what stands on both sides of it must stay. A call for inflation indices goes with each case, and a
+//! history with every eighth, each about a tenth of the time. A difference is printed and ends with status 1.
 
 use differential::inflation::{self, Shape};
 use differential::paper::{self, Given};
 use differential::random::Random;
-use differential::{generate, rates, records};
+use differential::{generate, histories, history, rates, records};
 use doonamurk::{Fields, Indices};
 use std::panic::{catch_unwind, AssertUnwindSafe};
 use std::path::Path;
@@ -24,6 +25,8 @@ const SEED: u64 = 1977;
 const CASES: u64 = 400_000;
 /// From so many cases on, every answer must have been reached.
 const FAIR: u64 = 20_000;
+/// A history goes with one case of so many.
+const HISTORY_EVERY: u64 = 8;
 /// The entries on each side of what is lent.
 const GUARD: usize = 16;
 
@@ -32,7 +35,8 @@ const GROWTH: std::ops::RangeInclusive<usize> = 15..=17;
 
 /// How often each question said no (at 0: how often all said yes), by call; runs in valuation years before 2027 and from 2027 on apart; and how often one that
 /// is asked between 13 and 14 says no in 2027 of what one of those refuses too. Of the calls for inflation indices: how many were accepted, and how many 20 and
-/// 21 refused.
+/// 21 refused. Of the histories: how many were accepted, and how many 27 and 28 refused; of their positions: how many were accepted, and how many 7 to 10 refused;
+/// and how many of each number come directly after an accepted one.
 #[derive(Default)]
 struct Tally {
     plain: [u64; 20],
@@ -43,6 +47,9 @@ struct Tally {
     write: [u64; 20],
     back: u64,
     inflation: [u64; 3],
+    histories: [u64; 3],
+    positions: [u64; 5],
+    after_accepted: [u64; 5],
 }
 
 impl Tally {
@@ -59,6 +66,21 @@ impl Tally {
         println!("read, and written back to the same record: {}", self.back);
         let [accepted, twenty, twenty_one] = self.inflation;
         println!("inflation indices: {accepted}, refused 20: {twenty}, refused 21: {twenty_one}");
+        self.print_histories();
+    }
+
+    fn print_histories(&self) {
+        let [accepted, by_27, by_28] = self.histories;
+        println!("histories: {accepted}, refused 27: {by_27}, refused 28: {by_28}");
+        let [accepted, refused @ ..] = self.positions;
+        println!("their positions: {accepted}, refused 7 to 10: {refused:?}");
+        let after = &self.after_accepted[1..];
+        println!("of these directly after one that is accepted: {after:?}");
+    }
+
+    fn complete_histories(&self) -> bool {
+        let all = [&self.histories[..], &self.positions, &self.after_accepted];
+        all.into_iter().flatten().all(|&n| n > 0)
     }
 
     /// Every number that a call can answer has been answered, and no other; and every question between 13 and 14 has met each of the two.
@@ -70,7 +92,8 @@ impl Tally {
         let read = self.read[..6].iter().all(|&n| n > 0);
         let write = [0, 1, 2, 4, 5].iter().all(|&n| self.write[n] > 0);
         let inflation = self.inflation.iter().all(|&n| n > 0);
-        plain && corrected && met && read && write && self.back > 0 && inflation
+        let apart = inflation && self.complete_histories();
+        plain && corrected && met && read && write && self.back > 0 && apart
     }
 }
 
@@ -237,6 +260,53 @@ fn compare_indices(shape: Shape, years: u64) -> Result<u64, String> {
     ))
 }
 
+fn compare_history(
+    given: &history::Given,
+    length: usize,
+    pattern: i64,
+) -> Result<(u64, Vec<i64>), String> {
+    let history::Given {
+        years,
+        width,
+        exposures,
+        cells,
+    } = given;
+    let mut lent = Lent::new(length, |n| pattern ^ n as i64);
+    let mut theirs = lent.held().to_vec();
+    let ours = doonamurk::history(*years, *width, exposures, cells, lent.lend());
+    let answer = engine_number(ours);
+    let paper = history::history(*years, *width, exposures, cells, &mut theirs);
+    let expected = number(paper);
+    let untouched = answer == 0 || lent.unchanged();
+    if answer == expected && lent.held() == theirs && untouched && lent.guards_stand() {
+        return Ok((answer, theirs));
+    }
+    let mut said = format!(
+        "{given:?} with {length} entries\nengine answers {answer}, {:?}\npaper answers {expected}, {theirs:?}",
+        lent.held()
+    );
+    if !lent.guards_stand() {
+        said += "\nthe engine wrote beside the buffer";
+    }
+    Err(said)
+}
+
+fn history_case(r: &mut Random, tally: &mut Tally) -> Result<(), String> {
+    let (given, length) = histories::call(r);
+    let (answer, result) = compare_history(&given, length, r.number() as i64)?;
+    tally.histories[(answer as usize).saturating_sub(26)] += 1;
+    if answer == 0 {
+        let mut accepted_before = false;
+        for position in doonamurk::positions(given.width as usize, &result) {
+            let place = (position.refused as usize).saturating_sub(6);
+            tally.positions[place] += 1;
+            tally.after_accepted[place] += u64::from(accepted_before);
+            accepted_before = position.refused == 0;
+        }
+    }
+    Ok(())
+}
+
 fn case(r: &mut Random, tally: &mut Tally) -> Result<(), String> {
     let record = generate::record(r);
     let k = record.first().map_or(0, |byte| usize::from(byte >> 4));
@@ -303,6 +373,16 @@ fn case(r: &mut Random, tally: &mut Tally) -> Result<(), String> {
     Ok(())
 }
 
+/// Every part of a case by its place.
+fn whole_case(seed: u64, place: u64, tally: &mut Tally) -> Result<(), String> {
+    let mut r = Random::new(seed, place);
+    case(&mut r, tally)?;
+    if place % HISTORY_EVERY == 0 {
+        history_case(&mut r, tally)?;
+    }
+    Ok(())
+}
+
 fn write_records(valuation_year: u16, count: u64, folder: &Path) -> std::io::Result<()> {
     let mut results = [0; paper::LONGEST];
     let mut case = 0;
@@ -325,19 +405,24 @@ fn write_records(valuation_year: u16, count: u64, folder: &Path) -> std::io::Res
 type Writer = fn(u16, u64, &Path) -> std::io::Result<()>;
 
 struct Options {
+    histories: bool,
     seed: u64,
     cases: u64,
     seconds: Option<u64>,
 }
 
 fn options(arguments: &[String]) -> Option<Options> {
+    let histories = arguments
+        .first()
+        .is_some_and(|first| first == "--histories");
     let mut options = Options {
+        histories,
         seed: SEED,
         cases: CASES,
         seconds: None,
     };
     let mut counted = false;
-    for pair in arguments.chunks(2) {
+    for pair in arguments[usize::from(histories)..].chunks(2) {
         let value = pair.get(1)?.parse().ok()?;
         match pair[0].as_str() {
             "--seconds" => options.seconds = Some(value),
@@ -404,12 +489,13 @@ fn main() -> ExitCode {
         }
     }
     let Some(Options {
+        histories,
         seed,
         cases,
         seconds,
     }) = options(&arguments)
     else {
-        eprintln!("usage: differential [--seconds N] [--seed S] [--cases N] | --records YEAR N FOLDER | --stream YEAR N FOLDER");
+        eprintln!("usage: differential [--histories] [--seconds N] [--seed S] [--cases N] | --records YEAR N FOLDER | --stream YEAR N FOLDER");
         return ExitCode::from(2);
     };
 
@@ -419,7 +505,11 @@ fn main() -> ExitCode {
     let mut done = 0;
     while done < cases && end.map_or(true, |end| done % 256 != 0 || Instant::now() < end) {
         let outcome = catch_unwind(AssertUnwindSafe(|| {
-            case(&mut Random::new(seed, done), &mut tally)
+            if histories {
+                history_case(&mut Random::new(seed, done), &mut tally)
+            } else {
+                whole_case(seed, done, &mut tally)
+            }
         }));
         if let Err(difference) = outcome.unwrap_or_else(|_| Err("the panic above".into())) {
             println!("DIFFERENT: seed {seed}, case {done}: {difference}");
@@ -427,7 +517,13 @@ fn main() -> ExitCode {
         }
         done += 1;
     }
-    tally.print();
+    let complete = if histories {
+        tally.print_histories();
+        tally.complete_histories()
+    } else {
+        tally.print();
+        tally.complete()
+    };
     println!(
         "{done} cases of seed {seed} in {:.1} s, no difference",
         start.elapsed().as_secs_f64()
@@ -435,7 +531,7 @@ fn main() -> ExitCode {
     // A run of fair length that misses an answer tests less than it says.
     if done < FAIR {
         println!("fewer than {FAIR} cases: it was not asked whether every answer was reached");
-    } else if !tally.complete() {
+    } else if !complete {
         println!("an answer was never reached, or never two at once");
         return ExitCode::FAILURE;
     }

@@ -10,11 +10,12 @@ const S: u64 = 1_000_000_000;
 /// The unit of indices, reporting shares, weight, ratio and development factors, in millionths.
 const M: u64 = 1_000_000;
 
-const YEARS: usize = 16;
+/// The most years of a triangle.
+pub const YEARS: usize = 16;
 const CELLS: usize = 136;
 
-const EXPOSURE_MAX: u64 = 1_000_000;
-const AMOUNT_MAX: u64 = 10_000_000_000;
+pub const EXPOSURE_MAX: u64 = 1_000_000;
+pub const AMOUNT_MAX: u64 = 10_000_000_000;
 const INDEX_MAX: u64 = 5_000_000;
 const CUMULATIVE_MAX: i64 = 100_000_000_000;
 const ULTIMATE_MAX: u64 = 1_000_000_000_000;
@@ -310,7 +311,7 @@ pub fn write(given: &Given, record: &mut [u8]) -> Result<(), u64> {
 }
 
 /// 100 × increment / exposure to the nearest whole hundredth, halves to the even neighbour.
-fn average(increment: i64, exposure: u64) -> i64 {
+pub fn average(increment: i64, exposure: u64) -> i64 {
     let hundredths = 100 * increment.unsigned_abs();
     let (below, rest) = (hundredths / exposure, hundredths % exposure);
     // Twice the rest, and one more where the neighbour below is odd, is above the exposure where the neighbour above is due.
@@ -320,6 +321,58 @@ fn average(increment: i64, exposure: u64) -> i64 {
     } else {
         size as i64
     }
+}
+
+/// Shares r_0 to r_k and levels l_0 to l_k, and zeros behind them.
+pub struct Factors {
+    pub shares: [u64; YEARS],
+    pub levels: [u64; YEARS],
+}
+
+/// The shares and levels of a triangle of averages, of its columns v and its diagonals d, zeros behind those of year k: questions 7 to 10.
+#[inline]
+pub fn separate(
+    k: usize,
+    columns: &[i64; YEARS],
+    diagonals: &[i64; YEARS],
+) -> Result<Factors, u64> {
+    let negative = columns.iter().chain(diagonals).any(|&total| total < 0);
+    if negative || columns.iter().sum::<i64>() > S as i64 {
+        return Err(7);
+    }
+    let v = columns.map(|total| total as u64);
+    let d = diagonals.map(|total| total as u64);
+
+    // T_h less column h, and diagonal h − 1 more, is T_{h−1}.
+    let mut t = [0; YEARS];
+    t[k] = d[k];
+    for h in (1..=k).rev() {
+        if t[h] <= v[h] {
+            return Err(8);
+        }
+        t[h - 1] = t[h] - v[h] + d[h - 1];
+    }
+    let mut running = [0; YEARS];
+    running[k] = S;
+    for h in (1..=k).rev() {
+        running[h - 1] = running[h] * (t[h] - v[h]) / t[h];
+        if running[h - 1] == 0 {
+            return Err(9);
+        }
+    }
+    let mut shares = [0; YEARS];
+    let mut levels = [0; YEARS];
+    shares[0] = running[0];
+    for h in 1..=k {
+        shares[h] = running[h] - running[h - 1];
+    }
+    for h in 0..=k {
+        levels[h] = d[h] * S / running[h];
+        if levels[h] > S {
+            return Err(10);
+        }
+    }
+    Ok(Factors { shares, levels })
 }
 
 /// What is paid of each origin year after year k: questions 18 and 19.
@@ -519,49 +572,14 @@ fn work_out<const ROOM: usize, const LADDER: bool>(
             return Err(13);
         }
     }
-    let negative = columns.iter().chain(&diagonals).any(|&total| total < 0);
-    if negative || columns.iter().sum::<i64>() > S as i64 {
-        return Err(7);
-    }
-    let v = columns.map(|total| total as u64);
-    let d = diagonals.map(|total| total as u64);
-
-    // T_h less column h, and diagonal h − 1 more, is T_{h−1}.
-    let mut t = [0; YEARS];
-    t[k] = d[k];
-    for h in (1..=k).rev() {
-        if t[h] <= v[h] {
-            return Err(8);
-        }
-        t[h - 1] = t[h] - v[h] + d[h - 1];
-    }
-    let mut running = [0; YEARS];
-    running[k] = S;
-    for h in (1..=k).rev() {
-        running[h - 1] = running[h] * (t[h] - v[h]) / t[h];
-        if running[h - 1] == 0 {
-            return Err(9);
-        }
-    }
-    let mut shares = [0; YEARS];
-    let mut levels = [0; YEARS];
-    shares[0] = running[0];
-    for h in 1..=k {
-        shares[h] = running[h] - running[h - 1];
-    }
-    for h in 0..=k {
-        levels[h] = d[h] * S / running[h];
-        if levels[h] > S {
-            return Err(10);
-        }
-    }
+    let Factors { shares, levels } = separate(k, &columns, &diagonals)?;
     list.extend(&shares[..=k]);
     list.extend(&levels[..=k]);
 
     // Future levels L_1 to L_k, from place 0.
     let mut future = [0; YEARS];
     for (level, index) in future.iter_mut().zip(&figures.indices[..k]) {
-        *level = d[k] * index / M;
+        *level = diagonals[k] as u64 * index / M;
     }
     list.extend(&future[..k]);
 

@@ -33,7 +33,7 @@ fill-history-requires c κs =
 slice-aggregate-fill-positions : tie.Need-slice-aggregate-fill-positions
 slice-aggregate-fill-positions c =
     let s = c .before .before .before .before .before in
-    sym (ap length (c .before .before .fill-history .ensures) ∙ rows-long (s .args .years) (s .args .exposures .now) (s .args .cells .now) (s .pre .0 .few))
+    sym (ap length (c .before .before .fill-history .ensures) ∙ rows-long (s .args .years) (s .args .width) (s .args .exposures .now) (s .args .cells .now) (s .pre .0 .few))
 
 sub-fill-positions : tie.Need-sub-fill-positions
 sub-fill-positions c = search needs
@@ -48,11 +48,11 @@ fill-positions-requires : tie.Need-fill-positions-requires
 fill-positions-requires c κs =
     let s = c .before .before .before .before .before in
     let known = s .pre in
-    let rows = historyRows (s .args .years) (s .args .exposures .now) (s .args .cells .now) (s .args .years) in
-    let long : length rows ≡ mostHistory = rows-long (s .args .years) (s .args .exposures .now) (s .args .cells .now) (known .0 .few) in
-    let small = rows-small (s .args .years) (s .args .exposures .now) (s .args .cells .now) (known .1 .claims) (known .1 .amounts) in
+    let rows = historyRows (s .args .years) (s .args .width) (s .args .exposures .now) (s .args .cells .now) (s .args .years) in
+    let long : length rows ≡ mostHistory = rows-long (s .args .years) (s .args .width) (s .args .exposures .now) (s .args .cells .now) (known .0 .few) in
+    let small = rows-small (s .args .years) (s .args .width) (s .args .exposures .now) (s .args .cells .now) (known .1 .claims) (known .1 .amounts) in
     rw (c .before .before .fill-history .ensures)
-    ((small, omega (arith, known .0 .few, known .0 .wide, known .0 .within)), (omega (arith, known .0 .wide, known .0 .narrow), room (s .args .years) (s .args .width) (length (s .args .result .now)) (known .0 .wide) (known .1 .entries)))
+    ((small, omega (arith, known .0 .few, known .0 .wide, known .0 .within)), (omega (arith, known .0 .wide, known .0 .narrow), omega (arith, room (s .args .years) (s .args .width) (length (s .args .result .now)) (known .0 .wide) (known .1 .entries))))
 
 same-length : tie.Need-same-length
 same-length c = search needs
@@ -63,9 +63,9 @@ returns c =
     let n = s .args .exposures .now in
     let p = s .args .cells .now in
     let list = historyList (s .args .years) (s .args .width) n p in
-    let long = list-length (s .args .years) n p (s .args .width) (s .pre .0) in
+    let long = list-length (s .args .years) (s .args .width) n p (s .pre .0) in
     let filled : c .before .fill-positions .last .0 ≡ sets (s .args .result .now) 0 list
-    = rw (c .before .before .before .before .fill-history .ensures, list-is (s .args .years) n p (s .args .width) (s .pre .0)) at (c .before .fill-positions .ensures) in
+    = rw (c .before .before .before .before .fill-history .ensures, list-is (s .args .years) (s .args .width) n p (s .pre .0)) at (c .before .fill-positions .ensures) in
     filled ∙ sets-whole (s .args .result .now) list (long ∙ sym (s .pre .1 .entries))
 
 pub fill-list-spec : {M : Type 1} → statement M

@@ -21,7 +21,7 @@ values : (i : tie.After-inflation-indices) → i .inflation-indices .result .val
 values i = ap (λ (r : Indices). r .values) (i .inflation-indices .ensures) ∙ rw (i .before .shape-of .ensures)
 
 accepted : (i : tie.After-inflation-indices) → inflationAnswer (shapeOf (i .before .before .before .args .line .now)) (i .before .before .before .args .k + 1) ≡ 0
-accepted i = stands-accepted _ (i .before .before .before .args .place) _ (i .before .before .before .pre .1 .1)
+accepted i = stands-accepted (i .before .before .before .args .history) _ (i .before .before .before .args .place) _ (i .before .before .before .pre .1 .1)
 
 put-naturals-requires : tie.Need-put-naturals-requires
 put-naturals-requires c κs =

@@ -26,7 +26,7 @@ put-factors-requires c κs =
     let s = c .before .before .before .before .before in
     let q = square s in
     let both = factors-small q (s .args .k) in
-    ((omega arith, omega arith), rw (found .ensures .0, found .ensures .1) (omega (arith, answer-most q (s .args .k)), both))
+    ((omega arith, omega arith), rw (found .ensures .0, found .ensures .1) (omega (arith, answer-most q (s .args .k)), (λ i. omega (arith, both .0 i, both .1 i), λ i. omega (arith, both .0 i, both .1 i))))
 
 same-length : tie.Need-same-length
 same-length c = search needs

@@ -13,7 +13,7 @@ use Rattle.rules.specs.Lists.{upTo, total}
 use Rattle.rules.specs.Record.{mostFields}
 use Rattle.composing.specs.Text.{Put}
 use Rattle.composing.proofs.Puts.{put-none, put-length}
-use Rattle.sheet.specs.Table.{dueAt, dueLines, startAt}
+use Rattle.sheet.specs.Table.{dueAt, dueLines, startIn, startAt}
 use Rattle.sheet.specs.Sheet.{linesOf, lastYearIn, sheetOf}
 use Rattle.sheet.proofs.Table.{line-start-more, start-room}
 use Rattle.sheet_writing.proofs.LinesPut.{put-next-line}
@@ -46,7 +46,7 @@ add-n : tie.Need-add-n Inv-loop μ-loop
 add-n c = omega (arith, years c .1)
 
 loop-holds : tie.Need-loop-holds Inv-loop μ-loop
-unfolding startAt upTo total linesOf
+unfolding startIn upTo total linesOf
 loop-holds c = (years c .1, (refl, (omega arith, (refl, put-none _ _))))
 
 put-line-requires : tie.Need-put-line-requires Inv-loop μ-loop

@@ -11,7 +11,7 @@
 use differential::generate::LAST_PLAIN;
 use differential::random::Random;
 use differential::records::ALL_ASKED;
-use differential::{generate, paper, records};
+use differential::{generate, history, paper, records};
 use std::arch::global_asm;
 use std::hint::black_box;
 use std::io::{ErrorKind, Write};
@@ -387,10 +387,16 @@ fn indices() {
             ));
         }));
         rust = rust.min(batch(1000, || {
-            black_box(fading(black_box(rate), black_box(long_run), black_box(years)));
+            black_box(fading(
+                black_box(rate),
+                black_box(long_run),
+                black_box(years),
+            ));
         }));
     }
-    println!("\nSixteen indices of a fading rate of inflation, in one layout (nanoseconds a call)\n");
+    println!(
+        "\nSixteen indices of a fading rate of inflation, in one layout (nanoseconds a call)\n"
+    );
     println!("| engine | Rust | engine / Rust |\n|---|---|---|");
     println!(
         "| {} | {} | {:.2} |",
@@ -398,6 +404,64 @@ fn indices() {
         nanos(rust),
         engine / rust
     );
+}
+
+/// A history of the most years, accepted in every position: payments fall with the development year and rise with the payment year.
+fn long_history() -> (Vec<u64>, Vec<i64>) {
+    let exposures = (0..history::YEARS as u64).map(|i| 18_000 + 411 * i);
+    let row = |i| (0..history::row(history::YEARS, i)).map(move |j| (i, j));
+    let cells = (0..history::YEARS).flat_map(row);
+    let paid = |(i, j)| ((9_000_000 + 310_007 * (i + j)) >> (2 * j / 3)) as i64;
+    (exposures.collect(), cells.map(paid).collect())
+}
+
+/// The windows of the widest and of the least width over a history of the most years: the best batch of each side, in turn.
+fn windows() {
+    let (exposures, cells) = long_history();
+    let years = history::YEARS;
+    println!(
+        "\nEvery window of a history of {years} years, {} cells, in one layout (nanoseconds a call)\n",
+        cells.len()
+    );
+    println!("| width | positions | engine | Rust | engine / Rust |\n|---|---|---|---|---|");
+    for width in [paper::YEARS, 2] {
+        let count = history::entries(years, width);
+        let (mut ours, mut theirs) = (vec![-1; count], vec![-2; count]);
+        let given = (years as u64, width as u64, &exposures[..], &cells[..]);
+        let engine = |calls: usize, result: &mut [i64]| {
+            batch(calls, || {
+                let (years, width, exposures, cells) = black_box(given);
+                black_box(doonamurk::history(years, width, exposures, cells, result)).ok();
+                black_box(&result);
+            })
+        };
+        let rust = |calls: usize, result: &mut [i64]| {
+            batch(calls, || {
+                let (years, width, exposures, cells) = black_box(given);
+                black_box(history::history(years, width, exposures, cells, result)).ok();
+                black_box(&result);
+            })
+        };
+        let calls = (BATCH_NANOS / engine(20, &mut ours)) as usize + 1;
+        rust(1, &mut theirs);
+        assert_eq!(ours, theirs);
+        assert!(doonamurk::positions(width, &ours).all(|position| position.refused == 0));
+        let mut best = Times {
+            engine: f64::MAX,
+            rust: f64::MAX,
+        };
+        for _ in 0..PASSES * BATCHES {
+            best.engine = best.engine.min(engine(calls, &mut ours));
+            best.rust = best.rust.min(rust(calls, &mut theirs));
+        }
+        println!(
+            "| {width} | {} | {} | {} | {:.2} |",
+            years - width + 1,
+            nanos(best.engine),
+            nanos(best.rust),
+            best.engine / best.rust
+        );
+    }
 }
 
 /// Whether a record is accepted.
@@ -531,6 +595,7 @@ fn tables(programs: &[String]) -> Result<(), String> {
     let times = over_layouts(programs, rows.len())?;
     compare(&rows, &times)?;
     stages(&rows, &times);
+    windows();
     indices();
     many()?;
     machine(&load);
