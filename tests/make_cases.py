@@ -1,12 +1,13 @@
 #!/usr/bin/env python3
 """make_cases.py: writes the stored input and expected output of the test programs read_cases, write_cases, run_cases, inflation_cases and history_cases and of
-the programs reserve, reserve_many, gather, fields, report, report_html, csv, pack, unpack and rates, and the input of motor_account; the records of the examples
-from their texts, their pages and their lists as comma-separated values (tests/pages for the valuation year 2026, tests/pages/2027); records that question 7
-refuses, or 13 before it, with what is said of them (tests/refusals); and the texts that pack must accept or refuse, with the record of each or what pack says
-(tests/texts).
+the programs reserve, reserve_many, gather, fields, report, report_html, csv, pack, unpack, rates, history_report, history_report_html and history_report_csv, and
+the input of motor_account; the records of the examples from their texts, their pages and their lists as comma-separated values (tests/pages for the valuation
+year 2026, tests/pages/2027), and those of the examples of histories (tests/pages/history); records that question 7 refuses, or 13 before it, with what is said of
+them (tests/refusals); and the texts that pack must accept or refuse, with the record of each or what pack says (tests/texts), and those of histories
+(tests/history_texts).
 
-What is expected comes from model.py, inflation.py, history.py, page.py and sheet.py, which are written from documents 01 and 02 and from the docs and share
-nothing with the Rattle code.
+What is expected comes from model.py, inflation.py, history.py, page.py, history_page.py and sheet.py, which are written from documents 01 and 02 and from the docs
+and share nothing with the Rattle code.
 """
 import glob
 import os
@@ -15,6 +16,8 @@ import re
 from fractions import Fraction
 
 import history
+import history_page
+import history_texts
 import inflation
 import model
 import page
@@ -892,6 +895,8 @@ def main():
     given_pages()
     rates()
     texts()
+    histories()
+    history_texts.main()
 
 
 # the bits of rates: both limits, and what is no number and infinities
@@ -1477,6 +1482,25 @@ def texts():
         put(os.path.join(folder, name), data)
     for name in sorted(set(os.listdir(folder)) - set(made)):
         print(f"tests/texts/{name} is not made here")
+
+
+def histories():
+    """The pages and the list of every example of a history (tests/pages/history); one of them is what the programs are given."""
+    for path in sorted(glob.glob(os.path.join(HERE, "..", "examples", "history", "*.txt"))):
+        name = os.path.splitext(os.path.basename(path))[0]
+        with open(path, "rb") as text:
+            given = text.read()
+        listed, said = history_page.taken(given)
+        assert said is None, said
+        stored = os.path.join(HERE, "pages", "history", name)
+        put(stored + ".txt", history_page.pages(listed))
+        put(stored + ".html", history_page.pages(listed, True))
+        put(stored + ".csv", history_page.csv(listed))
+        if name == "liability_book":
+            first = 2005
+            store("history_report", of_report(0, given, first=first), history_page.pages(listed, first=first))
+            store("history_report_html", of_report(0, given, first=first), history_page.pages(listed, True, first=first))
+            store("history_report_csv", of_report(0, given, first=first), history_page.csv(listed, first))
 
 
 def row(year, record):

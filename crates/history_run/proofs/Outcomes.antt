@@ -1,8 +1,8 @@
 -- The outcomes of a text: it is not as due, its width is above its years, or it has a list. Assumes nothing.
-use mathlib.Core.Path.{_≡_, refl, sym, ap, ap₂, _∙_}
-use mathlib.Core.Bool.{Bool, true, false, cond}
+use mathlib.Core.Path.{_≡_, refl, _∙_}
+use mathlib.Core.Bool.{true, false, cond}
 use mathlib.Core.List.{List, []}
-use Prim.Native.Nat.{ℕ, _≤_, _<_}
+use Prim.Native.Nat.{ℕ, _+_, _-_, _*_, _≤_, _<_}
 use native.Mathlib.Omega.{arith}
 use borrow.Author.Tests.{eq-eqb, ne-eqb, le-leb, lt-leb}
 use lib.Dec.{leb}
@@ -10,14 +10,19 @@ use lib.IntN.{ℤ}
 use lib.ListN.{length}
 use lib.Seq.{sets}
 use Rattle.rules.specs.History.{historyCount, historyList, historyAnswer}
-use Rattle.composing.specs.Text.{Put}
 use Rattle.sheet.specs.Table.{mostNumbers}
 use Rattle.sheet.specs.Sheet.{readHistory}
+use Rattle.history_questions.specs.Asked.{Widths}
+use Rattle.history_places.proofs.Inside.{entry-inside}
 use Rattle.history_parts.specs.Parts.{exposuresAfter, incrementsAfter}
 use Rattle.history_wording.specs.Refused.{historySaid, historyRefusal}
 use Rattle.history_reading.specs.Taken.{historyNumbers}
 use Rattle.history_reading.proofs.Histories.{read-answer, stored-exposures, stored-increments}
-use Rattle.history_run.specs.Listed.{yearsOf, widthOf, exposuresOf, incrementsOf, answerOf, listOf, hasList, saidOf}
+use Rattle.history_run.specs.Listed.{mostListed, yearsOf, widthOf, exposuresOf, incrementsOf, answerOf, listOf, hasList, saidOf}
+
+-- a history that is accepted has a list of at most 1,617 entries
+pub room : (years width : ℕ) → Widths years width → (years - width + 1) * (1 + 2 * width) ≤ mostListed
+room years width k = omega (arith, entry-inside width (years - width) (2 * width) (omega (arith, k .few, k .within), k .narrow) (omega arith))
 
 module _ (text : List ℕ) where
   -- it is not as due

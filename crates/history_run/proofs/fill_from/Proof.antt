@@ -15,15 +15,10 @@ use Rattle.laws.proofs.Padded.{filled-length}
 use Rattle.history.proofs.Windows.{list-length}
 use Rattle.history_questions.specs.Asked.{Widths, History}
 use Rattle.history_questions.proofs.Passed.{accepted-known}
-use Rattle.history_places.proofs.Inside.{entry-inside}
 use Rattle.history_parts.specs.Parts.{exposuresAfter, incrementsAfter}
-use Rattle.history_run.specs.Listed.{mostListed}
+use Rattle.history_run.proofs.Outcomes.{room}
 use Rattle.history_run.proofs.fill_from.Statement.{statement}
 use Rattle.history_run.proofs.fill_from.Tie as tie
-
--- a history that is accepted has a list of at most 1,617 entries
-room : (years width : ℕ) → Widths years width → (years - width + 1) * (1 + 2 * width) ≤ mostListed
-room years width k = omega (arith, entry-inside width (years - width) (2 * width) (omega (arith, k .few, k .within), k .narrow) (omega arith))
 
 -- what is known of the history
 known : (s : tie.Start) → Widths (s .args .years) (s .args .width) × History (s .args .years) (s .args .width) (exposuresAfter (s .args .years) (s .args .numbers .now)) (incrementsAfter (s .args .years) (s .args .numbers .now)) (historyCount (s .args .years) (s .args .width))
