@@ -34,7 +34,6 @@ REFUSED = {
     9: "a running share A_h, the shares up to a year together, is below a billionth",
     10: "a level l_h is above 1,000,000,000 hundredths a claim",
 }
-TOO_WIDE = "refused 27: the history has no years or more than 64, or the width is not from 2 to 16, or is above the years"
 
 
 def taken(text):
@@ -50,9 +49,7 @@ def positions(numbers):
     years, width, rest = numbers[0], numbers[1], numbers[2:]
     exposures, cells = rest[:years], rest[years:]
     answer, entries = history.history(years, width, exposures, cells, max(history.result_count(years, width), 0))
-    if answer:
-        assert answer == 27
-        return None, TOO_WIDE.encode()
+    assert answer == 0
     each = 1 + 2 * width
     found = [entries[place:place + each] for place in range(0, len(entries), each)]
     return (years, width, [(entry[0], entry[1:1 + width], entry[1 + width:]) for entry in found]), None

@@ -13,7 +13,8 @@ PLAIN = "years 4\nwidth 3\nexposures 100 110 120 130\npaid 6000 3000 1000 500\np
 
 # Messages word for word, as docs/SHEET.md has them.
 SAID = {
-    "years 65\n": "refused 27: line 1: number 1 of `years` is `65`, and a whole number from 1 to 64 is due",
+    "years 65\n": "refused 27: line 1: number 1 of `years` is `65`, and a whole number from 2 to 64 is due",
+    "years 2\nwidth 3\n": "refused 27: line 2: number 1 of `width` is `3`, and a whole number from 2 to 2 is due",
     "years 4\nwidth 3\nexposures 100 0 120 130\n": "refused 28: line 3: number 2 of `exposures` is `0`, and a whole number from 1 to 1000000 is due",
     "years 4\nwidth 3\nexposures 100 110 120 130\npaid 1 2 3\n": "line 4: `paid` takes 4 numbers, and 3 stand there",
 }
@@ -59,6 +60,9 @@ def limits():
     for width in (1, 2, 16, 17, -3):
         yield f"width_{width}".replace("-", "minus_"), history(20, width)
     yield "width_above_the_years", history(5, 6)
+    yield "width_of_the_years", history(5, 5)
+    yield "width_above_the_years_and_an_exposure", with_line(3, "exposures 0 1", history(2, 3))
+    yield "width_above_the_years_and_a_count", with_line(3, "exposures 1", history(2, 3))
     for name, exposure in (("least", 1), ("most", 10**6), ("none", 0), ("past", 10**6 + 1), ("below", -1)):
         yield f"exposure_{name}", with_line(3, f"exposures 100 110 {exposure} 130")
     for name, paid in (("most", AMOUNT), ("least", -AMOUNT), ("past", AMOUNT + 1), ("below", -AMOUNT - 1)):

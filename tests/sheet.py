@@ -23,7 +23,7 @@ def table(k):
 def history_table(years):
     """The lines of a history of so many years, as table."""
     amount = 10**10
-    return ([("years", 1, 1, 64), ("width", 1, 2, 16), ("exposures", years, 1, 10**6)] +
+    return ([("years", 1, 2, 64), ("width", 1, 2, min(16, years)), ("exposures", years, 1, 10**6)] +
             [("paid", min(16, years - i), -amount, amount) for i in range(years)])
 
 

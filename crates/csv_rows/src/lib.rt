@@ -131,7 +131,7 @@ fn put_value(out: &mut [u8], at: usize, z: i64, unit: &[u8]) -> usize
 }
 
 // The line of an entry.
-fn put_line(
+pub fn put_line(
     out: &mut [u8],
     at: usize,
     name: &[u8],

@@ -37,7 +37,7 @@ fn fill_list(years: usize, width: usize, exposures: &[u64], cells: &[i64], resul
     fill_positions(result, &rows, width - 1, years - width + 1);
 }
 
-// Fills the list of the history in windows of a width, position by position, and answers 0, or leaves the lent result and answers 27 or 28, the number of the first of the
+// Fills the list of the history in windows of a width, position by position, and answers 0, or leaves the lent result as it was and answers 27 or 28, the number of the first of the
 // two questions that says no. Of every accepted call the list has the length of the result.
 #[no_mangle]
 pub extern "C" fn doonamurk_history(

@@ -18,7 +18,7 @@ use Rattle.frame_lengths.proofs.Texts.{each-most}
 use Rattle.frame_lengths.proofs.Frame.{with-most, end-most}
 use Rattle.history_places.specs.Places.{Windowed, Small}
 use Rattle.history_refusals.specs.Refusals.{someNumber, numberText, numberLine, refusals, refusalSection}
-use Rattle.history_page.specs.Page.{historyStart, historyYears, historyWidth, historyOpening, shareParagraph, shareSection, levelParagraph, levelSection, historyPage}
+use Rattle.history_page.specs.Page.{historyPageStart, historyYears, historyWidth, historyOpening, shareParagraph, shareSection, levelParagraph, levelSection, historyPage}
 use Rattle.history_lengths.specs.Page.{mostHistoryPage}
 use Rattle.history_lengths.proofs.Tables.{share-tables-most, level-tables-most}
 use Rattle.history_lengths.proofs.Plots.{drift-most}
@@ -31,8 +31,8 @@ given-most title short = go (eqb (length title) 0)
     go true = omega arith
     go false = short
 
-start-most : (html : Bool) (title : List ℕ) (first : ℕ) → length title ≤ 255 → length (historyStart html title first) ≤ 8000
-unfolding historyStart
+start-most : (html : Bool) (title : List ℕ) (first : ℕ) → length title ≤ 255 → length (historyPageStart html title first) ≤ 8000
+unfolding historyPageStart
 start-most html title first short =
     omega
     (arith, with-most html (cond (eqb (length title) 0) (ascii "Shares through a history") title) (ascii "history of the origin years from ") first, given-most title short)

@@ -15,8 +15,8 @@ use Rattle.drift_plot.specs.Drift.{drift}
 use Rattle.history_refusals.specs.Refusals.{refusalSection}
 
 -- the start, with a title of its own where none is given; a sheet's foot has the first origin year
-unfoldable pub historyStart : Bool → List ℕ → ℕ → List ℕ
-historyStart html title first =
+unfoldable pub historyPageStart : Bool → List ℕ → ℕ → List ℕ
+historyPageStart html title first =
     startWith html (cond (eqb (length title) 0) (ascii "Shares through a history") title) (ascii "history of the origin years from ") first
 
 -- the origin years, and the width of the windows
@@ -53,7 +53,7 @@ levelSection html first years width list =
 -- the page
 unfoldable pub historyPage : Bool → List ℕ → ℕ → ℕ → ℕ → List ℤ → List ℕ
 historyPage html title first years width list =
-    historyStart html title first
+    historyPageStart html title first
     ++ (historyOpening html first years width
     ++ (shareSection html first years width list
     ++ (levelSection html first years width list ++ (refusalSection html list width (positionCount years width) ++ pageEnd html))))

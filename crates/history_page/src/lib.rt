@@ -15,11 +15,11 @@ use rules::MOST_HISTORY_ENTRIES;
 ghost use Prim.Native.Nat.{_≤_};
 ghost use Rattle.composing.specs.Text.{Put};
 ghost use Rattle.history_places.specs.Places.{Windowed, Small};
-ghost use Rattle.history_page.specs.Page.{historyStart, historyYears, historyWidth, historyOpening, shareSection, levelSection, historyPage};
+ghost use Rattle.history_page.specs.Page.{historyPageStart, historyYears, historyWidth, historyOpening, shareSection, levelSection, historyPage};
 
 // The start.
 fn put_history_start(out: &mut [u8], at: usize, html: bool, title: &[u8], first: usize) -> usize
-    ensures { λ r. ⌜ Put (now (out .entry)) (now (out .exit)) at r (historyStart html (now (title .entry)) first) ⌝ }
+    ensures { λ r. ⌜ Put (now (out .entry)) (now (out .exit)) at r (historyPageStart html (now (title .entry)) first) ⌝ }
 {
     if title.len() == 0 {
         put_start_with(

@@ -7,7 +7,7 @@ use lib.IntN.{ℤ, pos, natAbs}
 use lib.ListN.{getD}
 use Rattle.rules.specs.History.{mostHistory, leastWidth, mostWidth}
 
--- what is asked of a history, of its windows and of its first origin year (question 27)
+-- what is asked of a history and of its windows (question 27), and of its first origin year
 pub record Windowed (years width first : ℕ) : Type 0 where
   pub years-most : years ≤ mostHistory
   pub width-least : leastWidth ≤ width

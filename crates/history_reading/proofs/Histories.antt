@@ -1,4 +1,4 @@
--- What a history that is read has: lengths and ranges, so that the call takes it wherever its width is at most its years. Assumes nothing.
+-- What a history that is read has: lengths and ranges, so that the call takes it. Assumes nothing.
 use mathlib.Core.Path.{_≡_, refl, sym, ap, ap₂, _∙_}
 use mathlib.Core.Bool.{Bool, true, false, cond, false≢true}
 use mathlib.Core.List.{List, [], _∷_, _++_, map}
@@ -12,7 +12,7 @@ use lib.Seq.{sets, sets-eq}
 use Rattle.rules.specs.Lists.{every, upTo}
 use Rattle.rules.specs.Questions.{firstNo}
 use Rattle.rules.specs.Record.{inRange, exposure, increment, million, mostAmount}
-use Rattle.rules.specs.History.{mostHistory, leastWidth, mostWidth, historyCells, historyCount, widthPasses, lengthsPass, historyPasses, historyQuestions, historyAnswer}
+use Rattle.rules.specs.History.{mostHistory, leastWidth, mostWidth, developmentYears, historyCells, historyCount, widthPasses, lengthsPass, historyPasses, historyQuestions, historyAnswer}
 use Rattle.laws.proofs.Lists.{both-left, both-right, length-upTo, every-yes, upTo-ext, upTo-self, upTo-both, map-upTo}
 use Rattle.sheet.specs.Table.{mostNumbers}
 use Rattle.sheet.specs.Sheet.{lastYearIn, readHistory}
@@ -22,9 +22,9 @@ use Rattle.history_parts.specs.Parts.{widthIn, exposuresAfter, incrementsAfter}
 use Rattle.history_reading.proofs.Ranges.{inside, rangeAt, Sound, history-sound}
 
 -- a number in the range of a width, of an exposure, of an increment
-width-inside : (v : ℤ) → inside (pos leastWidth, pos mostWidth) v ≡ true → (leastWidth ≤ natAbs v) × (natAbs v ≤ mostWidth)
-width-inside (pos n) h = (leb-true 2 n (both-left (leb 2 n) (leb n 16) h), leb-true n 16 (both-right (leb 2 n) (leb n 16) h))
-width-inside (negsuc n) h = absurd (false≢true h)
+width-inside : (most : ℕ) (v : ℤ) → inside (pos leastWidth, pos most) v ≡ true → (leastWidth ≤ natAbs v) × (natAbs v ≤ most)
+width-inside most (pos n) h = (leb-true 2 n (both-left (leb 2 n) (leb n most) h), leb-true n most (both-right (leb 2 n) (leb n most) h))
+width-inside most (negsuc n) h = absurd (false≢true h)
 
 whole-inside : (least most : ℕ) (v : ℤ) → inside (pos least, pos most) v ≡ true → pos (natAbs v) ≡ v
 whole-inside least most (pos n) h = refl
@@ -51,12 +51,6 @@ unfolding rangeAt
 range-increment years i =
     rw (ne-eqb (2 + years + i) 0 (λ e. omega arith), ne-eqb (2 + years + i) 1 (λ e. omega arith), le-ltb (2 + years + i) (2 + years) (omega arith))
 
--- questions 27 and 28 of which only the width against the years is open
-by-width : (b : Bool) → firstNo ((27, b) ∷ (28, true) ∷ []) ≡ cond b 0 27
-unfolding firstNo
-by-width true = refl
-by-width false = refl
-
 -- of a list whose front is stored, a number of the front
 pub stored-at : (list vs : List ℤ) (j : ℕ) → length vs ≤ length list → j < length vs → getD (sets list 0 vs) j (pos 0) ≡ getD vs j (pos 0)
 stored-at list vs j h l = ap (λ (xs : List ℤ). getD xs j (pos 0)) (sets-eq vs list 0 (omega arith)) ∙ List·getD-append vs (drop (0 + length vs) list) (pos 0) j l
@@ -79,9 +73,11 @@ module _ (text : List ℕ) (right : readHistory text .problem ≡ 0) where
   unfolding Sound
   at-place j l = history-sound text right j l
 
-  pub read-width : (leastWidth ≤ widthIn vs) × (widthIn vs ≤ mostWidth)
-  unfolding widthIn rangeAt
-  read-width = width-inside (getD vs 1 (pos 0)) (at-place 1 (omega (arith, read-count)))
+  pub read-width : (leastWidth ≤ widthIn vs) × ((widthIn vs ≤ mostWidth) × (widthIn vs ≤ years))
+  unfolding widthIn rangeAt developmentYears
+  read-width =
+      let width = width-inside (developmentYears years 0) (getD vs 1 (pos 0)) (at-place 1 (omega (arith, read-count))) in
+      (width .0, (omega (arith, width .1), omega (arith, width .1)))
 
   pub read-exposures : every (λ (x : ℕ). inRange exposure (pos x)) (exposuresAfter years vs) ≡ true
   unfolding exposuresAfter
@@ -107,8 +103,8 @@ module _ (text : List ℕ) (right : readHistory text .problem ≡ 0) where
   first-two : upTo (λ (i : ℕ). getD vs i (pos 0)) 2 ≡ pos years ∷ pos (widthIn vs) ∷ []
   unfolding upTo widthIn rangeAt
   first-two =
-      ap₂ (λ (v w : ℤ). v ∷ w ∷ []) (sym (whole-inside 1 mostHistory (getD vs 0 (pos 0)) (at-place 0 (omega (arith, read-count)))))
-      (sym (whole-inside leastWidth mostWidth (getD vs 1 (pos 0)) (at-place 1 (omega (arith, read-count)))))
+      ap₂ (λ (v w : ℤ). v ∷ w ∷ []) (sym (whole-inside leastWidth mostHistory (getD vs 0 (pos 0)) (at-place 0 (omega (arith, read-count)))))
+      (sym (whole-inside leastWidth (developmentYears years 0) (getD vs 1 (pos 0)) (at-place 1 (omega (arith, read-count)))))
 
   whole-exposures : upTo (λ (i : ℕ). getD vs (2 + i) (pos 0)) years ≡ map pos (exposuresAfter years vs)
   unfolding exposuresAfter
@@ -124,21 +120,22 @@ module _ (text : List ℕ) (right : readHistory text .problem ≡ 0) where
       ∙ upTo-both f (2 + years) (historyCells years)
       ∙ ap (λ (xs : List ℤ). xs ++ upTo (λ (i : ℕ). f (2 + years + i)) (historyCells years)) (upTo-both f 2 years ∙ ap₂ _++_ first-two whole-exposures)
 
-  -- with a result as long as needed the call answers 0, or 27 where the width is above the years
-  pub read-answer : historyAnswer years (widthIn vs) (exposuresAfter years vs) (incrementsAfter years vs) (historyCount years (widthIn vs)) ≡ cond (leb (widthIn vs) years) 0 27
-  unfolding historyAnswer historyQuestions widthPasses historyPasses lengthsPass
+  -- with a result as long as needed the call answers 0
+  pub read-answer : historyAnswer years (widthIn vs) (exposuresAfter years vs) (incrementsAfter years vs) (historyCount years (widthIn vs)) ≡ 0
+  unfolding historyAnswer historyQuestions widthPasses historyPasses lengthsPass firstNo
   read-answer =
       rw (
         le-leb years mostHistory (read-years .1),
         le-leb leastWidth (widthIn vs) (read-width .0),
-        le-leb (widthIn vs) mostWidth (read-width .1),
+        le-leb (widthIn vs) mostWidth (read-width .1 .0),
+        le-leb (widthIn vs) years (read-width .1 .1),
         eq-eqb (length (exposuresAfter years vs)) years exposures-long,
         eq-eqb (length (incrementsAfter years vs)) (historyCells years) increments-long,
         eq-eqb (historyCount years (widthIn vs)) (historyCount years (widthIn vs)) refl,
         read-exposures,
         read-increments,
       )
-      (by-width (leb (widthIn vs) years))
+      refl
 
   -- the list that they are stored in has them too
   module _ (list : List ℤ) (long : length list ≡ mostNumbers) where

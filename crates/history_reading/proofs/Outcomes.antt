@@ -31,7 +31,7 @@ module _ (text : List ℕ) where
     numbers = rw (eq-eqb (readHistory text .problem) 0 right)
 
     pub right-few : (lastYearIn (historyNumbers text) ≤ mostHistory) × (widthIn (historyNumbers text) ≤ mostWidth)
-    right-few = rw numbers (read-years text right .1, read-width text right .1)
+    right-few = rw numbers (read-years text right .1, read-width text right .1 .0)
 
     pub right-said : [] ≡ historySaid text
     unfolding historySaid

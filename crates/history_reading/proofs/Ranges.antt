@@ -13,7 +13,7 @@ use lib.Seq.{getD-append-add}
 use lib.Signed.{leZ}
 use Rattle.rules.specs.Lists.{every, upTo, total}
 use Rattle.rules.specs.Record.{million, mostAmount}
-use Rattle.rules.specs.History.{mostHistory, leastWidth, mostWidth}
+use Rattle.rules.specs.History.{mostHistory, leastWidth, developmentYears}
 use Rattle.laws.proofs.Lists.{every-at}
 use Rattle.scanning.specs.Numbers.{wholeOf}
 use Rattle.cells.specs.Cells.{isBare, labelOf, cellsOf, contentOf, isWithin}
@@ -31,8 +31,8 @@ inside range v = leZ (range .0) v && leZ v (range .1)
 -- the range of number j of a history of so many years
 unfoldable pub rangeAt : ℕ → ℕ → ℤ × ℤ
 rangeAt years j =
-    cond (eqb j 0) (pos 1, pos mostHistory)
-    (cond (eqb j 1) (pos leastWidth, pos mostWidth) (cond (ltb j (2 + years)) (pos 1, pos million) (negℤ (pos mostAmount), pos mostAmount)))
+    cond (eqb j 0) (pos leastWidth, pos mostHistory)
+    (cond (eqb j 1) (pos leastWidth, pos (developmentYears years 0)) (cond (ltb j (2 + years)) (pos 1, pos million) (negℤ (pos mostAmount), pos mostAmount)))
 
 -- it is that of the line that has it
 abbrev rangeOf : Due → ℤ × ℤ

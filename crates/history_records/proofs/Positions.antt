@@ -8,14 +8,13 @@ use lib.ListN.{getD, take, replicate}
 use Rattle.rules.specs.Lists.{upTo, every}
 use Rattle.rules.specs.Questions.{afterCall}
 use Rattle.rules.specs.Separation.{billion, shareOf, levelOf, separationQuestions, separateAnswer, factorsOf, noFactors, separated}
-use Rattle.rules.specs.History.{windowExposures, windowIncrements, windowAverages, separationEntries, positionOf, positionCount, historyList}
+use Rattle.rules.specs.History.{leastWidth, mostWidth, windowExposures, windowIncrements, windowAverages, separationEntries, positionOf, positionCount, historyList}
 use Rattle.laws.proofs.Lists.{take-padded, length-upTo}
 use Rattle.laws.proofs.Joined.{joined-all}
 use Rattle.laws.proofs.Questions.{yes-at, after-refusal}
 use Rattle.totals.proofs.Square.{zero-outside}
 use Rattle.accuracy.proofs.Near.{near-exact}
 use Rattle.positions.proofs.Sizes.{entries-small}
-use Rattle.history_questions.specs.Asked.{Widths}
 use Rattle.history_records.specs.Records.{OfAccepted, OfRefused}
 
 -- the first c of m zeros
@@ -44,23 +43,23 @@ module _ (s : List (List ℤ)) (k : ℕ) (h : k < 16) where
       rw (after-refusal (separateAnswer s k) (factorsOf s k) (noFactors k) e, zeros (k + 1) 16 (omega arith))
       (ap (λ (l : List ℤ). pos (separateAnswer s k) ∷ l) (both-zeros (k + 1) (k + 1) (2 * (k + 1)) (omega arith)))
 
-module _ (years width : ℕ) (n : List ℕ) (p : List ℤ) (a : ℕ) (known : Widths years width) where
-  narrow : width - 1 < 16
-  narrow = omega (arith, known .narrow, known .wide)
+module _ (years width : ℕ) (n : List ℕ) (p : List ℤ) (a : ℕ) where
+  narrow : leastWidth ≤ width → width ≤ mostWidth → width - 1 < 16
+  narrow wide few = omega arith
 
-  again : width - 1 + 1 ≡ width
-  again = omega (arith, known .wide)
+  again : leastWidth ≤ width → width - 1 + 1 ≡ width
+  again wide = omega arith
 
   pub accepted : OfAccepted years width n p a
   unfolding positionOf windowAverages separateAnswer separationQuestions every
-  accepted e =
+  accepted wide few e =
       let s = windowAverages years width n p a in
       let k = width - 1 in
-      (rw again at (accepted-entries s k narrow e), near-exact s k (zero-outside k (windowExposures width n a) (windowIncrements years width p a) narrow) (yes-at (separationQuestions s k) refl e 0) (yes-at (separationQuestions s k) refl e 1) (yes-at (separationQuestions s k) refl e 2))
+      (rw (again wide) at (accepted-entries s k (narrow wide few) e), near-exact s k (zero-outside k (windowExposures width n a) (windowIncrements years width p a) (narrow wide few)) (yes-at (separationQuestions s k) refl e 0) (yes-at (separationQuestions s k) refl e 1) (yes-at (separationQuestions s k) refl e 2))
 
   pub refused : OfRefused years width n p a
   unfolding positionOf
-  refused e = rw again at (refused-entries (windowAverages years width n p a) (width - 1) narrow e)
+  refused wide few e = rw (again wide) at (refused-entries (windowAverages years width n p a) (width - 1) (narrow wide few) e)
 
 -- no entry of a list is larger than S
 pub list-small : (years width : ℕ) (n : List ℕ) (p : List ℤ) (i : ℕ) → natAbs (getD (historyList years width n p) i (pos 0)) ≤ billion

@@ -5,30 +5,28 @@ use mathlib.Core.List.{List}
 use Prim.Native.Nat.{ℕ, _≤_, _<_, zero-le}
 use native.Mathlib.Omega.{arith}
 use borrow.Author.Tests.{eqb-true}
-use lib.Dec.{eqb}
 use lib.IntN.{ℤ, pos, natAbs}
 use lib.ListN.{length, replicate}
 use lib.Seq.{sets}
 use Rattle.rules.specs.Separation.{billion}
-use Rattle.rules.specs.History.{positionCount, historyCount}
+use Rattle.rules.specs.History.{mostHistoryEntries, positionCount, historyCount}
 use Rattle.sheet.specs.Sheet.{readHistory}
-use Rattle.laws.proofs.Lists.{both-right}
 use Rattle.laws.proofs.Joined.{sets-filled, padded-all}
 use Rattle.history_questions.specs.Asked.{Widths}
 use Rattle.history_questions.proofs.Passed.{accepted-known}
 use Rattle.history.proofs.Windows.{list-length}
 use Rattle.history_records.proofs.Positions.{list-small}
 use Rattle.history_places.specs.Places.{Windowed, Small}
-use Rattle.history_run.specs.Listed.{mostListed, yearsOf, widthOf, exposuresOf, incrementsOf, answerOf, listOf, hasList}
-use Rattle.history_run.proofs.Outcomes.{room}
+use Rattle.history_run.specs.Listed.{yearsOf, widthOf, exposuresOf, incrementsOf, listOf, hasList}
+use Rattle.history_run.proofs.Outcomes.{room, accepted}
 use Rattle.history_reports.specs.Reported.{shownList}
 
 module _ (text : List ℕ) (has : hasList text ≡ true) where
   widths : Widths (yearsOf text) (widthOf text)
-  unfolding hasList answerOf
+  unfolding hasList
   widths =
       accepted-known (yearsOf text) (widthOf text) (exposuresOf text) (incrementsOf text) (historyCount (yearsOf text) (widthOf text))
-      (eqb-true (answerOf text) 0 (both-right (eqb (readHistory text .problem) 0) (eqb (answerOf text) 0) has)) .0
+      (accepted text (eqb-true (readHistory text .problem) 0 has)) .0
 
   -- the years and the width that were found
   pub found-years : (years : ℕ) → years ≡ cond (hasList text) (yearsOf text) 0 → years ≡ yearsOf text
@@ -49,16 +47,16 @@ module _ (text : List ℕ) (has : hasList text ≡ true) where
       }
 
   -- the list in an array of zeros
-  in-zeros : sets (replicate mostListed (pos 0)) 0 (listOf text) ≡ shownList text
+  in-zeros : sets (replicate mostHistoryEntries (pos 0)) 0 (listOf text) ≡ shownList text
   unfolding shownList listOf historyCount positionCount
   in-zeros =
-      sets-filled mostListed (pos 0) (listOf text)
+      sets-filled mostHistoryEntries (pos 0) (listOf text)
       (omega (arith, list-length (yearsOf text) (widthOf text) (exposuresOf text) (incrementsOf text) widths, room (yearsOf text) (widthOf text) widths))
 
-  pub found-list : (zeros list : List ℤ) → zeros ≡ replicate mostListed (pos 0) → list ≡ cond (hasList text) (sets zeros 0 (listOf text)) zeros → list ≡ shownList text
+  pub found-list : (zeros list : List ℤ) → zeros ≡ replicate mostHistoryEntries (pos 0) → list ≡ cond (hasList text) (sets zeros 0 (listOf text)) zeros → list ≡ shownList text
   found-list zeros list z e = let filled : list ≡ sets zeros 0 (listOf text) = rw has at e in filled ∙ rw z in-zeros
 
 pub list-fits : (text : List ℕ) → Small (shownList text)
 unfolding shownList listOf
 list-fits text =
-    padded-all (λ (z : ℤ). natAbs z ≤ billion) (pos 0) zero-le mostListed (pos 0) zero-le (listOf text) (list-small (yearsOf text) (widthOf text) (exposuresOf text) (incrementsOf text))
+    padded-all (λ (z : ℤ). natAbs z ≤ billion) (pos 0) zero-le mostHistoryEntries (pos 0) zero-le (listOf text) (list-small (yearsOf text) (widthOf text) (exposuresOf text) (incrementsOf text))

@@ -5,8 +5,9 @@ use mathlib.Core.Bool.{Bool}
 use mathlib.Core.List.{List}
 use lib.IntN.{ℤ, pos}
 use Rattle.rules.specs.Lists.{padded}
+use Rattle.rules.specs.History.{mostHistoryEntries}
 use Rattle.titled_input.specs.Titled.{firstIn, titleIn, titledRecordIn}
-use Rattle.history_run.specs.Listed.{mostListed, yearsOf, widthOf, listOf}
+use Rattle.history_run.specs.Listed.{yearsOf, widthOf, listOf}
 use Rattle.history_page.specs.Page.{historyPage}
 use Rattle.history_csv.specs.Csv.{historyCsv}
 
@@ -16,7 +17,7 @@ textIn input = titledRecordIn input
 
 -- the list of a text that has one, zero past it
 unfoldable pub shownList : List ℕ → List ℤ
-shownList text = padded mostListed (pos 0) (listOf text)
+shownList text = padded mostHistoryEntries (pos 0) (listOf text)
 
 -- the page of an input whose text has a list, and its comma-separated values
 unfoldable pub pageOf : Bool → List ℕ → List ℕ

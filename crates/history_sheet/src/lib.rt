@@ -4,12 +4,11 @@ use rules::LEAST_WIDTH;
 use rules::MILLION;
 use rules::MOST_AMOUNT;
 use rules::MOST_HISTORY;
-use rules::MOST_WIDTH;
 use sheet::Due;
 use sheet::due_at;
 ghost use mathlib.Core.Path.{_≡_};
 ghost use Prim.Native.Nat.{_≤_};
-ghost use Rattle.rules.specs.History.{developmentYears};
+ghost use Rattle.rules.specs.History.{mostWidth, developmentYears};
 ghost use Rattle.sheet.specs.Table.{historyDueAt, linesIn, dueIn, mostFirst};
 
 // The most numbers of a history: years, width, 64 exposures and 904 increments.
@@ -17,7 +16,7 @@ pub const MOST_NUMBERS: usize = 970;
 
 // How many increments the line of origin year i takes, 0 where there is none such.
 fn increments_at(years: usize, i: usize) -> usize
-    ensures { λ r. ⌜ r ≡ developmentYears years i ⌝ }
+    ensures { λ r. ⌜ (r ≡ developmentYears years i) × (r ≤ mostWidth) ⌝ }
 {
     if i < years {
         development_years(years, i)
@@ -26,7 +25,7 @@ fn increments_at(years: usize, i: usize) -> usize
     }
 }
 
-// The line due at a place of a history of so many years.
+// The line due at a place of a history of so many years. A width is at most the years, and at most 16, as are the development years of the first origin year.
 pub fn history_due_at(years: usize, place: usize) -> Due
     ensures { λ r. ⌜ r ≡ historyDueAt years place ⌝ }
 {
@@ -34,7 +33,7 @@ pub fn history_due_at(years: usize, place: usize) -> Due
         return Due {
             row: 8,
             count: 1,
-            least: 1,
+            least: LEAST_WIDTH as i64,
             most: MOST_HISTORY as i64,
         };
     }
@@ -43,7 +42,7 @@ pub fn history_due_at(years: usize, place: usize) -> Due
             row: 9,
             count: 1,
             least: LEAST_WIDTH as i64,
-            most: MOST_WIDTH as i64,
+            most: increments_at(years, 0) as i64,
         };
     }
     if place == 2 {

@@ -7,7 +7,7 @@ use Rattle.composing.specs.Text.{ascii, decimal}
 use Rattle.sheet.specs.Sheet.{Typed, readHistory}
 use Rattle.sheet_wording.specs.Problem.{problemText}
 
--- the refusal where a number of the line due at a place is out of its range: of a history 27 for its years and its width and 28 for the others, of figures 1 for k and 4
+-- the refusal where a number of the line due at a place is out of its range: of a history 27 for its years and its width and 28 for the others, of figures 1 for k and 4 for the others
 unfoldable pub refusalAt : Bool → ℕ → ℕ
 refusalAt history place = cond history (cond (ltb place 2) 27 28) (cond (eqb place 0) 1 4)
 
@@ -26,10 +26,3 @@ wrongText history t = problemFront history (t .problem) (t .place) ++ problemTex
 -- what is said of the text of a history: nothing where nothing is wrong
 unfoldable pub historySaid : List ℕ → List ℕ
 historySaid text = cond (eqb (readHistory text .problem) 0) [] (wrongText true (readHistory text))
-
--- a history that the call refuses, in words: 27, and 28 else
-unfoldable pub historyRefusal : ℕ → List ℕ
-historyRefusal n =
-    refusedFront n
-    ++ cond (eqb n 27) (ascii "the history has no years or more than 64, or the width is not from 2 to 16, or is above the years\n")
-    (ascii "an exposure or an increment is out of its range, or a length is not what the years and the width call for\n")

@@ -13,7 +13,7 @@ ghost use Rattle.composing.specs.Text.{Put};
 ghost use Rattle.sheet.specs.Table.{dueIn, mostFirst};
 ghost use Rattle.sheet.specs.Sheet.{lastYearIn};
 ghost use Rattle.sheet_wording.specs.Problem.{problemLine};
-ghost use Rattle.history_wording.specs.Refused.{refusalAt, refusedFront, problemFront, historyRefusal};
+ghost use Rattle.history_wording.specs.Refused.{refusalAt, refusedFront, problemFront};
 
 // The refusal where a number of the line due at a place is out of its range.
 fn refusal_at(history: bool, place: usize) -> u64
@@ -56,23 +56,4 @@ pub fn put_wrong(out: &mut [u8], history: bool, f: Found, list: &[i64], word: &[
     let at = put_refused(out, history, f.problem, f.place);
     let size = f.word;
     put_problem(out, at, f.problem, f.line, d, f.cell, &word[..size])
-}
-
-// A history that the call refuses, in words.
-pub fn put_history_refusal(out: &mut [u8], n: u64) -> usize
-    ensures { λ r. ⌜ Put (now (out .entry)) (now (out .exit)) 0 r (historyRefusal n) ⌝ }
-{
-    let words = put_front(out, n);
-    if n == 27 {
-        return put_bytes(
-            out,
-            words,
-            b"the history has no years or more than 64, or the width is not from 2 to 16, or is above the years\n",
-        );
-    }
-    put_bytes(
-        out,
-        words,
-        b"an exposure or an increment is out of its range, or a length is not what the years and the width call for\n",
-    )
 }

@@ -48,19 +48,27 @@ as-due d line h =
     go false b c f e g x y z = absurd (omega arith)
 
 -- the first number, by the one cell of its line
-first-range : (most : ℕ) (v : ℤ) → leZ (pos 1) v && leZ v (pos most) ≡ true → (1 ≤ natAbs v) × (natAbs v ≤ most)
-first-range most (pos n) h = (leb-true 1 n (both-left (leb 1 n) (leb n most) h), leb-true n most (both-right (leb 1 n) (leb n most) h))
-first-range most (negsuc n) h = absurd (false≢true h)
+first-range : (least most : ℕ) (v : ℤ) → leZ (pos least) v && leZ v (pos most) ≡ true → (least ≤ natAbs v) × (natAbs v ≤ most)
+first-range least most (pos n) h = (leb-true least n (both-left (leb least n) (leb n most) h), leb-true n most (both-right (leb least n) (leb n most) h))
+first-range least most (negsuc n) h = absurd (false≢true h)
 
-first-cell : (most : ℕ) (cs : List (List ℕ)) → length cs ≡ 1 → every (isWithin (pos 1) (pos most)) cs ≡ true
-    → (1 ≤ lastYearIn (map wholeOf cs)) × (lastYearIn (map wholeOf cs) ≤ most)
+first-cell : (least most : ℕ) (cs : List (List ℕ)) → length cs ≡ 1 → every (isWithin (pos least) (pos most)) cs ≡ true
+    → (least ≤ lastYearIn (map wholeOf cs)) × (lastYearIn (map wholeOf cs) ≤ most)
 unfolding every isWithin
-first-cell most [] e h = absurd (omega arith)
-first-cell most (w ∷ []) e h = first-range most (wholeOf w) (both-left (leZ (pos 1) (wholeOf w) && leZ (wholeOf w) (pos most)) true h)
-first-cell most (w ∷ x ∷ cs) e h = absurd (omega arith)
+first-cell least most [] e h = absurd (omega arith)
+first-cell least most (w ∷ []) e h = first-range least most (wholeOf w) (both-left (leZ (pos least) (wholeOf w) && leZ (wholeOf w) (pos most)) true h)
+first-cell least most (w ∷ x ∷ cs) e h = absurd (omega arith)
 
--- the first line due takes one number, from 1 to the most
-first-due : (history : Bool) → (dueIn history 0 0 .count ≡ 1) × ((dueIn history 0 0 .least ≡ pos 1) × (dueIn history 0 0 .most ≡ pos (mostFirst history)))
+-- the first line due takes one number, from the least, 2 years or k = 1, to the most
+abbrev leastFirst : Bool → ℕ
+leastFirst true = 2
+leastFirst false = 1
+
+some-first : (history : Bool) → 1 ≤ leastFirst history
+some-first true = omega arith
+some-first false = omega arith
+
+first-due : (history : Bool) → (dueIn history 0 0 .count ≡ 1) × ((dueIn history 0 0 .least ≡ pos (leastFirst history)) × (dueIn history 0 0 .most ≡ pos (mostFirst history)))
 unfolding historyDueAt dueAt
 first-due true = (refl, (refl, refl))
 first-due false = (refl, (refl, refl))
@@ -91,14 +99,14 @@ pub good-more : (history : Bool) (vs : List ℤ) (i m : ℕ) (line : List ℕ) �
 unfolding startIn upTo total
 good-more history [] zero m line g left a =
     let d = first-due history in
-    let ranges : every (isWithin (pos 1) (pos (mostFirst history))) (cellsOf line) ≡ true = rw (d .1 .0, d .1 .1) at (a .ranges) in
-    let first = first-cell (mostFirst history) (cellsOf line) (a .count ∙ d .0) ranges in
+    let ranges : every (isWithin (pos (leastFirst history)) (pos (mostFirst history))) (cellsOf line) ≡ true = rw (d .1 .0, d .1 .1) at (a .ranges) in
+    let first = first-cell (leastFirst history) (mostFirst history) (cellsOf line) (a .count ∙ d .0) ranges in
     record {
       size = omega (arith, g .size, length-map (cellsOf line) wholeOf, a .count);
       start = omega (arith, g .size, d .0, start-one history (lastYearIn (map wholeOf (cellsOf line))));
       within = one-line history (lastYearIn (map wholeOf (cellsOf line)));
       few = first .1;
-      some = λ h. first .0;
+      some = λ h. omega (arith, first .0, some-first history);
     }
 good-more history (v ∷ vs) zero m line g left a = absurd (omega (arith, g .size, g .start))
 good-more history [] (suc i) m line g left a = absurd (started history i m g)

@@ -2,7 +2,7 @@
 -- Assumes nothing.
 use mathlib.Core.Path.{_≡_, refl}
 use Rattle.rules.specs.Lists.{total}
-use Rattle.rules.specs.History.{mostHistory, mostWidth, historyStart, developmentYears, historyCells, positionCount, historyCount}
+use Rattle.rules.specs.History.{mostHistory, mostWidth, mostHistoryCells, mostHistoryEntries, historyStart, developmentYears, historyCells, positionCount, historyCount}
 use Rattle.rules.specs.Record.{mostBytes, mostFields, cells, layout, kindsOf, widths, bitCount, byteCount, fieldCount}
 
 pub two-years : (bitCount 1 ≡ 357) × ((byteCount 1 ≡ 45) × (fieldCount 1 ≡ 14))
@@ -19,6 +19,6 @@ unfolding cells
 most-cells = refl
 
 -- a history of 64 years has 904 cells, and a window of 16 years over it 1,617 entries
-pub most-history : (historyCells mostHistory ≡ 904) × (historyCount mostHistory mostWidth ≡ 1617)
+pub most-history : (historyCells mostHistory ≡ mostHistoryCells) × (historyCount mostHistory mostWidth ≡ mostHistoryEntries)
 unfolding historyCells historyStart developmentYears historyCount positionCount
 most-history = (refl, refl)

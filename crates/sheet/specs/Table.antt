@@ -60,8 +60,8 @@ dueLines k = upTo (dueAt k) (lineCount k)
 -- the line due at a place of a history of so many years
 unfoldable pub historyDueAt : ℕ → ℕ → Due
 historyDueAt years place =
-    cond (eqb place 0) (due 8 1 (pos 1) (pos mostHistory))
-    (cond (eqb place 1) (due 9 1 (pos leastWidth) (pos mostWidth))
+    cond (eqb place 0) (due 8 1 (pos leastWidth) (pos mostHistory))
+    (cond (eqb place 1) (due 9 1 (pos leastWidth) (pos (developmentYears years 0)))
     (cond (eqb place 2) (due 1 years (pos 1) (pos million))
     (due 2 (developmentYears years (place - 3)) (negℤ (pos mostAmount)) (pos mostAmount))))
 

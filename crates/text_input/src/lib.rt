@@ -18,7 +18,7 @@ pub fn read_text(buf: &mut [u8]) -> usize
         return 0;
     }
     if size == 65536 {
-        say(b"the text is longer than 65,535 bytes\n");
+        say(b"the input is longer than 65,535 bytes\n");
         return 0;
     }
     size

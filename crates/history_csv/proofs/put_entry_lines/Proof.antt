@@ -40,7 +40,7 @@ loop-again c =
     let s = c .before .before .before .before .before .before .before .before .before .before .args in
     let l = c .before .before .before .before .before .before .loop in
     let kept : toZ w64 (ofZ w64 (c .before .before .before .before .entry-of .result)) ≡ positionEntry (s .list .now) (s .width) (s .a) (s .e + l .j) = toZ-ofZ (sfits-of (c .before .before .before .before .entry-of .ok)) ∙ c .before .before .before .before .entry-of .ensures in
-    (omega arith, put-more (lineAt (s .name .now) (s .unit .now) (s .first) (s .list .now) (s .width) (s .a) (s .e)) (l .j) (l .inv .1) (rw kept at (c .before .before .put-entry-line .ensures)))
+    (omega arith, put-more (lineAt (s .name .now) (s .unit .now) (s .first) (s .list .now) (s .width) (s .a) (s .e)) (l .j) (l .inv .1) (rw kept at (c .before .before .put-line .ensures)))
 
 same-length : tie.Need-same-length Inv-loop μ-loop
 same-length c = put-length (c .before .loop .inv .1)

@@ -22,7 +22,7 @@ unfolding positionLines numberLine
 returns c =
     let s = c .before .before .before .before .before .before .before .before .before .before .before .before .before .before .before .before .before .before .before .before .args in
     let kept : toZ w64 (ofZ w64 (c .before .before .before .before .before .before .before .before .before .before .before .before .before .before .before .before .before .before .entry-of .result)) ≡ positionEntry (s .list .now) (s .width) (s .a) 0 = toZ-ofZ (sfits-of (c .before .before .before .before .before .before .before .before .before .before .before .before .before .before .before .before .before .before .entry-of .ok)) ∙ c .before .before .before .before .before .before .before .before .before .before .before .before .before .before .before .before .before .before .entry-of .ensures in
-    put-three (rw kept at (c .before .before .before .before .before .before .before .before .before .before .before .before .before .before .put-entry-line .ensures)) (c .before .before .before .before .before .before .before .before .put-entry-lines .ensures) (c .before .before .put-entry-lines2 .ensures)
+    put-three (rw kept at (c .before .before .before .before .before .before .before .before .before .before .before .before .before .before .put-line .ensures)) (c .before .before .before .before .before .before .before .before .put-entry-lines .ensures) (c .before .before .put-entry-lines2 .ensures)
 
 pub put-position-lines-spec : {M : Type 1} → statement M
 put-position-lines-spec =
