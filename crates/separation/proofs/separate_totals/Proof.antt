@@ -75,10 +75,7 @@ refused-requires-2 : tie.Need-refused-requires-2
 refused-requires-2 c κs = search needs
 
 returns-2 : tie.Need-returns-2
-returns-2 c q of =
-    let at = c .before .before in
-    let k = begun (walked at) .args .k in
-    (c .refused2 .ensures .0 ∙ answered at q of, c .refused2 .ensures .1 ∙ none-back q k _ (answered at q of) (c .before .if2 .taken))
+returns-2 c q of = (c .refused2 .ensures .0 ∙ answered (c .before .before) q of, c .refused2 .ensures .1 ∙ none-back q (begun (walked (c .before .before)) .args .k) _ (answered (c .before .before) q of) (c .before .if2 .taken))
 
 returns-3 : tie.Need-returns-3
 returns-3 c q of =
