@@ -22,7 +22,7 @@ use Rattle.history_questions.specs.Asked.{Claims, Widths}
 use Rattle.history_averages.specs.HistoryRows.{yearsSeen, yearAverages, historyRow, noYear, historyRows}
 
 -- rows of m entries each
-rows-length : (f : ℕ → List ℤ) (m : ℕ) → ((a : ℕ) → length (f a) ≡ m) → (c : ℕ) → length (joined (upTo f c)) ≡ c * m
+pub rows-length : (f : ℕ → List ℤ) (m : ℕ) → ((a : ℕ) → length (f a) ≡ m) → (c : ℕ) → length (joined (upTo f c)) ≡ c * m
 unfolding upTo joined
 rows-length f m size zero = omega arith
 rows-length f m size (suc c) =

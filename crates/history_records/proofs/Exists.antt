@@ -16,6 +16,7 @@ use Rattle.rules.specs.History.{leastWidth, mostWidth, historyPaid, windowExpos
 use Rattle.laws.proofs.Lists.{length-upTo, map-upTo, every-yes, upTo-self}
 use Rattle.laws.proofs.Joined.{past-length, joined-all, upTo-all}
 use Rattle.laws.proofs.TriangleRows.{rows-all}
+use Rattle.packing.proofs.Pack.{total-replicate}
 use Rattle.layout.proofs.LayoutSections.{everyRow, every-join}
 use Rattle.record.proofs.RecordAnswers.{Taken, yes-writer}
 use Rattle.record.proofs.Cut.{givenRows, join-given}
@@ -28,11 +29,6 @@ same-row : (κ : Kind) (x c : ℕ) → inRange κ (pos x) ≡ true → every (in
 unfolding every
 same-row κ x zero h = refl
 same-row κ x (suc c) h = rw (h, same-row κ x c h)
-
-no-total : (c : ℕ) → total (replicate c 0) ≡ 0
-unfolding total
-no-total zero = refl
-no-total (suc c) = omega (arith, no-total c)
 
 -- the plainest assumptions are in range
 year-range : (k : ℕ) → 1 ≤ k → k ≤ 15 → inRange lastYear (pos k) ≡ true
@@ -122,7 +118,7 @@ module _ (years width : ℕ) (n : List ℕ) (p : List ℤ) (a m : ℕ) (widths :
     reporting = reported;
     ulae = zeros;
     ranges = ranges;
-    sum = omega (arith, no-total k);
+    sum = omega (arith, total-replicate k 0);
   }
 
 pub has-record : (years width : ℕ) (n : List ℕ) (p : List ℤ) (a : ℕ) → HasRecord years width n p a

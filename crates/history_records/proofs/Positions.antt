@@ -1,10 +1,10 @@
 -- An accepted position meets the third demand, and after a refused one's number stand zeros. Assumes nothing.
-use mathlib.Core.Path.{_≡_, refl, ap}
+use mathlib.Core.Path.{_≡_, refl, ap, _∙_}
 use mathlib.Core.List.{List, _∷_, _++_, map}
 use Prim.Native.Nat.{ℕ, zero, suc, _+_, _-_, _*_, _≤_, _<_, zero-le}
 use native.Mathlib.Omega.{arith}
 use lib.IntN.{ℤ, pos, natAbs}
-use lib.ListN.{getD, take, replicate}
+use lib.ListN.{getD, take, replicate, replicate-append-replicate}
 use Rattle.rules.specs.Lists.{upTo, every}
 use Rattle.rules.specs.Questions.{afterCall}
 use Rattle.rules.specs.Separation.{billion, shareOf, levelOf, separationQuestions, separateAnswer, factorsOf, noFactors, separated}
@@ -23,13 +23,6 @@ zeros zero m h = refl
 zeros (suc c) zero h = absurd (omega arith)
 zeros (suc c) (suc m) h = ap (λ (l : List ℤ). pos 0 ∷ l) (zeros c m (omega arith))
 
-both-zeros : (c d m : ℕ) → c + d ≡ m → replicate c (pos 0) ++ replicate d (pos 0) ≡ replicate m (pos 0)
-both-zeros zero d m e =
-    let f : d ≡ m = omega arith in
-    rw f refl
-both-zeros (suc c) d zero e = absurd (omega arith)
-both-zeros (suc c) d (suc m) e = ap (λ (l : List ℤ). pos 0 ∷ l) (both-zeros c d m (omega arith))
-
 module _ (s : List (List ℤ)) (k : ℕ) (h : k < 16) where
   -- the entries where the number is 0, and where it is not
   accepted-entries : separateAnswer s k ≡ 0 → separationEntries s k ≡ pos 0 ∷ (map pos (upTo (shareOf s k) (k + 1)) ++ map pos (upTo (levelOf s k) (k + 1)))
@@ -40,8 +33,9 @@ module _ (s : List (List ℤ)) (k : ℕ) (h : k < 16) where
   refused-entries : (separateAnswer s k ≡ 0 → ⊥) → separationEntries s k ≡ pos (separateAnswer s k) ∷ replicate (2 * (k + 1)) (pos 0)
   unfolding separationEntries separated noFactors
   refused-entries e =
+      let twice : k + 1 + (k + 1) ≡ 2 * (k + 1) = omega arith in
       rw (after-refusal (separateAnswer s k) (factorsOf s k) (noFactors k) e, zeros (k + 1) 16 (omega arith))
-      (ap (λ (l : List ℤ). pos (separateAnswer s k) ∷ l) (both-zeros (k + 1) (k + 1) (2 * (k + 1)) (omega arith)))
+      (ap (λ (l : List ℤ). pos (separateAnswer s k) ∷ l) (replicate-append-replicate (k + 1) (k + 1) (pos 0) ∙ ap (λ (c : ℕ). replicate c (pos 0)) twice))
 
 module _ (years width : ℕ) (n : List ℕ) (p : List ℤ) (a : ℕ) where
   narrow : leastWidth ≤ width → width ≤ mostWidth → width - 1 < 16

@@ -1,26 +1,19 @@
 -- Positions are rows of equal length (rows-length), so an entry stands where it is read (joined-at). Assumes nothing.
 use mathlib.Core.Path.{_≡_, sym, ap, _∙_}
 use mathlib.Core.List.{List}
-use Prim.Native.Nat.{ℕ, zero, suc, _+_, _*_, _≤_}
+use Prim.Native.Nat.{ℕ, _+_, _*_, _≤_}
 use native.Mathlib.Nat.{mul-le-mul-right}
 use native.Mathlib.Omega.{arith}
 use lib.IntN.{ℤ, pos}
-use lib.ListN.{length, getD, length-append}
+use lib.ListN.{length, getD}
 use lib.Seq.{getD-take}
 use Rattle.rules.specs.Lists.{upTo, joined}
 use Rattle.rules.specs.History.{positionOf, positionCount, historyCount, historyList}
-use Rattle.laws.proofs.Joined.{joined-append, joined-at}
+use Rattle.laws.proofs.Joined.{joined-at}
 use Rattle.history_questions.specs.Asked.{Widths}
-use Rattle.history.proofs.Windows.{position-length}
+use Rattle.history.proofs.Windows.{rows-length, position-length}
 use Rattle.history_places.specs.Places.{positionEntry}
 use Rattle.history_shown.specs.Shown.{EntriesShown}
-
--- rows of m entries each
-rows-length : (f : ℕ → List ℤ) (m : ℕ) → ((a : ℕ) → length (f a) ≡ m) → (c : ℕ) → length (joined (upTo f c)) ≡ c * m
-unfolding upTo joined
-rows-length f m size zero = omega arith
-rows-length f m size (suc c) =
-    rw (joined-append (upTo f c) (f c)) (omega (arith, length-append (joined (upTo f c)) (f c), size c, rows-length f m size c))
 
 pub entries-shown : (years width first : ℕ) (n : List ℕ) (p list : List ℤ) → EntriesShown years width first n p list
 unfolding positionEntry historyList historyCount

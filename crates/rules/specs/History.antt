@@ -20,7 +20,6 @@ abbrev pub mostDevelopment : ℕ
 mostDevelopment = 16
 
 -- the least and the most of a window's width
-
 abbrev pub leastWidth : ℕ
 leastWidth = 2
 
