@@ -1,4 +1,6 @@
 // Questions as they are put, what is not so, and where to look first, in a lent buffer.
+#![tactic(auto)]
+
 ghost use Rattle.composing.specs.Text.{Put};
 ghost use Rattle.advice.specs.Advice.{asked_text, said_text, advice_text};
 

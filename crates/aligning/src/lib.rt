@@ -1,4 +1,6 @@
 // Text at the right of a column.
+#![tactic(auto)]
+
 ghost use Rattle.std.specs.Prelude.{◌≡◌, ◌-◌};
 ghost use Rattle.composing.specs.Text.{right, Put};
 

@@ -1,4 +1,6 @@
 // The average a claim: 100 × paid / claims to the nearest hundredth, halves to the even one.
+#![tactic(auto)]
+
 ghost use Rattle.std.specs.Prelude.{◌≡◌, ◌+◌, ◌-◌, ◌*◌, ◌≤◌, nat_abs};
 ghost use Rattle.rules.specs.Record.{signed_of, sign_of, million, most_amount};
 ghost use Rattle.rules.specs.Triangle.{average_of};

@@ -1,11 +1,13 @@
 // The axis of a plot.
+#![tactic(auto)]
+
 ghost use Rattle.std.specs.Prelude.{◌≡◌, ◌*◌, ◌≤◌, max};
 ghost use Rattle.axis.specs.Axis.{most_plotted, most_one, side_of, in_decade, step_for, steps_to, scale_of, height_of, unit_of, shown_step, zero_line, foot_line, Sound};
 
 use entries::size_of;
 
 // A step in the values' units, the steps up and down, and the height of a tick.
-#[derive(Drop)]
+#[derive(Clone, Copy)]
 pub struct Scale {
     pub step: u64,
     pub up: u64,

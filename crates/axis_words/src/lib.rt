@@ -1,4 +1,6 @@
 // The unit of a plot's axis in words, in a lent buffer.
+#![tactic(auto)]
+
 ghost use Rattle.composing.specs.Text.{Put};
 ghost use Rattle.axis_words.specs.AxisWords.{unit_word, word_gap};
 

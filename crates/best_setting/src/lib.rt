@@ -1,4 +1,6 @@
 // The best setting of a hindsight run: the one of the smallest sum, the first on a tie.
+#![tactic(auto)]
+
 ghost use Rattle.std.specs.Prelude.{◌≡◌, cond, ◌≤◌, ◌<◌, ltb, length, get_or};
 ghost use Rattle.rules.specs.Hindsight.{best_place};
 

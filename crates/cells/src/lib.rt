@@ -1,4 +1,6 @@
 // A line of a text: its content, its label and its cells.
+#![tactic(auto)]
+
 ghost use Rattle.std.specs.Prelude.{◌≡◌, [], ◌≤◌, ◌<◌, ◌^◌, length, get_or, drop};
 ghost use Rattle.rules.specs.Lists.{every};
 ghost use Rattle.scanning.specs.Parts.{fails, before};
@@ -9,7 +11,7 @@ use scanning::{find, from, is_number, number_of, past, until};
 use separating::{does_decide, from_cell, separators_of};
 
 // How many cells pass a test before the first that does not, and whether all do.
-#[derive(Drop)]
+#[derive(Clone, Copy)]
 pub struct Run {
     pub passed: usize,
     pub all: bool,

@@ -1,4 +1,6 @@
 // A plot of two columns of figures of the report, in a lent buffer.
+#![tactic(auto)]
+
 ghost use Rattle.std.specs.Prelude.{◌≤◌};
 ghost use Rattle.composing.specs.Text.{Put};
 ghost use Rattle.placing.specs.Placing.{grid, Holds};

@@ -1,4 +1,6 @@
 // A table whose columns are figures of the report beside each other, in a lent buffer.
+#![tactic(auto)]
+
 ghost use Rattle.composing.specs.Text.{Put};
 ghost use Rattle.column_table.specs.ColumnTable.{column_table, Columned};
 

@@ -1,4 +1,6 @@
 // The width of a column of a table as text.
+#![tactic(auto)]
+
 ghost use Rattle.std.specs.Prelude.{◌≡◌, ◌+◌, ◌<◌};
 ghost use Rattle.table_heads.specs.Heads.{Fits};
 ghost use Rattle.column_width.specs.Width.{column_width};

@@ -1,4 +1,6 @@
 // Columns of figures placed beside each other in the grid of a table.
+#![tactic(auto)]
+
 ghost use Rattle.std.specs.Prelude.{◌≡◌, ℕ, ◌+◌, ◌*◌, ◌≤◌, ◌<◌, get_or};
 ghost use Rattle.table_cells.specs.Cells.{most_places};
 ghost use Rattle.vectors.specs.Vectors.{most_figures};

@@ -1,4 +1,6 @@
 // Where the comment of a line begins.
+#![tactic(auto)]
+
 ghost use Rattle.std.specs.Prelude.{◌≡◌, ◌≤◌, length};
 ghost use Rattle.commenting.specs.Comments.{comments, uncommented};
 

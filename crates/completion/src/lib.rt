@@ -1,4 +1,6 @@
 // Completing the triangle: future levels, payments and, with the tail payments, provisions; and question 11.
+#![tactic(auto)]
+
 ghost use Rattle.std.specs.Prelude.{◌≡◌, ℕ, ◌+◌, ◌*◌, ◌≤◌, ◌<◌, get_or};
 ghost use Rattle.std.proofs.lemmas.List.Edits.{sets};
 ghost use Rattle.rules.specs.Lists.{total, up_to, padded, joined};

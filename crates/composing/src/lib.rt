@@ -1,4 +1,6 @@
 // Text in a lent buffer: each function puts its text from a place on, as far as the buffer goes, and answers the place after it.
+#![tactic(auto)]
+
 ghost use Rattle.std.specs.Prelude.{◌≡◌, [], ◌∷◌, ◌<◌};
 ghost use Rattle.composing.specs.Text.{digit, decimal, spaces, Put};
 

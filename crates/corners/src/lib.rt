@@ -1,4 +1,6 @@
 // The totals T of a square of averages, from the year k down over the totals of its columns and diagonals, and question 8.
+#![tactic(auto)]
+
 ghost use Rattle.std.specs.Prelude.{◌≡◌, ℕ, ◌≤◌, ◌<◌, length, get_or};
 ghost use Rattle.rules.specs.Separation.{billion};
 ghost use Rattle.corners.specs.Corners.{CornersFound};

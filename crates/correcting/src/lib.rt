@@ -1,4 +1,6 @@
 // The ratio that a valuation year uses: the plain ratio, corrected from 2027 on, under questions 15, 16 and 17.
+#![tactic(auto)]
+
 ghost use Rattle.rules.specs.Growth.{latest_reported, latest_paid, divisor_of};
 ghost use Rattle.triangle.specs.Columns.{Increments};
 ghost use Rattle.expense.specs.Reservable.{Reservable};
@@ -9,7 +11,7 @@ use latest_year::{latest_paid, latest_reported};
 use rules::{ACCEPTED, MILLION};
 
 // The ratio that is used where the answer is 0, and the plain one where it is a refusal's number.
-#[derive(Drop)]
+#[derive(Clone, Copy)]
 pub struct Used {
     pub answer: u64,
     pub ratio: u64,

@@ -1,4 +1,6 @@
 // The figures of questions 16 and 17 where they say no.
+#![tactic(auto)]
+
 ghost use Rattle.std.specs.Prelude.{◌≡◌, ◌<◌};
 ghost use Rattle.rules.specs.Record.{figures_of};
 ghost use Rattle.rules.specs.Results.{most_entries};
@@ -16,7 +18,7 @@ use provisions_again::read_provided;
 use rules::MILLION;
 
 // What corrects a ratio: the weight, the plain ratio, what is reported and what is paid in the latest year, and the divisor.
-#[derive(Drop)]
+#[derive(Clone, Copy)]
 struct Parts {
     weight: u64,
     plain: u64,

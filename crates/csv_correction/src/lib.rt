@@ -1,4 +1,6 @@
 // What corrects the ULAE ratio as comma-separated values in a lent buffer.
+#![tactic(auto)]
+
 ghost use Rattle.composing.specs.Text.{Put};
 ghost use Rattle.csv_correction.specs.Correction.{correction_lines};
 

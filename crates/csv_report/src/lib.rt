@@ -1,4 +1,6 @@
 // The run of any valuation year and record as comma-separated values: its result list, or the question that said no in words.
+#![tactic(auto)]
+
 ghost use Rattle.std.specs.Prelude.{◌≡◌};
 ghost use Rattle.rules.specs.Results.{most_entries};
 ghost use Rattle.rules.specs.Engine.{run_answer};
@@ -15,7 +17,7 @@ use rules::MOST_ENTRIES;
 use valuation::{record_start, year_of};
 
 // What a run came to: the engine's answer, and where the text ends.
-#[derive(Drop)]
+#[derive(Clone, Copy)]
 pub struct Written {
     pub answer: u64,
     pub end: usize,

@@ -1,4 +1,6 @@
 // A section of the result list as comma-separated values in a lent buffer, and the line of a number beside the list.
+#![tactic(auto)]
+
 ghost use Rattle.std.specs.Prelude.{◌≡◌, ◌++◌, ◌+◌, ◌≤◌, ◌<◌};
 ghost use Rattle.rules.specs.Results.{most_entries};
 ghost use Rattle.composing.specs.Text.{ascii, integer, Put};
@@ -11,7 +13,7 @@ use rules::MOST_ENTRIES;
 use signed_text::put_integer;
 
 // The rows of a section, and whether its entries have an origin year and a development or payment year.
-#[derive(Drop)]
+#[derive(Clone, Copy)]
 pub struct Shape {
     pub n: usize,
     pub rows: Rows,

@@ -1,4 +1,6 @@
 // The tail payments as comma-separated values in a lent buffer.
+#![tactic(auto)]
+
 ghost use Rattle.std.specs.Prelude.{◌≡◌, ◌<◌};
 ghost use Rattle.composing.specs.Text.{Put};
 ghost use Rattle.listing.specs.Starts.{starts_of};

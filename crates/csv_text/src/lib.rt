@@ -1,4 +1,6 @@
 // The result list as comma-separated values in a lent buffer, with the valuation year, the plain ULAE ratio and what corrects it.
+#![tactic(auto)]
+
 ghost use Rattle.std.specs.Prelude.{◌≡◌, ◌<◌};
 ghost use Rattle.composing.specs.Text.{Put};
 ghost use Rattle.listing.specs.Starts.{starts_of};

@@ -1,4 +1,6 @@
 // Where question 6 says no of a record, and the cumulative there.
+#![tactic(auto)]
+
 ghost use Rattle.std.specs.Prelude.{◌≡◌, false, ◌+◌, ◌-◌, ◌≤◌, ◌<◌};
 ghost use Rattle.rules.specs.Record.{figures_of};
 ghost use Rattle.rules.specs.Triangle.{row_start, cumulative_of, cumulatives_pass};
@@ -13,7 +15,7 @@ use reading::read;
 use rules::MOST_CUMULATIVE;
 
 // A column and the cumulative there.
-#[derive(Drop)]
+#[derive(Clone, Copy)]
 struct Cumulative {
     column: usize,
     amount: i64,

@@ -1,4 +1,6 @@
 // Where question 13 says no of a record, and the figures there.
+#![tactic(auto)]
+
 ghost use Rattle.std.specs.Prelude.{◌≡◌, false, ◌*◌, ◌≤◌, ◌<◌};
 ghost use Rattle.rules.specs.Record.{million, figures_of};
 ghost use Rattle.rules.specs.Triangle.{most_cumulative};

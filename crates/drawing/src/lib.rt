@@ -1,4 +1,6 @@
 // What stands in a plot by its scale, in a lent buffer: ticks and bars.
+#![tactic(auto)]
+
 ghost use Rattle.std.specs.Prelude.{false, ◌+◌, ◌*◌, ◌≤◌, nat_abs};
 ghost use Rattle.composing.specs.Text.{Put};
 ghost use Rattle.axis.specs.Axis.{most_plotted, side_of, Sound};

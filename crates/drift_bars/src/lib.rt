@@ -1,4 +1,6 @@
 // The bars of the plot of a development year's share by position, in a lent buffer.
+#![tactic(auto)]
+
 ghost use Rattle.std.specs.Prelude.{◌+◌, ◌≤◌, ◌<◌};
 ghost use Rattle.axis.specs.Axis.{Sound};
 ghost use Rattle.composing.specs.Text.{Put};

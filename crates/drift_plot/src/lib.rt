@@ -1,4 +1,6 @@
 // The plots of a history, one for each development year, in a lent buffer.
+#![tactic(auto)]
+
 ghost use Rattle.std.specs.Prelude.{◌+◌, ◌≤◌, ◌<◌};
 ghost use Rattle.rules.specs.History.{most_history, most_width};
 ghost use Rattle.composing.specs.Text.{Put};

@@ -1,4 +1,6 @@
 // The scale of the plot of a development year's share by position.
+#![tactic(auto)]
+
 ghost use Rattle.std.specs.Prelude.{◌≡◌, ◌+◌, ◌≤◌, ◌<◌};
 ghost use Rattle.rules.specs.History.{most_history, most_width};
 ghost use Rattle.history_places.specs.Places.{Inside};

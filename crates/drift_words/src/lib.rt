@@ -1,4 +1,6 @@
 // The words of the plot of a development year's share by position, in a lent buffer.
+#![tactic(auto)]
+
 ghost use Rattle.composing.specs.Text.{Put};
 ghost use Rattle.drift_words.specs.Words.{axis_word, drift_words};
 

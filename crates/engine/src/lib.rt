@@ -1,4 +1,6 @@
 // The engine: from a valuation year and a record to the result list, under questions 1 to 19. It asks every question before it writes.
+#![tactic(auto)]
+
 ghost use Rattle.std.specs.Prelude.{◌≡◌, ◌++◌, ◌≤◌, length};
 ghost use Rattle.rules.specs.Questions.{first_no};
 ghost use Rattle.rules.specs.Record.{last_year_of, figures_of};

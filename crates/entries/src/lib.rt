@@ -1,5 +1,7 @@
 // Lists of numbers: entries put into a lent list of signed 64-bit numbers, each function answering the place after those that it filled;
 // ranges; sums; sizes.
+#![tactic(auto)]
+
 ghost use Rattle.std.specs.Prelude.{◌≡◌, map, ℕ, ◌+◌, ◌<◌, ◌≤◌, ◌^◌, pos, nat_abs, length, get_or, set, take};
 ghost use Rattle.std.proofs.lemmas.List.Edits.{sets};
 ghost use Rattle.rules.specs.Lists.{total, every, between};

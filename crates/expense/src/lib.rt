@@ -1,4 +1,6 @@
 // The ULAE reserve by the New York method: the plain ratio under question 12, what is not yet reported, and the reserve.
+#![tactic(auto)]
+
 ghost use Rattle.std.specs.Prelude.{◌≡◌, ◌+◌, ◌*◌, ◌≤◌, pos, length};
 ghost use Rattle.std.proofs.lemmas.List.Edits.{sets};
 ghost use Rattle.rules.specs.Lists.{up_to, joined};

@@ -1,4 +1,6 @@
 // Where questions 9 and 10 say no of a record, and the figures there.
+#![tactic(auto)]
+
 ghost use Rattle.std.specs.Prelude.{◌≡◌, false, ℕ, ◌+◌, ◌*◌, ◌≤◌, ◌<◌, leb, pos, get_or, take};
 ghost use Rattle.rules.specs.Lists.{total, below, every};
 ghost use Rattle.rules.specs.Record.{figures_of};

@@ -1,4 +1,6 @@
 // The factors of Taylor's separation, for the walk down the years: the running share of the year below, the level of a year, no factors; and questions 9 and 10.
+#![tactic(auto)]
+
 ghost use Rattle.std.specs.Prelude.{◌≡◌, [], ◌∷◌, ◌+◌, ◌-◌, ◌*◌, ◌/◌, ◌≤◌, ◌<◌, leb, get_or, take};
 ghost use Rattle.rules.specs.Lists.{every, between};
 ghost use Rattle.rules.specs.Questions.{first_no};

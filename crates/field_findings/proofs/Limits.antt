@@ -3,7 +3,7 @@ use Prim.Native.Nat.{ℕ, suc, ◌^◌, ◌<◌}
 use native.Mathlib.Omega.{arith}
 use borrow.Author.Tests.{eqb-true, leb-false, lt-leb}
 use mathlib.Core.Path.{◌≡◌, refl, sym, ◌∙◌}
-use mathlib.Core.Bool.{Bool, true, false, ◌&&◌, and_true, and-false}
+use mathlib.Core.Bool.{Bool, true, false, ◌&&◌, and-true, and-false}
 use mathlib.Core.List.{List}
 use lib.Dec.{leb, leb-zero}
 use lib.IntN.{ℤ, pos, negsuc, neg_ℤ, nat_abs}
@@ -31,13 +31,13 @@ Outside k x r = bits_in_range (kind_of k r) x ≡ false → negative_zero (kind_
 plain : (w l m x : ℕ) → bits_in_range (record { signed = false; width = w; least = l; most = m }) x ≡ false
     → within_limits (record { signed = false; width = w; least = l; most = m }) (value_of (record { signed = false; width = w; least = l; most = m }) x) ≡ false
 unfolding bits_in_range in_range negative_zero value_of least_of
-plain w l m x e = sym (and_true (leb l x && leb x m)) ∙ e
+plain w l m x e = sym (and-true (leb l x && leb x m)) ∙ e
 
 signed : (x : ℕ) → bits_in_range increment x ≡ false → negative_zero increment x ≡ false → within_limits increment (value_of increment x) ≡ false
 unfolding bits_in_range in_range least_of
 signed x e z =
     let v = value_of increment x in
-    past v (rw (z, and_true (leb 0 (nat_abs v) && leb (nat_abs v) most_amount), leb-zero (nat_abs v)) at e)
+    past v (rw (z, and-true (leb 0 (nat_abs v) && leb (nat_abs v) most_amount), leb-zero (nat_abs v)) at e)
 
 outside : (k x r : ℕ) → r < 8 → Outside k x r
 unfolding layout

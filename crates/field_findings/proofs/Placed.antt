@@ -2,7 +2,7 @@
 use Prim.Native.Nat.{ℕ, zero, suc, ◌+◌, ◌*◌, ◌≤◌, ◌<◌, ◌^◌}
 use native.Mathlib.Omega.{arith}
 use mathlib.Core.Path.{◌≡◌, refl, sym, ap, ◌∙◌}
-use mathlib.Core.Bool.{false, and_true}
+use mathlib.Core.Bool.{false, and-true}
 use mathlib.Core.List.{List}
 use lib.IntN.{pos}
 use lib.ListN.{get_or}
@@ -37,7 +37,7 @@ by_row P a b c d e f g h (suc (suc (suc (suc (suc (suc (suc (suc n)))))))) l = a
 -- a kind without a sign bit: its range and its values
 plain : (w l m x : ℕ) → between l m x ≡ bits_in_range (record { signed = false; width = w; least = l; most = m }) x
 unfolding bits_in_range in_range negative_zero value_of
-plain w l m x = sym (and_true (between l m x))
+plain w l m x = sym (and-true (between l m x))
 
 plain_value : (w l m x : ℕ) → pos x ≡ value_of (record { signed = false; width = w; least = l; most = m }) x
 unfolding value_of

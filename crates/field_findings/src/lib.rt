@@ -1,4 +1,6 @@
 // Where question 4 of a record says no, and the figures there.
+#![tactic(auto)]
+
 ghost use Rattle.std.specs.Prelude.{◌≡◌, ◌≤◌, ◌<◌};
 ghost use Rattle.rules.specs.Record.{count_of, last_year_of};
 ghost use Rattle.rules.specs.Questions.{first_no};

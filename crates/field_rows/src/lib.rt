@@ -1,4 +1,6 @@
 // The rows of a record by their numbers, and a field of a row: whether it is in range, its value and the least of its kind.
+#![tactic(auto)]
+
 ghost use Rattle.std.specs.Prelude.{◌≡◌, ◌≤◌, ◌<◌, ◌^◌};
 ghost use Rattle.field_rows.specs.Rows.{row_of, passes_in, value_in, least_in};
 
@@ -8,7 +10,7 @@ use rules::{MILLION, MOST_AMOUNT, MOST_INDEX};
 
 // A row of the record's layout: the bit place at which it starts, how many fields it has, the bits of each, whether the first of them is a sign, and the least and
 // the most of a field's size.
-#[derive(Drop)]
+#[derive(Clone, Copy)]
 pub struct Row {
     pub at: usize,
     pub count: usize,

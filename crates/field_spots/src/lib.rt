@@ -1,11 +1,13 @@
 // The year or years of a field of a record.
+#![tactic(auto)]
+
 ghost use Rattle.std.specs.Prelude.{◌≡◌, ◌-◌, ◌<◌};
 ghost use Rattle.rules.specs.Record.{cells, count_of};
 ghost use Rattle.rules.specs.Triangle.{row_start};
 ghost use Rattle.field_spots.specs.Spots.{cell_row, spot, spot_of};
 
 // The row and the column of a field within its row of the layout.
-#[derive(Drop)]
+#[derive(Clone, Copy)]
 pub struct Spot {
     pub row: usize,
     pub column: usize,

@@ -1,4 +1,6 @@
 // A plot's figure around what stands in it, in a lent buffer.
+#![tactic(auto)]
+
 ghost use Rattle.std.specs.Prelude.{◌≤◌};
 ghost use Rattle.composing.specs.Text.{Put};
 ghost use Rattle.figure.specs.Figure.{canvas, description, axis_label, figure_start, figure_end};

@@ -1,4 +1,6 @@
 // How wide a plot is, and the title above it with the legend, in a lent buffer.
+#![tactic(auto)]
+
 ghost use Rattle.std.specs.Prelude.{◌≡◌, ◌≤◌};
 ghost use Rattle.composing.specs.Text.{Put};
 ghost use Rattle.lines.specs.Lines.{line_of};

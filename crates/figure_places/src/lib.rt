@@ -1,11 +1,13 @@
 // Where the sections of the report's figures start that come after the result list.
+#![tactic(auto)]
+
 ghost use Rattle.std.specs.Prelude.{◌≡◌, ◌<◌};
 ghost use Rattle.figure_places.specs.Places.{added_at};
 
 use layout::cells_of;
 use listing::entries_of;
 
-#[derive(Drop)]
+#[derive(Clone, Copy)]
 pub struct Added {
     pub exposures: usize,
     pub increments: usize,

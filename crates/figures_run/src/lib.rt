@@ -1,4 +1,6 @@
 // A run on figures: questions 6 and 13, the separation under 7 to 10, and what follows it.
+#![tactic(auto)]
+
 ghost use Rattle.std.specs.Prelude.{◌≤◌, length};
 ghost use Rattle.rules.specs.Record.{figures};
 ghost use Rattle.rules.specs.Results.{result_count};

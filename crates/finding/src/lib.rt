@@ -1,10 +1,12 @@
 // Where a question says no, and the figures there.
+#![tactic(auto)]
+
 ghost use Rattle.std.specs.Prelude.{◌≡◌, ◌<◌, ◌^◌, pos};
 ghost use Rattle.finding.specs.Places.{found};
 
 // The kind of place, its row and its column, and up to three figures, zeros past them. An origin or payment year is a row, a development year a column; index e_t is in
 // row t - 1. A field of the record has the kind FIELD plus its row in the record's layout, which is at least 1.
-#[derive(Drop)]
+#[derive(Clone, Copy)]
 pub struct Finding {
     pub place: u64,
     pub row: usize,

@@ -1,4 +1,6 @@
 // The table of the figures where a question says no, in a lent buffer.
+#![tactic(auto)]
+
 ghost use Rattle.composing.specs.Text.{Put};
 ghost use Rattle.finding_table.specs.FindingTable.{record_table, triangle_table, reserve_table, finding_table};
 

@@ -1,4 +1,6 @@
 // Where the question that refuses a record says no, and the figures there.
+#![tactic(auto)]
+
 ghost use Rattle.std.specs.Prelude.{◌≡◌, ◌<◌};
 ghost use Rattle.rules.specs.Results.{most_entries};
 ghost use Rattle.rules.specs.Engine.{run_answer};

@@ -1,4 +1,6 @@
 // The section of the averages and how well they are fitted.
+#![tactic(auto)]
+
 ghost use Rattle.std.specs.Prelude.{◌≤◌, ◌<◌};
 ghost use Rattle.composing.specs.Text.{Put};
 ghost use Rattle.page_figures.specs.Given.{Figured};

@@ -1,4 +1,6 @@
 // The sums of the averages and of the gaps in words, in a lent buffer.
+#![tactic(auto)]
+
 ghost use Rattle.composing.specs.Text.{Put};
 ghost use Rattle.fit_sums.specs.FitSums.{hundredths, fit_sums};
 

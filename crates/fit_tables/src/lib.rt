@@ -1,4 +1,6 @@
 // The tables of the averages and of what is observed less what is fitted.
+#![tactic(auto)]
+
 ghost use Rattle.std.specs.Prelude.{◌≤◌, ◌<◌};
 ghost use Rattle.composing.specs.Text.{Put};
 ghost use Rattle.placing.specs.Placing.{blank, Holds};

@@ -1,4 +1,6 @@
 // What is said of the averages and how well they are fitted, in a lent buffer.
+#![tactic(auto)]
+
 ghost use Rattle.composing.specs.Text.{Put};
 ghost use Rattle.fit_words.specs.FitWords.{lost_payments, fit_words};
 

@@ -1,4 +1,6 @@
 // Numbers with decimals in a lent buffer.
+#![tactic(auto)]
+
 ghost use Rattle.std.specs.Prelude.{◌≡◌};
 ghost use Rattle.composing.specs.Text.{last_digits_of, without, fixed, Put};
 

@@ -1,4 +1,6 @@
 // Sections of the report's figures that are taken from triangles past the diagonal: the chain ladder's ultimates, and the payments expected by payment year.
+#![tactic(auto)]
+
 ghost use Rattle.std.specs.Prelude.{◌≡◌, ◌+◌, ◌≤◌, ◌<◌};
 ghost use Rattle.std.proofs.lemmas.List.Edits.{sets};
 ghost use Rattle.rules.specs.Triangle.{future_start};

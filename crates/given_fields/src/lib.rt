@@ -1,4 +1,6 @@
 // Questions 1, 2 and 4 of the fields that a writer is given.
+#![tactic(auto)]
+
 ghost use Rattle.std.specs.Prelude.{◌≡◌, ◌&&◌, ◌+◌, ◌<◌, eqb, leb};
 ghost use Rattle.rules.specs.Record.{increment, in_range, byte_count, cells, million, most_amount, most_index};
 ghost use Rattle.rules.specs.Lists.{every, between};

@@ -1,4 +1,6 @@
 // The ULAE ratio under growth: from which valuation year on it is corrected, and by what divisor.
+#![tactic(auto)]
+
 ghost use Rattle.std.specs.Prelude.{◌≡◌, ◌≤◌, pos};
 ghost use Rattle.rules.specs.Record.{million};
 ghost use Rattle.rules.specs.Completion.{most_ultimate};
@@ -8,7 +10,7 @@ use rules::{FIRST_CORRECTED_YEAR, MILLION};
 
 // The plain ratio of an accepted run, and what corrects it: what is reported and what is paid in the latest year, and the divisor, all three 0 where the year's ratio is
 // not corrected.
-#[derive(Drop)]
+#[derive(Clone, Copy)]
 pub struct Correction {
     pub plain: u64,
     pub reported: u64,

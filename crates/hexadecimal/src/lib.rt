@@ -1,4 +1,6 @@
 // Bytes in hexadecimal in a lent buffer.
+#![tactic(auto)]
+
 ghost use Rattle.std.specs.Prelude.{◌≡◌, ◌+◌, ◌*◌, ◌<◌, ◌≤◌, min, length};
 ghost use Rattle.composing.specs.Text.{Put};
 ghost use Rattle.hexadecimal.specs.Hexadecimal.{hex_digit, hex_byte, hex_of, hex_line, hex_lines, digits_in};

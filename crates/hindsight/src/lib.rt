@@ -1,4 +1,6 @@
 // Hindsight run for trial indices: forecasts of diagonals that are known, by the fits of what was known before them. It asks every question before it writes.
+#![tactic(auto)]
+
 ghost use Rattle.std.specs.Prelude.{◌≡◌, true, [], ◌∷◌, ◌++◌, ◌≤◌, length};
 ghost use Rattle.rules.specs.Questions.{first_no};
 ghost use Rattle.rules.specs.Record.{last_year_of, figures_of};

@@ -1,4 +1,6 @@
 // The sentence that names the best setting of a hindsight run, in a lent buffer.
+#![tactic(auto)]
+
 ghost use Rattle.std.specs.Prelude.{◌≤◌, ◌<◌, ◌^◌, get_or};
 ghost use Rattle.rules.specs.Record.{most_index};
 ghost use Rattle.rules.specs.Hindsight.{most_settings};

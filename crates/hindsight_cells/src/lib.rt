@@ -1,4 +1,6 @@
 // Cells of the tables of a hindsight run.
+#![tactic(auto)]
+
 ghost use Rattle.std.specs.Prelude.{◌≡◌, ◌+◌, ◌≤◌, ◌<◌, get_or};
 ghost use Rattle.rules.specs.Record.{most_index};
 ghost use Rattle.rules.specs.Hindsight.{most_settings};

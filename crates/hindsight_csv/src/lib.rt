@@ -1,4 +1,6 @@
 // The settings of a hindsight run and its report as comma-separated values in a lent buffer.
+#![tactic(auto)]
+
 ghost use Rattle.std.specs.Prelude.{true, false, ◌+◌, ◌-◌, ◌≤◌, ◌<◌, pos};
 ghost use Rattle.rules.specs.Lists.{up_to, joined};
 ghost use Rattle.rules.specs.Hindsight.{most_settings};

@@ -1,4 +1,6 @@
 // The whole report of a hindsight run as comma-separated values: it is never cut.
+#![tactic(auto)]
+
 ghost use Rattle.std.specs.Prelude.{◌≡◌, ◌<◌, length, take};
 ghost use Rattle.hindsight_places.specs.Places.{Tried, GapsSmall, SettingsSmall};
 ghost use Rattle.hindsight_csv.specs.Csv.{hindsight_csv};

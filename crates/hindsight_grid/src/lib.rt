@@ -1,4 +1,6 @@
 // The tables of a hindsight run in the grid of a table.
+#![tactic(auto)]
+
 ghost use Rattle.std.specs.Prelude.{◌≡◌, ◌≤◌};
 ghost use Rattle.rules.specs.Hindsight.{most_settings};
 ghost use Rattle.hindsight_places.specs.Places.{LastYear};

@@ -1,4 +1,6 @@
 // The words of the table of steps of a hindsight run, in a lent buffer.
+#![tactic(auto)]
+
 ghost use Rattle.std.specs.Prelude.{◌≤◌};
 ghost use Rattle.rules.specs.Lists.{up_to, joined};
 ghost use Rattle.rules.specs.Hindsight.{most_settings};

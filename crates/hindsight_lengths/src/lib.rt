@@ -1,4 +1,6 @@
 // The whole page of a hindsight run: no page is ever cut.
+#![tactic(auto)]
+
 ghost use Rattle.std.specs.Prelude.{◌≡◌, ◌≤◌, ◌<◌, length, take};
 ghost use Rattle.hindsight_page.specs.Page.{Reported, hindsight_page};
 ghost use Rattle.hindsight_lengths.specs.Page.{most_hindsight_page};

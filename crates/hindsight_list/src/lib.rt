@@ -1,4 +1,6 @@
 // The report of a hindsight run: the fit of each step once, the entries of every setting, and the place of the best one.
+#![tactic(auto)]
+
 ghost use Rattle.std.specs.Prelude.{◌≡◌, map, length};
 ghost use Rattle.std.proofs.lemmas.List.Edits.{sets};
 ghost use Rattle.rules.specs.Lists.{joined};

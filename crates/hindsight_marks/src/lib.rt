@@ -1,4 +1,6 @@
 // The marked steps of a hindsight run, in a lent buffer.
+#![tactic(auto)]
+
 ghost use Rattle.std.specs.Prelude.{◌≡◌, ◌++◌, ◌<◌};
 ghost use Rattle.composing.specs.Text.{Put};
 ghost use Rattle.hindsight_places.specs.Places.{LastYear};

@@ -1,4 +1,6 @@
 // The page of a hindsight run, in a lent buffer.
+#![tactic(auto)]
+
 ghost use Rattle.std.specs.Prelude.{◌≤◌, ◌<◌};
 ghost use Rattle.composing.specs.Text.{Put};
 ghost use Rattle.hindsight_cells.specs.Cells.{Shown};

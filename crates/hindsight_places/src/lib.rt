@@ -1,4 +1,6 @@
 // Entries of the report of a hindsight run by setting and step.
+#![tactic(auto)]
+
 ghost use Rattle.std.specs.Prelude.{◌≡◌, ◌+◌, ◌*◌, ◌≤◌, ◌<◌};
 ghost use Rattle.rules.specs.Hindsight.{most_settings, most_hindsight, setting_count};
 ghost use Rattle.hindsight_places.specs.Places.{LastYear, Setting, Step, entry_at, step_start, step_entry, mark_at, marked, gap_at, sum_at, best_at};

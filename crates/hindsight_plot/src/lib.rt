@@ -1,4 +1,6 @@
 // The plot of the sums of absolute gaps by setting, in a lent buffer.
+#![tactic(auto)]
+
 ghost use Rattle.composing.specs.Text.{Put};
 ghost use Rattle.hindsight_cells.specs.Cells.{Shown};
 ghost use Rattle.hindsight_plot.specs.Sums.{sums_plot};

@@ -1,4 +1,6 @@
 // Questions 29 and 3 of a hindsight run.
+#![tactic(auto)]
+
 ghost use Rattle.std.specs.Prelude.{◌≡◌, ◌≤◌, ◌<◌};
 ghost use Rattle.rules.specs.Hindsight.{most_settings, settings_pass, holds_report};
 

@@ -1,4 +1,6 @@
 // From a program's input to the page or the comma-separated values of a hindsight run, or in words why there is none.
+#![tactic(auto)]
+
 ghost use Rattle.std.specs.Prelude.{◌≡◌, true, false, ◌<◌, length, take};
 ghost use Rattle.composing.specs.Text.{Put};
 ghost use Rattle.hindsight_lengths.specs.Page.{most_hindsight_page};
@@ -12,7 +14,7 @@ use rules::MOST_HINDSIGHT;
 use titled_input::{first_of, parts_of};
 
 // Whether there is a report, and where what is written of it ends, or else the message.
-#[derive(Drop)]
+#[derive(Clone, Copy)]
 pub struct Written {
     pub listed: bool,
     pub end: usize,

@@ -1,4 +1,6 @@
 // From a line of settings and a record to the report of the hindsight run, or in words what is wrong with the settings or the refusal.
+#![tactic(auto)]
+
 ghost use Rattle.std.specs.Prelude.{◌≡◌, true, false, ◌≤◌, length, get_or};
 ghost use Rattle.std.proofs.lemmas.List.Edits.{sets};
 ghost use Rattle.rules.specs.Lists.{up_to};

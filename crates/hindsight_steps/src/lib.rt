@@ -1,4 +1,6 @@
 // The sum of absolute gaps of one step of a hindsight run.
+#![tactic(auto)]
+
 ghost use Rattle.std.specs.Prelude.{◌≡◌, ◌<◌};
 ghost use Rattle.rules.specs.Hindsight.{most_settings};
 ghost use Rattle.hindsight_places.specs.Places.{Step, GapsSmall};

@@ -1,4 +1,6 @@
 // How many cells a history has, by origin year and together.
+#![tactic(auto)]
+
 ghost use Rattle.std.specs.Prelude.{◌≡◌, ◌≤◌};
 ghost use Rattle.rules.specs.History.{most_history, most_width, development_years, history_cells};
 

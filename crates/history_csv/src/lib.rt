@@ -1,4 +1,6 @@
 // The list of a history as comma-separated values in a lent buffer.
+#![tactic(auto)]
+
 ghost use Rattle.std.specs.Prelude.{◌+◌, ◌*◌, ◌≤◌};
 ghost use Rattle.rules.specs.Lists.{up_to, joined};
 ghost use Rattle.rules.specs.History.{most_history, most_width};

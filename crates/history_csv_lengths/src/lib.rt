@@ -1,4 +1,6 @@
 // The whole list of a history as comma-separated values: it is never cut.
+#![tactic(auto)]
+
 ghost use Rattle.std.specs.Prelude.{◌≡◌, ◌<◌, length, take};
 ghost use Rattle.history_places.specs.Places.{Windowed};
 ghost use Rattle.history_csv.specs.Csv.{history_csv};

@@ -1,4 +1,6 @@
 // Positions of a history in the grid of a table.
+#![tactic(auto)]
+
 ghost use Rattle.std.specs.Prelude.{◌≡◌, ◌+◌, ◌≤◌, ◌<◌};
 ghost use Rattle.history_places.specs.Places.{Inside};
 ghost use Rattle.history_grid.specs.Grid.{cell_value, cell_style, grid_values, grid_styles, Rows};

@@ -1,4 +1,6 @@
 // The whole page of a history: no page is ever cut.
+#![tactic(auto)]
+
 ghost use Rattle.std.specs.Prelude.{◌≡◌, ◌≤◌, ◌<◌, length, take};
 ghost use Rattle.history_places.specs.Places.{Windowed, Small};
 ghost use Rattle.history_page.specs.Page.{history_page};

@@ -1,4 +1,6 @@
 // The exposures and the increments among the numbers of a history, which stand after its years and its width.
+#![tactic(auto)]
+
 ghost use Rattle.std.specs.Prelude.{◌≡◌, ◌≤◌, length};
 ghost use Rattle.rules.specs.Lists.{padded};
 ghost use Rattle.rules.specs.History.{most_history};

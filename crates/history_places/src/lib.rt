@@ -1,4 +1,6 @@
 // Entries of a history's list by position.
+#![tactic(auto)]
+
 ghost use Rattle.std.specs.Prelude.{◌≡◌, ◌*◌, ◌≤◌};
 ghost use Rattle.history_places.specs.Places.{Inside, position_entry, number_of, refused};
 

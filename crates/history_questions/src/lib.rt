@@ -1,4 +1,6 @@
 // Questions 27 and 28 of a history.
+#![tactic(auto)]
+
 ghost use Rattle.std.specs.Prelude.{◌≡◌, true, pos};
 ghost use Rattle.rules.specs.Lists.{every};
 ghost use Rattle.rules.specs.Record.{in_range, exposure, increment};

@@ -1,4 +1,6 @@
 // A history typed as text, read into a list of numbers, or in words what is wrong with it.
+#![tactic(auto)]
+
 ghost use Rattle.std.specs.Prelude.{◌≡◌, ◌≤◌};
 ghost use Rattle.std.proofs.lemmas.List.Edits.{sets};
 ghost use Rattle.rules.specs.History.{most_history, most_width};
@@ -16,7 +18,7 @@ use sheet::Found;
 use sheet_reading::read_text;
 
 // What is taken from a text: the problem, 0 for none, the years and the width, 0 where there is one, and how many bytes of the message there are.
-#[derive(Drop)]
+#[derive(Clone, Copy)]
 pub struct Taken {
     pub problem: u64,
     pub years: u64,

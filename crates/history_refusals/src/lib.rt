@@ -1,4 +1,6 @@
 // The refused positions of a history, in a lent buffer.
+#![tactic(auto)]
+
 ghost use Rattle.std.specs.Prelude.{◌≡◌, ◌||◌, ◌++◌, ◌+◌, ◌≤◌};
 ghost use Rattle.rules.specs.Lists.{between};
 ghost use Rattle.rules.specs.History.{most_history, most_width};

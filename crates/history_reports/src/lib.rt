@@ -1,4 +1,6 @@
 // From a program's input to the page or the comma-separated values of a history, or in words what is wrong with its text.
+#![tactic(auto)]
+
 ghost use Rattle.std.specs.Prelude.{◌≡◌, true, false, ◌<◌, length, take};
 ghost use Rattle.composing.specs.Text.{Put};
 ghost use Rattle.history_lengths.specs.Page.{most_history_page};
@@ -14,7 +16,7 @@ use rules::MOST_HISTORY_ENTRIES;
 use titled_input::{first_of, parts_of};
 
 // Whether there is a list, and where what is written of it ends, or else the message.
-#[derive(Drop)]
+#[derive(Clone, Copy)]
 pub struct Written {
     pub listed: bool,
     pub end: usize,

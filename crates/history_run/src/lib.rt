@@ -1,4 +1,6 @@
 // From the text of a history to the list of its positions, or in words what is wrong with it.
+#![tactic(auto)]
+
 ghost use Rattle.std.specs.Prelude.{◌≡◌, false, cond, length};
 ghost use Rattle.std.proofs.lemmas.List.Edits.{sets};
 ghost use Rattle.rules.specs.History.{most_history_entries, history_count, history_list, history_answer};
@@ -13,7 +15,7 @@ use history_reading::take_history;
 use history_sheet::MOST_NUMBERS;
 
 // Whether there is a list, the years and the width of its history, 0 where there is none, and how many bytes of the message there are.
-#[derive(Drop)]
+#[derive(Clone, Copy)]
 pub struct Listed {
     pub listed: bool,
     pub years: usize,

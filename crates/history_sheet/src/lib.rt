@@ -1,4 +1,6 @@
 // The lines of a text of a history, and of either text: of a history or of figures.
+#![tactic(auto)]
+
 ghost use Rattle.std.specs.Prelude.{◌≡◌, ◌≤◌};
 ghost use Rattle.rules.specs.History.{most_width, development_years};
 ghost use Rattle.sheet.specs.Table.{history_due_at, lines_in, due_in, most_first};

@@ -1,4 +1,6 @@
 // What is wrong with a text, of a history or of figures, in words, with the refusal in front where there is one.
+#![tactic(auto)]
+
 ghost use Rattle.std.specs.Prelude.{◌≡◌, ◌++◌, ◌≤◌, length, take};
 ghost use Rattle.composing.specs.Text.{Put};
 ghost use Rattle.sheet.specs.Table.{due_in, most_first};

@@ -1,4 +1,6 @@
 // The table of the paid increments as given.
+#![tactic(auto)]
+
 ghost use Rattle.std.specs.Prelude.{◌≤◌, ◌<◌};
 ghost use Rattle.composing.specs.Text.{Put};
 ghost use Rattle.placing.specs.Placing.{blank, Holds};

@@ -1,5 +1,7 @@
 // Inflation as the economists send it: from rates in three shapes to sixteen yearly indices. The language exports no enum: for other languages there is a routine
 // for each shape.
+#![tactic(auto)]
+
 ghost use Rattle.std.specs.Prelude.{◌≡◌, ◌+◌, ◌<◌, ◌≤◌, replicate};
 ghost use Rattle.rules.specs.Lists.{up_to, padded};
 ghost use Rattle.rules.specs.Inflation.{state_after, index_after, indices_of, most_years};

@@ -1,4 +1,6 @@
 // The line of inflation of a text of figures, asked before any other line but that of k. A mark at the text's start is taken off before.
+#![tactic(auto)]
+
 ghost use Rattle.std.specs.Prelude.{◌≡◌, true, [], ◌+◌, ◌<◌, ◌≤◌, length, get_or};
 ghost use Rattle.sheet.specs.Sheet.{lines, is_wanted, lines_before, line_wanted, year_asked, fault_asked};
 

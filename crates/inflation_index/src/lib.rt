@@ -1,4 +1,6 @@
 // A year's index: the whole number nearest to a float.
+#![tactic(auto)]
+
 ghost use Rattle.std.specs.Prelude.{◌≡◌};
 ghost use Rattle.rules.specs.Inflation.{nearest_whole};
 ghost use Rattle.inflation_index.specs.Index.{if_an_index};

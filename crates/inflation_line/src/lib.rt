@@ -1,4 +1,6 @@
 // A line of inflation in a text of figures: its rates, or what is wrong with it.
+#![tactic(auto)]
+
 ghost use Rattle.std.specs.Prelude.{◌≡◌, ◌≤◌, ◌<◌};
 ghost use Rattle.inflation_line.specs.InflationLine.{is_inflation, shape_at, number_passes, is_due, is_asked, passing_numbers, shape_from, shape_of, rates_fault, fault_in};
 
@@ -10,7 +12,7 @@ use rules::Inflation;
 use scanning::{is_natural, same_text, size_from};
 
 // What is wrong with a line of inflation, and the number or the year that it is about.
-#[derive(Drop)]
+#[derive(Clone, Copy)]
 pub struct Fault {
     pub kind: u64,
     pub about: u64,

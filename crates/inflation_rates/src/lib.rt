@@ -1,4 +1,6 @@
 // The rates of inflation of each year, and question 20 of them.
+#![tactic(auto)]
+
 ghost use Rattle.std.specs.Prelude.{◌≡◌, ◌&&◌, ◌+◌, ◌<◌};
 ghost use Rattle.rules.specs.Lists.{between};
 ghost use Rattle.rules.specs.Inflation.{rate_after, rate_fits, shape_fits, rates_pass};

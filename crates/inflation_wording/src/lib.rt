@@ -1,4 +1,6 @@
 // What is wrong with a line of inflation, in words.
+#![tactic(auto)]
+
 ghost use Rattle.std.specs.Prelude.{◌≤◌};
 ghost use Rattle.composing.specs.Text.{Put, decimal};
 ghost use Rattle.sheet.specs.Sheet.{lines};

@@ -1,4 +1,6 @@
 // The tables of the inputs that are by one year, in a lent buffer.
+#![tactic(auto)]
+
 ghost use Rattle.std.specs.Prelude.{◌<◌, ◌≤◌};
 ghost use Rattle.composing.specs.Text.{Put};
 ghost use Rattle.figure_places.specs.Places.{added_at};

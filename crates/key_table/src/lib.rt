@@ -1,4 +1,6 @@
 // The table of the key figures in a lent buffer.
+#![tactic(auto)]
+
 ghost use Rattle.composing.specs.Text.{Put};
 ghost use Rattle.key_table.specs.Key.{key_table};
 

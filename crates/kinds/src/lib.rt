@@ -1,4 +1,6 @@
 // Which of the two an input is, a text or a record.
+#![tactic(auto)]
+
 ghost use Rattle.std.specs.Prelude.{◌≡◌};
 ghost use Rattle.rules.specs.Lists.{every};
 ghost use Rattle.kinds.specs.Kinds.{text_byte, marked, is_text};

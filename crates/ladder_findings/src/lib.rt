@@ -1,4 +1,6 @@
 // Where question 14 says no, and the figures there.
+#![tactic(auto)]
+
 ghost use Rattle.std.specs.Prelude.{◌≡◌, false, ◌≤◌, ◌<◌};
 ghost use Rattle.rules.specs.Record.{figures_of};
 ghost use Rattle.rules.specs.Ladder.{completed_all, completed_pass};
@@ -13,7 +15,7 @@ use outcomes::read_again;
 use rules::{MILLION, MOST_CUMULATIVE};
 
 // How many years past the diagonal the cumulatives of a row are within the most, and the last of these cumulatives, the paid one where there is none.
-#[derive(Drop)]
+#[derive(Clone, Copy)]
 struct Past {
     years: usize,
     last: u64,

@@ -1,4 +1,6 @@
 // The latest year of a triangle: what is paid in it, Y, and what is reported in it, B.
+#![tactic(auto)]
+
 ghost use Rattle.std.specs.Prelude.{◌≡◌, ℕ, ◌+◌, ◌*◌, ◌≤◌, ◌<◌, nat_abs, take};
 ghost use Rattle.rules.specs.Lists.{total};
 ghost use Rattle.rules.specs.Record.{million, most_amount};

@@ -1,10 +1,12 @@
 // The places of a record's rows by k, and its sizes.
+#![tactic(auto)]
+
 ghost use Rattle.std.specs.Prelude.{◌≡◌, ◌+◌, ◌<◌, ◌≤◌};
 ghost use Rattle.rules.specs.Record.{cells, byte_count, field_count, most_bytes, most_fields};
 ghost use Rattle.layout.specs.Places.{places_of};
 
 // How many cells the triangle has, the bit places at which the increments and the rows after them start, and where the fields end.
-#[derive(Drop)]
+#[derive(Clone, Copy)]
 pub struct Places {
     pub cells: usize,
     pub increments: usize,

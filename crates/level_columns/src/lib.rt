@@ -1,4 +1,6 @@
 // The columns of the tables of the levels by payment year.
+#![tactic(auto)]
+
 ghost use Rattle.std.specs.Prelude.{ℕ, ◌+◌, ◌*◌, ◌<◌, ◌≤◌};
 ghost use Rattle.table_cells.specs.Cells.{most_places};
 ghost use Rattle.vectors.specs.Vectors.{most_figures};

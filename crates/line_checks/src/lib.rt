@@ -1,4 +1,6 @@
 // What is wrong with a line of a text of figures, and the word that it is about.
+#![tactic(auto)]
+
 ghost use Rattle.std.specs.Prelude.{◌≡◌, ◌-◌};
 ghost use Rattle.composing.specs.Text.{Put};
 ghost use Rattle.sheet.specs.Sheet.{wrong_in, word_in};

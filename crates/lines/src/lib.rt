@@ -1,4 +1,6 @@
 // Lines of a text, each ended by a line feed: where they start and end, how long they are, and putting one.
+#![tactic(auto)]
+
 ghost use Rattle.std.specs.Prelude.{◌≡◌, ◌≤◌, length, take, drop};
 ghost use Rattle.composing.specs.Text.{Put};
 ghost use Rattle.lines.specs.Lines.{first_line, from_line, line_of};

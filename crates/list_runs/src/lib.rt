@@ -1,5 +1,7 @@
 // The result list of a record in a valuation year as text, and its fields: the entries of an accepted record, or `refused` and the number. Each function puts its text from a
 // place on, as far as the buffer goes, and answers the place after it.
+#![tactic(auto)]
+
 ghost use Rattle.composing.specs.Text.{Put};
 ghost use Rattle.valuation.specs.Valuation.{year_in, record_in};
 ghost use Rattle.list_runs.specs.Runs.{run_text, list_text, list_row, fields_text};

@@ -1,4 +1,6 @@
 // Many records of one valuation year in one stream, each behind its length in two bytes, the high one first: the row of each goes into a lent buffer.
+#![tactic(auto)]
+
 ghost use Rattle.std.specs.Prelude.{◌≡◌, ℕ, ◌+◌, ◌<◌, ◌≤◌, length, get_or, take, drop};
 ghost use Rattle.composing.specs.Text.{Put};
 ghost use Rattle.list_runs.specs.Runs.{list_row};
@@ -11,7 +13,7 @@ use valuation::pair_at;
 const MOST_ROW: usize = 11_110;
 
 // How many records were taken, the place after them, and the place after their rows.
-#[derive(Drop)]
+#[derive(Clone, Copy)]
 pub struct Taken {
     pub count: usize,
     pub from: usize,

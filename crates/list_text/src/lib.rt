@@ -1,5 +1,7 @@
 // A result list as text: its entries one a line or all on one line, or `refused` and the number. Each function puts its text from a place on, as far as
 // the buffer goes, and answers the place after it.
+#![tactic(auto)]
+
 ghost use Rattle.std.specs.Prelude.{◌≡◌, ◌≤◌, ◌<◌, length, take};
 ghost use Rattle.composing.specs.Text.{Put};
 ghost use Rattle.list_text.specs.EntryLines.{after, entry_text, entries_by, entries_text, row_text, refused_text};

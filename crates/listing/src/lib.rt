@@ -1,5 +1,7 @@
 // The result list: where its sections start, and its groups of sections put into the lent list from a place on. Each function that puts answers the
 // place after what it put.
+#![tactic(auto)]
+
 ghost use Rattle.std.specs.Prelude.{◌≡◌, ◌++◌, ◌+◌, ◌-◌, ◌*◌, ◌≤◌, ◌<◌, length, take};
 ghost use Rattle.std.proofs.lemmas.List.Edits.{sets};
 ghost use Rattle.rules.specs.Lists.{joined, up_to};
@@ -11,7 +13,7 @@ use entries::{put_integers, put_natural, put_naturals, sum_of};
 use layout::cells_of;
 
 // Where the sections after the averages start.
-#[derive(Drop)]
+#[derive(Clone, Copy)]
 pub struct Starts {
     pub shares: usize,
     pub levels: usize,

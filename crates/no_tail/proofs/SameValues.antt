@@ -2,7 +2,7 @@
 -- values are the same row by row. Assumes nothing.
 use Prim.Native.Nat.{ℕ}
 use mathlib.Core.Path.{◌≡◌, sym, ap, ◌∙◌}
-use mathlib.Core.Bool.{Bool, true, and_true}
+use mathlib.Core.Bool.{Bool, true, and-true}
 use mathlib.Core.List.{List, [], ◌∷◌, ◌++◌, map, map-append, zip_with}
 use lib.IntN.{ℤ, pos}
 use Rattle.rules.specs.Lists.{every}
@@ -30,7 +30,7 @@ module _ {k e : ℕ} {xs ys : List ℕ} (c : SameCodes k e xs ys) (long : Long (
   unfolding every layout layout01 section
   every_same ok a b =
       let indices = section (layout01 k) 3 ys in
-      let row : every (ok index) (indices ++ (e ∷ [])) ≡ every (ok index) indices = every_append (ok index) indices (e ∷ []) ∙ rw a (and_true (every (ok index) indices)) in
+      let row : every (ok index) (indices ++ (e ∷ [])) ≡ every (ok index) indices = every_append (ok index) indices (e ∷ []) ∙ rw a (and-true (every (ok index) indices)) in
       every_row_lem (layout k) xs long ok
       ∙ rw (c.years, c.exposures, c.increments, c.indices, row, c.reporting, c.weight, c.ulae, c.amount, b)
       (sym (every_row_lem (layout01 k) ys long01 ok))

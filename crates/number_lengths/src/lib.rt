@@ -1,4 +1,6 @@
 // How many places a number takes, and numbers at the right of a column.
+#![tactic(auto)]
+
 ghost use Rattle.std.specs.Prelude.{◌≡◌, ◌+◌, ◌≤◌, length};
 ghost use Rattle.composing.specs.Text.{decimal, sign, fixed, right, Put};
 

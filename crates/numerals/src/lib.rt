@@ -1,4 +1,6 @@
 // Numbers to be read, in a lent buffer: groups of three digits.
+#![tactic(auto)]
+
 ghost use Rattle.composing.specs.Text.{Put};
 ghost use Rattle.numerals.specs.Numerals.{grouped, numeral, number, spaced};
 

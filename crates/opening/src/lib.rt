@@ -1,4 +1,6 @@
 // Opening a record: k and questions 1 and 2.
+#![tactic(auto)]
+
 ghost use Rattle.std.specs.Prelude.{◌≡◌, true, ◌+◌, ◌-◌, ◌*◌, ◌<◌, ◌≤◌, ◌%◌, ◌^◌, eqb, length};
 ghost use Rattle.rules.specs.Packing.{number_of};
 ghost use Rattle.rules.specs.Record.{last_year_of};

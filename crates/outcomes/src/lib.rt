@@ -1,5 +1,7 @@
 // What of a record is needed again after a run of the engine. Laws about what the record has passed where none of questions 1 to 6 refuses it, and about the list
 // that an accepted run filled, stand in proofs/.
+#![tactic(auto)]
+
 ghost use Rattle.std.specs.Prelude.{◌≡◌, true, ◌+◌, ◌*◌, ◌≤◌, ◌<◌, pos, nat_abs, get_or, take, replicate};
 ghost use Rattle.rules.specs.Lists.{total, up_to, padded};
 ghost use Rattle.rules.specs.Questions.{first_no};

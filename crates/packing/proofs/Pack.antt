@@ -74,6 +74,8 @@ fits_row w (x ∷ xs) h = more (h 0) (fits_row w xs (λ i. h (suc i)))
 -- and fields of one width that fit are each below two to it
 pub row_fits : (w n : ℕ) (xs : List ℕ) → Fits (replicate n w) xs → Fit w xs
 row_fits w zero [] none i = pow_pos w
+row_fits w zero (x ∷ xs) f i = elim f [ ]
+row_fits w (suc n) [] f i = elim f [ ]
 row_fits w (suc n) (x ∷ xs) (more h f) zero = h
 row_fits w (suc n) (x ∷ xs) (more h f) (suc i) = row_fits w n xs f i
 

@@ -1,10 +1,12 @@
 // Fields of a row of bits, most significant bit first: read at any place, and packed one after another.
+#![tactic(auto)]
+
 ghost use Rattle.std.specs.Prelude.{◌≡◌, ◌+◌, ◌*◌, ◌<◌, ◌≤◌, ◌%◌, ◌^◌, min, length, replicate};
 ghost use Rattle.rules.specs.Packing.{pack, Fit};
 ghost use Rattle.packing.specs.Field.{field_at, FieldInside, Packable, PackedOn};
 
 // What is packed and not yet written: the first `count` bits of byte `at`, fewer than 8, as a number. The bytes before it are written.
-#[derive(Drop)]
+#[derive(Clone, Copy)]
 pub struct Pending {
     pub at: usize,
     pub count: usize,

@@ -1,4 +1,6 @@
 // The report's figures in one array: the result list, the record's fields, and what is worked out from them.
+#![tactic(auto)]
+
 ghost use Rattle.std.specs.Prelude.{◌≡◌, ◌<◌, pos, replicate};
 ghost use Rattle.listing.specs.Starts.{starts_of};
 ghost use Rattle.vectors.specs.Vectors.{most_figures};

@@ -1,4 +1,6 @@
 // What stands around the sections of the report, in a lent buffer.
+#![tactic(auto)]
+
 ghost use Rattle.composing.specs.Text.{Put};
 ghost use Rattle.page_frame.specs.Frame.{style, head_start, web_start, text_start, start_with, page_start, page_end};
 

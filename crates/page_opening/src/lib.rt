@@ -1,4 +1,6 @@
 // The opening of the report, in a lent buffer.
+#![tactic(auto)]
+
 ghost use Rattle.std.specs.Prelude.{cond, [], ◌<◌, ◌≤◌};
 ghost use Rattle.composing.specs.Text.{ascii, Put};
 ghost use Rattle.parts.specs.Parts.{only};

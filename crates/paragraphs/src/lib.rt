@@ -1,4 +1,6 @@
 // Paragraphs that stand on both pages, in a lent buffer.
+#![tactic(auto)]
+
 ghost use Rattle.composing.specs.Text.{Put};
 ghost use Rattle.paragraphs.specs.Paragraphs.{words, paragraph_start, paragraph_end, paragraph};
 

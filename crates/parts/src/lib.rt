@@ -1,4 +1,6 @@
 // Parts of the report's two pages that differ between them, in a lent buffer.
+#![tactic(auto)]
+
 ghost use Rattle.composing.specs.Text.{Put};
 ghost use Rattle.parts.specs.Parts.{either, only, heading, section_head, section_end, beside_start, beside_end};
 

@@ -1,4 +1,6 @@
 // A table whose cells are picked from the report's single figures.
+#![tactic(auto)]
+
 ghost use Rattle.std.specs.Prelude.{◌≡◌, true, ◌-◌, ◌≤◌};
 ghost use Rattle.rules.specs.Lists.{every, between};
 ghost use Rattle.composing.specs.Text.{Put};

@@ -1,4 +1,6 @@
 // The words of a place where a question says no, in a lent buffer.
+#![tactic(auto)]
+
 ghost use Rattle.std.specs.Prelude.{◌≤◌, ◌<◌};
 ghost use Rattle.composing.specs.Text.{Put};
 ghost use Rattle.place_words.specs.PlaceWords.{origin_text, development_text, payment_text, cell_text, index_text, field_text, years_text, place_text};

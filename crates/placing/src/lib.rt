@@ -1,4 +1,6 @@
 // Figures placed in the grid of a table.
+#![tactic(auto)]
+
 ghost use Rattle.std.specs.Prelude.{◌≡◌, ℕ, ◌+◌, ◌*◌, ◌≤◌, ◌<◌, get_or};
 ghost use Rattle.rules.specs.Record.{cells};
 ghost use Rattle.rules.specs.Triangle.{future_start};

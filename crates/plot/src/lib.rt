@@ -1,4 +1,6 @@
 // A plot in a lent buffer.
+#![tactic(auto)]
+
 ghost use Rattle.std.specs.Prelude.{◌≡◌, cond, ◌<◌, ◌≤◌, ltb};
 ghost use Rattle.rules.specs.Lists.{up_to, joined};
 ghost use Rattle.composing.specs.Text.{Put};
@@ -13,7 +15,7 @@ use figure_caption::{DARK, LIGHT, wide_of};
 use shapes::put_slot_label;
 
 // Where the values of the first slot stand, how far those of the next are from them, the bars of a slot, how many slots of one bar are dark, and the slots.
-#[derive(Drop)]
+#[derive(Clone, Copy)]
 pub struct Series {
     pub start: usize,
     pub stride: usize,

@@ -1,4 +1,6 @@
 // What is proved and how figures are rounded, in a lent buffer.
+#![tactic(auto)]
+
 ghost use Rattle.std.specs.Prelude.{◌<◌};
 ghost use Rattle.composing.specs.Text.{Put};
 ghost use Rattle.proof_section.specs.Proved.{shares_paragraph, proved_paragraphs, proof_section, refused_proof};

@@ -1,4 +1,6 @@
 // The provisions by origin year, by both methods, in a lent buffer.
+#![tactic(auto)]
+
 ghost use Rattle.std.specs.Prelude.{◌<◌, ◌≤◌};
 ghost use Rattle.composing.specs.Text.{Put};
 ghost use Rattle.page_figures.specs.Given.{Figured};

@@ -1,4 +1,6 @@
 // The provisions of a record that is refused by a question from 11 on, worked out again.
+#![tactic(auto)]
+
 ghost use Rattle.std.specs.Prelude.{◌≡◌, pos, replicate};
 ghost use Rattle.rules.specs.Record.{figures_of};
 ghost use Rattle.rules.specs.Triangle.{TotalsIn};

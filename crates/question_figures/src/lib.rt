@@ -1,4 +1,6 @@
 // A table of the figures that a question has found, in a lent buffer; of a field, and of a development year.
+#![tactic(auto)]
+
 ghost use Rattle.std.specs.Prelude.{◌≡◌, ◌≤◌};
 ghost use Rattle.composing.specs.Text.{Put};
 ghost use Rattle.question_figures.specs.QuestionFigures.{figure_table, field_style, field_table, sums_table, development_table};

@@ -1,4 +1,6 @@
 // The section of the rates of a line of inflation that make the indices, in a lent buffer.
+#![tactic(auto)]
+
 ghost use Rattle.std.specs.Prelude.{◌≡◌, ◌<◌, ◌≤◌, take};
 ghost use Rattle.composing.specs.Text.{Put};
 ghost use Rattle.rates_section.specs.RatesSection.{most_typed, typed_rate, flat_words, rate_words, fading_words, shock_year, shock_words, shape_words, rates_paragraph, rates_section};

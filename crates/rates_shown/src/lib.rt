@@ -1,4 +1,6 @@
 // The line of inflation that a report shows: one whose rates make the indices of the record.
+#![tactic(auto)]
+
 ghost use Rattle.std.specs.Prelude.{◌≡◌, ◌≤◌};
 ghost use Rattle.rules.specs.Lists.{up_to};
 ghost use Rattle.rules.specs.Questions.{first_no};

@@ -1,4 +1,6 @@
 // The reader: a record's fields in their order in a lent list, or the number of the first question that says no.
+#![tactic(auto)]
+
 ghost use Rattle.std.specs.Prelude.{◌≡◌, ◌+◌, ◌*◌, ◌<◌, ◌≤◌, ◌^◌, length};
 ghost use Rattle.std.proofs.lemmas.List.Edits.{sets};
 ghost use Rattle.rules.specs.Record.{last_year_of, field_count, fields_of, cells};

@@ -5,7 +5,7 @@ use native.Mathlib.Nat.{not-suc-le-zero}
 use native.Mathlib.Omega.{arith}
 use borrow.Author.Tests.{le-leb}
 use mathlib.Core.Path.{◌≡◌, refl, ap, ◌∙◌}
-use mathlib.Core.Bool.{Bool, true, false, and_true}
+use mathlib.Core.Bool.{Bool, true, false, and-true}
 use mathlib.Core.List.{List, [], ◌∷◌}
 use lib.ListN.{length}
 use Rattle.rules.specs.Lists.{every, between}
@@ -50,7 +50,7 @@ unsigned w l m = record { signed = false; width = w; least = l; most = m }
 -- its range
 plain : (w l m x : ℕ) → bits_in_range (unsigned w l m) x ≡ between l m x
 unfolding bits_in_range in_range negative_zero value_of
-plain w l m x = and_true (between l m x)
+plain w l m x = and-true (between l m x)
 
 every_plain : (w l m : ℕ) (xs : List ℕ) → every (bits_in_range (unsigned w l m)) xs ≡ every (between l m) xs
 unfolding every

@@ -1,4 +1,6 @@
 // A record's figures: questions 4 and 5 of one that has passed 1 and 2.
+#![tactic(auto)]
+
 ghost use Rattle.std.specs.Prelude.{◌≡◌, map, ◌<◌, ◌≤◌, ◌^◌, get_or};
 ghost use Rattle.std.proofs.lemmas.List.Edits.{sets};
 ghost use Rattle.rules.specs.Record.{increment, value_of, bits_in_range};
@@ -16,7 +18,7 @@ use packing::field;
 use rules::{ACCEPTED, MILLION, MOST_AMOUNT, MOST_INDEX, SIGN};
 
 // The answer of questions 4 and 5, the weight and the amount still to be paid.
-#[derive(Drop)]
+#[derive(Clone, Copy)]
 pub struct Opened {
     pub answer: u64,
     pub weight: u64,

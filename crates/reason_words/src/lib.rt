@@ -1,4 +1,6 @@
 // What is said of a year of which question 7 or 13 says no, in a lent buffer.
+#![tactic(auto)]
+
 ghost use Rattle.std.specs.Prelude.{◌<◌};
 ghost use Rattle.composing.specs.Text.{Put};
 ghost use Rattle.reason_words.specs.ReasonWords.{year_reason, base_reason, factor_reason};

@@ -1,4 +1,6 @@
 // The year of which question 7 or 13 says no.
+#![tactic(auto)]
+
 ghost use Rattle.std.specs.Prelude.{◌≡◌, false, ◌≤◌, ◌<◌, leb, pos, get_or};
 ghost use Rattle.rules.specs.Ladder.{factors_pass};
 ghost use Rattle.entries.specs.Leading.{leading};

@@ -1,4 +1,6 @@
 // The report's figures of a record and a result list of it.
+#![tactic(auto)]
+
 ghost use Rattle.std.specs.Prelude.{◌≡◌, pos, replicate};
 ghost use Rattle.rules.specs.Questions.{first_no};
 ghost use Rattle.rules.specs.Record.{last_year_of, figures_of};

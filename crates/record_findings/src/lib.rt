@@ -1,4 +1,6 @@
 // The figures of questions 1, 2 and 5 where they say no, which is of the record as a whole.
+#![tactic(auto)]
+
 ghost use Rattle.std.specs.Prelude.{◌≡◌, ◌≤◌, ◌<◌, ◌^◌, length};
 ghost use Rattle.rules.specs.Lists.{total};
 ghost use Rattle.rules.specs.Results.{most_entries};

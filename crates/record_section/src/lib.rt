@@ -1,4 +1,6 @@
 // The section of the report that has the record itself, in a lent buffer.
+#![tactic(auto)]
+
 ghost use Rattle.std.specs.Prelude.{cond, []};
 ghost use Rattle.composing.specs.Text.{Put};
 ghost use Rattle.record_section.specs.RecordSection.{digits_text, record_section};

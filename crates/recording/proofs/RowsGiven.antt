@@ -2,7 +2,7 @@
 use Prim.Native.Nat.{ℕ, ◌+◌, ◌<◌, ◌^◌}
 use native.Mathlib.Omega.{arith}
 use mathlib.Core.Path.{◌≡◌, refl, ap, ◌∙◌}
-use mathlib.Core.Bool.{Bool, true, false, ◌&&◌, and_true}
+use mathlib.Core.Bool.{Bool, true, false, ◌&&◌, and-true}
 use mathlib.Core.List.{List, [], ◌∷◌, map, zip_with}
 use borrow.Author.Tests.{eqb-true, leb-true}
 use lib.Dec.{eqb, leb, lit<}
@@ -164,9 +164,9 @@ module _ (g : Figures) (m : ℕ) (l : Lengths g m) where
         plain_range weight refl (g.weight ∷ []),
         plain_range ulae refl g.ulae,
         plain_range tail refl (g.tail ∷ []),
-        and_true (between 0 million g.weight),
-        and_true (between 0 most_amount g.tail),
-        and_true (between 0 most_amount g.tail),
+        and-true (between 0 million g.weight),
+        and-true (between 0 most_amount g.tail),
+        and-true (between 0 most_amount g.tail),
       )
 
 -- what question 4 says, row by row
@@ -190,9 +190,9 @@ ranges_hold g h =
       increments = b;
       indices = c;
       reporting = d;
-      weight = and_true (between 0 million g.weight) ∙ e;
+      weight = and-true (between 0 million g.weight) ∙ e;
       ulae = both_left (every (between 0 most_amount) g.ulae) (between 0 most_amount g.tail) f;
-      tail = and_true (between 0 most_amount g.tail) ∙ both_right (every (between 0 most_amount) g.ulae) (between 0 most_amount g.tail) f;
+      tail = and-true (between 0 most_amount g.tail) ∙ both_right (every (between 0 most_amount) g.ulae) (between 0 most_amount g.tail) f;
     }
 
 -- and so each field has no more bits than its width

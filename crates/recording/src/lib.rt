@@ -1,4 +1,6 @@
 // A record from its fields, each in its range, packed into a lent buffer.
+#![tactic(auto)]
+
 ghost use Rattle.std.specs.Prelude.{◌≡◌, true, map, ◌*◌, ◌<◌, ◌^◌, length, replicate};
 ghost use Rattle.rules.specs.Packing.{pack};
 ghost use Rattle.rules.specs.Record.{figures, increment, in_range, code_of, record_of};

@@ -1,4 +1,6 @@
 // Why question 7 or 13 says no, in words in a lent buffer.
+#![tactic(auto)]
+
 ghost use Rattle.std.specs.Prelude.{◌≡◌, false, ◌<◌, pos, get_or};
 ghost use Rattle.rules.specs.Ladder.{factors_pass};
 ghost use Rattle.composing.specs.Text.{Put};

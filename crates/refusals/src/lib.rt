@@ -1,4 +1,6 @@
 // The words of a refusal of a record in a lent buffer: of questions 7 and 13 with their reason.
+#![tactic(auto)]
+
 ghost use Rattle.std.specs.Prelude.{◌≡◌, true, cond};
 ghost use Rattle.composing.specs.Text.{Put};
 ghost use Rattle.refusals.specs.Refusal.{PassedToSix, NoDevelopment, Refused, totals_of, development_of, words_of, refusal_of};

@@ -1,4 +1,6 @@
 // The section of a refused record, in a lent buffer.
+#![tactic(auto)]
+
 ghost use Rattle.std.specs.Prelude.{◌≤◌, ◌<◌};
 ghost use Rattle.composing.specs.Text.{Put};
 ghost use Rattle.refused_section.specs.RefusedSection.{place_words, at_place, refused_heading, refused_section};

@@ -1,4 +1,6 @@
 // The whole report of an input: no page is ever cut.
+#![tactic(auto)]
+
 ghost use Rattle.std.specs.Prelude.{◌≡◌, ◌≤◌, ◌<◌, length, take};
 ghost use Rattle.reports.specs.Report.{report_in};
 ghost use Rattle.report_lengths.specs.Page.{most_page, most_input};

@@ -1,4 +1,6 @@
 // The report of any input, as a page of HTML or of text: years, a title, a line of inflation and a record.
+#![tactic(auto)]
+
 ghost use Rattle.std.specs.Prelude.{◌≡◌, ◌≤◌};
 ghost use Rattle.rules.specs.Results.{most_entries};
 ghost use Rattle.rules.specs.Engine.{run_answer};

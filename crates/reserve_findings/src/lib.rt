@@ -1,4 +1,6 @@
 // Where questions 11, 12 and 15 say no, and the figures there.
+#![tactic(auto)]
+
 ghost use Rattle.std.specs.Prelude.{◌≡◌, ℕ, ◌+◌, ◌*◌, ◌≤◌, ◌<◌, leb, pos, get_or, take};
 ghost use Rattle.rules.specs.Lists.{total};
 ghost use Rattle.rules.specs.Record.{figures_of};

@@ -1,4 +1,6 @@
 // From figures whose separation was accepted, with their tail payments and development factors, to the result list: questions 11, 12, 15, 16, 17 and 14.
+#![tactic(auto)]
+
 ghost use Rattle.std.specs.Prelude.{◌≤◌, length};
 ghost use Rattle.rules.specs.Record.{figures};
 ghost use Rattle.rules.specs.Results.{result_count};

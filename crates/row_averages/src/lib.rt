@@ -1,4 +1,6 @@
 // The averages of a row of a triangle with the totals of their columns and diagonals, the sums of the cumulatives' columns, and the row's paid cumulative.
+#![tactic(auto)]
+
 ghost use Rattle.std.specs.Prelude.{◌≡◌, true, ◌+◌, ◌-◌, ◌≤◌, ◌<◌, nat_abs, get_or};
 ghost use Rattle.std.proofs.lemmas.List.Edits.{sets};
 ghost use Rattle.rules.specs.Lists.{up_to, below, every};

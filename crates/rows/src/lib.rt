@@ -1,10 +1,12 @@
 // A section of the result list cut into rows.
+#![tactic(auto)]
+
 ghost use Rattle.std.specs.Prelude.{◌≡◌, ◌-◌, ◌≤◌};
 ghost use Rattle.rules.specs.Results.{most_entries};
 ghost use Rattle.rows.specs.Rows.{falling, rising, level, next_row};
 
 // The blank columns and the entries of the first row, and how many entries a next row has more, in place of blank columns, or fewer.
-#[derive(Drop)]
+#[derive(Clone, Copy)]
 pub struct Rows {
     pub blank: usize,
     pub count: usize,

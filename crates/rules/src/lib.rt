@@ -1,4 +1,5 @@
 // The factors of a separation and the rates of inflation as the code holds them, and the limits of the rules. The rules themselves stand in specs/.
+#![tactic(auto)]
 
 // What a call answers where every question says yes.
 pub const ACCEPTED: u64 = 0;
@@ -54,7 +55,7 @@ pub struct Factors {
 
 // Rates of inflation in one of three shapes: a flat rate; a rate that moves halfway each year toward a long-run rate; a shock rate in a named year, the first being
 // year 1, with another rate in the others.
-#[derive(Drop)]
+#[derive(Clone, Copy)]
 pub enum Inflation {
     Flat(f64),
     Fading(f64, f64),
@@ -62,7 +63,7 @@ pub enum Inflation {
 }
 
 // What is handed from year to year: the current rate, and the value of the path before that year.
-#[derive(Drop)]
+#[derive(Clone, Copy)]
 pub struct Path {
     pub rate: f64,
     pub value: f64,

@@ -1,4 +1,6 @@
 // Parts of a text, and numbers.
+#![tactic(auto)]
+
 ghost use Rattle.std.specs.Prelude.{◌≡◌, ◌≤◌, ◌<◌, ◌^◌, length};
 ghost use Rattle.scanning.specs.Parts.{among, before, until, from, past, meets, same_text_of};
 ghost use Rattle.scanning.specs.Numbers.{is_digit, is_natural, is_number, with_digit, size_from, whole_of};

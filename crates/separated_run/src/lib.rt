@@ -1,4 +1,6 @@
 // A run on figures whose separation was accepted: the tail under questions 18 and 19, and what follows it.
+#![tactic(auto)]
+
 ghost use Rattle.std.specs.Prelude.{◌≤◌, length};
 ghost use Rattle.rules.specs.Record.{figures};
 ghost use Rattle.rules.specs.Results.{result_count};

@@ -1,4 +1,6 @@
 // The bytes that separate the cells of a line, and a text from its first cell on.
+#![tactic(auto)]
+
 ghost use Rattle.std.specs.Prelude.{◌≡◌};
 ghost use Rattle.separating.specs.Separators.{decides, separators, is_over, from_cell};
 

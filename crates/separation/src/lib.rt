@@ -1,4 +1,6 @@
 // Taylor's separation: shares and levels from a square of averages, or from its totals, and k alone, under questions 7 to 10.
+#![tactic(auto)]
+
 ghost use Rattle.std.specs.Prelude.{◌≡◌, List, ◌+◌, ◌-◌, ◌*◌, ◌/◌, ◌≤◌, ◌<◌, ℤ, length, get_or};
 ghost use Rattle.rules.specs.Questions.{after_call};
 ghost use Rattle.rules.specs.Separation.{billion, no_factors, factors_of, separate_answer, separated};

@@ -1,4 +1,6 @@
 // Styles of a triangle's cells, by row.
+#![tactic(auto)]
+
 ghost use Rattle.std.specs.Prelude.{◌≡◌, ◌+◌, ◌≤◌, ◌<◌, nat_abs};
 ghost use Rattle.rules.specs.Lists.{up_to, padded};
 ghost use Rattle.rules.specs.Record.{cells};

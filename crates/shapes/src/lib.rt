@@ -1,4 +1,6 @@
 // Lines, bars and labels of a plot at given places, in a lent buffer.
+#![tactic(auto)]
+
 ghost use Rattle.std.specs.Prelude.{◌+◌, ◌≤◌};
 ghost use Rattle.composing.specs.Text.{Put};
 ghost use Rattle.shapes.specs.Shapes.{numbered, tick_line, shape, told, slot_label};

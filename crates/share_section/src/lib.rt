@@ -1,4 +1,6 @@
 // The section of the shares and the levels, in a lent buffer.
+#![tactic(auto)]
+
 ghost use Rattle.std.specs.Prelude.{◌<◌, ◌≤◌};
 ghost use Rattle.composing.specs.Text.{Put};
 ghost use Rattle.page_figures.specs.Given.{Figured};

@@ -1,4 +1,6 @@
 // The shares by development year, in a lent buffer: a table beside a plot.
+#![tactic(auto)]
+
 ghost use Rattle.std.specs.Prelude.{◌<◌};
 ghost use Rattle.composing.specs.Text.{Put};
 ghost use Rattle.page_figures.specs.Given.{Figured};

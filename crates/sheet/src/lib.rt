@@ -1,4 +1,6 @@
 // The lines of a sheet of figures: one table, by which they are written, read and named.
+#![tactic(auto)]
+
 ghost use Rattle.std.specs.Prelude.{◌≡◌, [], ◌<◌, get_or};
 ghost use Rattle.composing.specs.Text.{Put};
 ghost use Rattle.sheet.specs.Table.{labels, due_at};
@@ -10,7 +12,7 @@ use rules::{MILLION, MOST_AMOUNT, MOST_INDEX};
 use scanning::same_text;
 
 // A line that is due: its row, how many numbers it takes, the least and the most that each may be.
-#[derive(Drop)]
+#[derive(Clone, Copy)]
 pub struct Due {
     pub row: usize,
     pub count: usize,
@@ -19,7 +21,7 @@ pub struct Due {
 }
 
 // What is wrong with a line, and the number of the cell that it is about.
-#[derive(Drop)]
+#[derive(Clone, Copy)]
 pub struct Wrong {
     pub problem: u64,
     pub cell: usize,
@@ -27,7 +29,7 @@ pub struct Wrong {
 
 // What reading comes to: a problem, 0 for none, the line of the text, the place of the line due, the cell that the problem is about, how long
 // the word that it is about is, and how many numbers were read.
-#[derive(Drop)]
+#[derive(Clone, Copy)]
 pub struct Found {
     pub problem: u64,
     pub line: usize,

@@ -1,4 +1,6 @@
 // The fields of a record in a list, handed to the writer row by row.
+#![tactic(auto)]
+
 ghost use Rattle.std.specs.Prelude.{◌≡◌, ◌++◌, map, ◌+◌, ◌≤◌, ◌<◌, nat_abs, length, take, drop};
 ghost use Rattle.rules.specs.Lists.{padded};
 ghost use Rattle.rules.specs.Record.{byte_count, most_bytes, most_fields};

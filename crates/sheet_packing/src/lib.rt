@@ -1,4 +1,6 @@
 // Figures typed as text, packed into a record, or in words what is wrong with them.
+#![tactic(auto)]
+
 ghost use Rattle.std.specs.Prelude.{◌≡◌};
 ghost use Rattle.composing.specs.Text.{Put};
 ghost use Rattle.sheet.specs.Sheet.{read_sheet, pack_into};
@@ -13,7 +15,7 @@ use sheet_reading::read_sheet;
 use wording::put_refusal;
 
 // How many bytes of the record and of the message there are: one of the two is none.
-#[derive(Drop)]
+#[derive(Clone, Copy)]
 pub struct Outcome {
     pub size: usize,
     pub said: usize,

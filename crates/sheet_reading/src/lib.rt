@@ -1,4 +1,6 @@
 // A history or figures typed as text, read line by line into a list of numbers.
+#![tactic(auto)]
+
 ghost use Rattle.std.specs.Prelude.{◌≡◌, length};
 ghost use Rattle.sheet.specs.Table.{room_in};
 ghost use Rattle.sheet.specs.Sheet.{unmarked, read_text, read_sheet};

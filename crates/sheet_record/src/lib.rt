@@ -1,1 +1,2 @@
 // The text of a record read again: the theorems stand in proofs/.
+#![tactic(auto)]

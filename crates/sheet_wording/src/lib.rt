@@ -1,4 +1,6 @@
 // What is wrong with a text of figures, in words.
+#![tactic(auto)]
+
 ghost use Rattle.std.specs.Prelude.{cond, [], ◌++◌, eqb, get_or};
 ghost use Rattle.composing.specs.Text.{Put, decimal};
 ghost use Rattle.sheet.specs.Table.{label_due};

@@ -1,4 +1,6 @@
 // The fields of a record as text: labelled lines, the increments of each origin year in a line of their own.
+#![tactic(auto)]
+
 ghost use Rattle.std.specs.Prelude.{◌≡◌, ◌+◌, ◌<◌, ◌≤◌, length, take, drop};
 ghost use Rattle.rules.specs.Record.{most_fields};
 ghost use Rattle.rules.specs.Reading.{read_answer_of};
@@ -54,7 +56,7 @@ pub fn put_sheet(out: &mut [u8], list: &[i64; MOST_FIELDS]) -> usize
 }
 
 // What showing a record came to: the reader's answer, and where the text ends.
-#[derive(Drop)]
+#[derive(Clone, Copy)]
 pub struct Shown {
     pub answer: u64,
     pub end: usize,

@@ -3,12 +3,13 @@ use Prim.Native.Nat.{ℕ, ◌+◌, ◌*◌, ◌^◌, ◌≤◌, ◌<◌, zero-le
 use native.Mathlib.Decide.{dec_lt}
 use native.Mathlib.Omega.{arith}
 use borrow.Author.Tests.{lt-ltb, ltb-true}
-use mathlib.Core.Path.{◌≡◌, sym, ap, ◌∙◌}
+use mathlib.Core.Path.{◌≡◌, refl, sym, ap, ◌∙◌}
 use mathlib.Core.Bool.{Bool, true, false, cond}
 use lib.Dec.{ltb}
 use lib.IntN.{ℤ, pos, nat_abs, ◌+ℤ◌}
 use mir.Syntax.{w64}
 use mir.Val.{SFits, to_z, of_z}
+use mir.Facts.{to_z-of_z}
 use Rattle.rules.specs.Triangle.{sum_to}
 use Rattle.laws.proofs.Signed.{held}
 use Rattle.laws.proofs.Sums.{sum_to_same}
@@ -45,3 +46,14 @@ module _ (f : ℕ → ℤ) (b n : ℕ) (small : (i : ℕ) → i < n → nat_abs 
   pub sum_fits : (m s : ℕ) → m < n → (m + 1) * b < 2 ^ 63 → s ≡ of_z w64 (sum_to f m) → SFits w64 (to_z w64 s +ℤ held (f m))
   sum_fits m s h q e =
       rw (term_is m h) at (step_fits term b term_small m s q (e ∙ ap (of_z w64) (sym (same m (omega arith)))))
+
+  -- the same where the sum is known as a number
+  pub turn_fits : (m : ℕ) → m < n → (m + 1) * b < 2 ^ 63 → SFits w64 (sum_to f m +ℤ held (f m))
+  turn_fits m h q =
+      let r : m * b < 2 ^ 63 = omega arith in
+      rw (sum_read m (of_z w64 (sum_to f m)) (omega arith) r refl) at (sum_fits m (of_z w64 (sum_to f m)) h q refl)
+
+  pub turn_is : (m : ℕ) → m < n → (m + 1) * b < 2 ^ 63 → to_z w64 (of_z w64 (sum_to f m +ℤ held (f m))) ≡ sum_to f (m + 1)
+  turn_is m h q =
+      let r : m * b < 2 ^ 63 = omega arith in
+      to_z-of_z (turn_fits m h q) ∙ (rw (sum_read m (of_z w64 (sum_to f m)) (omega arith) r refl) at (sum_step m (of_z w64 (sum_to f m)) h q refl))

@@ -1,4 +1,6 @@
 // Sums and differences of signed numbers far below 2^63.
+#![tactic(auto)]
+
 ghost use Rattle.std.specs.Prelude.{◌≡◌, ℕ, ◌+◌, ◌*◌, ◌≤◌, ◌<◌, pos, nat_abs, ◌+ℤ◌, ◌-ℤ◌, length, get_or};
 ghost use Rattle.rules.specs.Triangle.{sum_to};
 ghost use Rattle.signed_sums.specs.Small.{most_figure, SizedAlong, Summed};

@@ -1,4 +1,6 @@
 // Whole numbers with their sign in a lent buffer.
+#![tactic(auto)]
+
 ghost use Rattle.composing.specs.Text.{sign, integer, Put};
 
 use composing::{put_byte, put_decimal};

@@ -1,4 +1,6 @@
 // Tables of single figures in a lent buffer.
+#![tactic(auto)]
+
 ghost use Rattle.composing.specs.Text.{Put};
 ghost use Rattle.single_tables.specs.Singles.{single_table, limits_table};
 

@@ -1,4 +1,6 @@
 // Single figures of the report in one array: those that are given, stand in the list, or are limits.
+#![tactic(auto)]
+
 ghost use Rattle.std.specs.Prelude.{◌≡◌, ◌<◌};
 ghost use Rattle.std.proofs.lemmas.List.Edits.{sets};
 ghost use Rattle.listing.specs.Starts.{starts_of};

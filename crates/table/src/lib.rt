@@ -1,4 +1,6 @@
 // A table of the report, in a lent buffer.
+#![tactic(auto)]
+
 ghost use Rattle.composing.specs.Text.{Put};
 ghost use Rattle.table_heads.specs.Heads.{Fits};
 ghost use Rattle.table.specs.Table.{table};

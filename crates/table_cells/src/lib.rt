@@ -1,4 +1,6 @@
 // Cells of a table of the report, in HTML and as text, in a lent buffer; how wide they are.
+#![tactic(auto)]
+
 ghost use Rattle.std.specs.Prelude.{◌≡◌, ◌*◌, ◌≤◌, ◌<◌, max, length};
 ghost use Rattle.composing.specs.Text.{Put};
 ghost use Rattle.table_cells.specs.Cells.{most_places, styled, mark_of, decimals_of, class_name, cell_start, percent_sign, web_number, web_cell, text_cell, web_cell_at, text_cell_at, column_places};

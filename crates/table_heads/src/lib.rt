@@ -1,4 +1,6 @@
 // Heads and labels of a table of the report, in a lent buffer; how long they are.
+#![tactic(auto)]
+
 ghost use Rattle.std.specs.Prelude.{◌≡◌, ◌+◌, ◌≤◌, length};
 ghost use Rattle.composing.specs.Text.{Put};
 ghost use Rattle.table_heads.specs.Heads.{head, rows_in, label};
@@ -8,7 +10,7 @@ use lines::{line_length, put_line};
 use number_lengths::decimal_length;
 
 // The rows of a table's body, its columns after the labels, how many of the columns are development years, and the first year of the rows.
-#[derive(Drop)]
+#[derive(Clone, Copy)]
 pub struct Shape {
     pub rows: usize,
     pub columns: usize,

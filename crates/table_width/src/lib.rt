@@ -1,4 +1,6 @@
 // The width of a table of the report in characters.
+#![tactic(auto)]
+
 ghost use Rattle.std.specs.Prelude.{◌≡◌, ◌+◌, ◌*◌, ◌≤◌};
 ghost use Rattle.table_width.specs.Width.{measure};
 

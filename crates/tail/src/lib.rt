@@ -1,4 +1,6 @@
 // Payments after the last year: the average of the amount still to be paid for year 0, carried to the tail payments of the years, under questions 18 and 19.
+#![tactic(auto)]
+
 ghost use Rattle.std.specs.Prelude.{◌≡◌, ◌≤◌, get_or};
 ghost use Rattle.std.proofs.lemmas.List.Edits.{sets};
 ghost use Rattle.rules.specs.Lists.{up_to};

@@ -1,4 +1,6 @@
 // The cells of a row of a table as text, each at the right of its column.
+#![tactic(auto)]
+
 ghost use Rattle.std.specs.Prelude.{cond, ◌≡◌, eqb, ◌+◌, ◌≤◌, ◌<◌};
 ghost use Rattle.composing.specs.Text.{Put, right};
 ghost use Rattle.table_cells.specs.Cells.{text_cell_at};

@@ -1,4 +1,6 @@
 // Figures typed as text, packed into a record; a line of inflation is asked before the other lines.
+#![tactic(auto)]
+
 ghost use Rattle.std.specs.Prelude.{◌≡◌};
 ghost use Rattle.composing.specs.Text.{Put};
 ghost use Rattle.sheet.specs.Sheet.{packed_into};

@@ -1,4 +1,6 @@
 // A table of the report as text, in a lent buffer.
+#![tactic(auto)]
+
 ghost use Rattle.std.specs.Prelude.{◌≡◌, ◌*◌, ◌≤◌, length};
 ghost use Rattle.rules.specs.Lists.{up_to, joined, padded};
 ghost use Rattle.composing.specs.Text.{Put, right};

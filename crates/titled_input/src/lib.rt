@@ -1,9 +1,11 @@
 // The input of a report's program: years, title, a line of inflation and the record.
+#![tactic(auto)]
+
 ghost use Rattle.std.specs.Prelude.{◌≡◌, ◌<◌, min, get_or};
 ghost use Rattle.titled_input.specs.Titled.{first_in, Split};
 
 // Where the title starts and where it ends, at the length of the line of inflation, where the line starts, and where it ends and the record starts.
-#[derive(Drop)]
+#[derive(Clone, Copy)]
 pub struct Parts {
     pub title: usize,
     pub sized: usize,

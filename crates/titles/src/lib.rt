@@ -1,4 +1,6 @@
 // Texts of the user in a lent buffer, escaped on the HTML page.
+#![tactic(auto)]
+
 ghost use Rattle.std.specs.Prelude.{◌≡◌};
 ghost use Rattle.composing.specs.Text.{Put};
 ghost use Rattle.titles.specs.Titles.{plain_byte, escaped_byte, byte_in, text_in, title_in};

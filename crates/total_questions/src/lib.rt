@@ -1,4 +1,6 @@
 // Questions 7 and 8 of the totals of a square of averages, and what the walk down its years is made over.
+#![tactic(auto)]
+
 ghost use Rattle.std.specs.Prelude.{◌≡◌, true, ◌&&◌, List, ℕ, ◌≤◌, ◌<◌, ℤ, pos, nat_abs, length, get_or};
 ghost use Rattle.std.specs.Int.Signed.{le_z};
 ghost use Rattle.rules.specs.Lists.{below, every};

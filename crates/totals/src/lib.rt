@@ -1,4 +1,6 @@
 // The totals of the columns and of the diagonals of averages: the step for one cell, and a pass by row over a square cut out of rows. Laws about them, and about T, stand in proofs/.
+#![tactic(auto)]
+
 ghost use Rattle.std.specs.Prelude.{◌≡◌, ◌+◌, ◌≤◌, ◌<◌, pos, nat_abs, ◌+ℤ◌, length, get_or, set};
 ghost use Rattle.rules.specs.Triangle.{TotalsSoFar, CellPassed};
 ghost use Rattle.totals.specs.CellSizes.{most_average, Cells, TotalsSmall};

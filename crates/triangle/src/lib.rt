@@ -1,4 +1,6 @@
 // Question 6 of a row of a triangle, and what passing it says of the increments' cumulatives, of the sums of their columns and of the averages.
+#![tactic(auto)]
+
 ghost use Rattle.std.specs.Prelude.{◌≡◌, ◌≤◌, ◌<◌};
 ghost use Rattle.rules.specs.Triangle.{row_start, row_passes};
 ghost use Rattle.triangle.specs.Columns.{Increments};

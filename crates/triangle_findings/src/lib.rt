@@ -1,4 +1,6 @@
 // Where questions 7 and 8 say no of a record, and the figures there.
+#![tactic(auto)]
+
 ghost use Rattle.std.specs.Prelude.{◌≡◌, true, false, ◌+◌, ◌≤◌, ◌<◌, pos, nat_abs, ◌+ℤ◌, ◌-ℤ◌, get_or};
 ghost use Rattle.rules.specs.Lists.{every, below};
 ghost use Rattle.rules.specs.Questions.{first_no};

@@ -1,5 +1,7 @@
 // The averages of a triangle in a square, the totals of the averages' columns and diagonals, the sums of the cumulatives' columns, the paid cumulatives, and question 6,
 // in one pass by row.
+#![tactic(auto)]
+
 ghost use Rattle.std.specs.Prelude.{◌≡◌, ◌<◌, pos, replicate};
 ghost use Rattle.rules.specs.Lists.{up_to, padded};
 ghost use Rattle.rules.specs.Triangle.{cumulatives_pass, paid_to, average_row, averages_of, TotalsSoFar};

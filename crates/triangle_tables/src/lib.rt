@@ -1,4 +1,6 @@
 // Tables of a triangle.
+#![tactic(auto)]
+
 ghost use Rattle.std.specs.Prelude.{◌+◌, ◌≤◌, ◌<◌};
 ghost use Rattle.rules.specs.Record.{cells};
 ghost use Rattle.rules.specs.Triangle.{future_start};

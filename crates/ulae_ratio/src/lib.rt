@@ -1,4 +1,6 @@
 // The ULAE ratio that a valuation year uses, from the paid cumulatives and the ULAE totals: questions 12, 15, 16 and 17.
+#![tactic(auto)]
+
 ghost use Rattle.std.specs.Prelude.{◌+◌, take};
 ghost use Rattle.rules.specs.Lists.{total};
 ghost use Rattle.rules.specs.Growth.{latest_reported, latest_paid, divisor_of};

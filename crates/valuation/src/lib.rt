@@ -1,4 +1,6 @@
 // The input of a program that runs the engine: the valuation year in two bytes, the high one first, and then the record.
+#![tactic(auto)]
+
 ghost use Rattle.std.specs.Prelude.{◌≡◌, ◌+◌, ◌<◌, ◌≤◌, length, drop};
 ghost use Rattle.valuation.specs.Valuation.{pair_at, year_in, record_in};
 

@@ -1,4 +1,6 @@
 // Sections of one array of figures, each put from a place on and worked out from sections before it.
+#![tactic(auto)]
+
 ghost use Rattle.std.specs.Prelude.{◌≡◌, ◌+◌, ◌≤◌};
 ghost use Rattle.std.proofs.lemmas.List.Edits.{sets};
 ghost use Rattle.signed_sums.specs.Small.{most_figure, Sized, Summed};

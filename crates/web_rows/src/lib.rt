@@ -1,4 +1,6 @@
 // A row of a table of the report in HTML: of the body, and of the total after it.
+#![tactic(auto)]
+
 ghost use Rattle.std.specs.Prelude.{◌+◌, ◌*◌, ◌≤◌};
 ghost use Rattle.composing.specs.Text.{Put};
 ghost use Rattle.table_heads.specs.Heads.{Fits};

@@ -1,4 +1,6 @@
 // A table of the report in HTML, in a lent buffer.
+#![tactic(auto)]
+
 ghost use Rattle.std.specs.Prelude.{◌≤◌};
 ghost use Rattle.rules.specs.Lists.{up_to, joined};
 ghost use Rattle.composing.specs.Text.{Put};

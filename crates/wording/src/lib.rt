@@ -1,4 +1,6 @@
 // Refusals in words: the number of a question, and what is not so.
+#![tactic(auto)]
+
 ghost use Rattle.composing.specs.Text.{Put};
 ghost use Rattle.wording.specs.Wording.{question_text, refusal_text};
 

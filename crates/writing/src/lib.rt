@@ -1,4 +1,6 @@
 // The writer: a record from its fields, or the number of the first question that says no.
+#![tactic(auto)]
+
 ghost use Rattle.std.specs.Prelude.{◌≡◌, length};
 ghost use Rattle.rules.specs.Record.{figures};
 ghost use Rattle.rules.specs.Writing.{write_answer, write_into};

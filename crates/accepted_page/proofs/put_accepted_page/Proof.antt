@@ -8,10 +8,10 @@ use Rattle.accepted_page.proofs.put_accepted_page.Tie as tie
 returns : tie.Need-returns
 unfolding accepted_page
 returns c =
-    put_append c.before.before.before.before.before.before.before.before.before.before.before.before.before.before.before.before.before.before.before.before.before.before.put-page-start.ensures
-    (put_five c.before.before.before.before.before.before.before.before.before.before.before.before.before.before.before.before.before.before.put-opening.ensures c.before.before.before.before.before.before.before.before.before.before.before.before.before.before.put-method-sections.ensures c.before.before.before.before.before.before.before.before.before.before.put-other-sections.ensures c.before.before.before.before.before.before.put-record-section.ensures c.before.before.put-page-end.ensures)
+    put_append c.before.before.before.before.before.before.before.before.before.before.before.before.before.before.before.before.before.before.before.before.before.before.put_page_start-a.ensures
+    (put_five c.before.before.before.before.before.before.before.before.before.before.before.before.before.before.before.before.before.before.put_opening-b.ensures c.before.before.before.before.before.before.before.before.before.before.before.before.before.before.put_method_sections-c.ensures c.before.before.before.before.before.before.before.before.before.before.put_other_sections-d.ensures c.before.before.before.before.before.before.put_record_section-e.ensures c.before.before.put_page_end.ensures)
 
-pub put-accepted-page-spec : {M : Type 1} → statement M
-put-accepted-page-spec =
+pub put_accepted_page_spec : {M : Type 1} → statement M
+put_accepted_page_spec =
     tie.close
     (tie.spec (λ c κs. search rules) (λ c κs. search rules) (λ c κs. search rules) (λ c κs. search rules) (λ c κs. search rules) (λ c κs. search rules) (λ c. search rules) returns)

@@ -12,8 +12,11 @@ use Rattle.advice.proofs.put_advice.Tie as tie
 
 returns : tie.Need-returns
 unfolding advice_texts advice_text written first_line line_of every passing
-returns c = put_same (line_is advice_texts (written advice_texts) c.before.before.before.before.before.before.args.n refl) c.before.before.put-line.ensures
+returns c = put_same (line_is advice_texts (written advice_texts) c.before.before.before.before.before.before.before.args.n refl) c.before.before.put_line.ensures
 
-pub put-advice-spec : {M : Type 1} → statement M
-put-advice-spec =
-    tie.close (tie.spec (λ c. search rules) (λ c κs. search rules) (λ c. search rules) returns)
+pub put_advice_spec : {M : Type 1} → statement M
+put_advice_spec =
+    tie.close (tie.spec
+    (λ c κs. search rules)
+    (λ c. search rules)
+    returns)

@@ -12,8 +12,11 @@ use Rattle.advice.proofs.put_asked.Tie as tie
 
 returns : tie.Need-returns
 unfolding asked_texts asked_text written first_line line_of every passing
-returns c = put_same (line_is asked_texts (written asked_texts) c.before.before.before.before.before.before.args.n refl) c.before.before.put-line.ensures
+returns c = put_same (line_is asked_texts (written asked_texts) c.before.before.before.before.before.before.before.args.n refl) c.before.before.put_line.ensures
 
-pub put-asked-spec : {M : Type 1} → statement M
-put-asked-spec =
-    tie.close (tie.spec (λ c. search rules) (λ c κs. search rules) (λ c. search rules) returns)
+pub put_asked_spec : {M : Type 1} → statement M
+put_asked_spec =
+    tie.close (tie.spec
+    (λ c κs. search rules)
+    (λ c. search rules)
+    returns)

@@ -12,8 +12,11 @@ use Rattle.advice.proofs.put_said.Tie as tie
 
 returns : tie.Need-returns
 unfolding said_texts said_text written first_line line_of every passing
-returns c = put_same (line_is said_texts (written said_texts) c.before.before.before.before.before.before.args.n refl) c.before.before.put-line.ensures
+returns c = put_same (line_is said_texts (written said_texts) c.before.before.before.before.before.before.before.args.n refl) c.before.before.put_line.ensures
 
-pub put-said-spec : {M : Type 1} → statement M
-put-said-spec =
-    tie.close (tie.spec (λ c. search rules) (λ c κs. search rules) (λ c. search rules) returns)
+pub put_said_spec : {M : Type 1} → statement M
+put_said_spec =
+    tie.close (tie.spec
+    (λ c κs. search rules)
+    (λ c. search rules)
+    returns)

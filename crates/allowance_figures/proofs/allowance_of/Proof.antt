@@ -10,8 +10,8 @@ returns : tie.Need-returns
 unfolding allowance
 returns c = (refl, omega (arith, claims c.args.n c.args.i c.requires.0 c.requires.1))
 
-pub allowance-of-spec : {M : Type 1} → statement M
-allowance-of-spec =
+pub allowance_of_spec : {M : Type 1} → statement M
+allowance_of_spec =
     tie.close
     (tie.spec
     (λ c. omega arith)

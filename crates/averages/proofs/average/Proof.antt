@@ -11,41 +11,41 @@ use Rattle.averages.proofs.average.Statement.{statement}
 use Rattle.averages.proofs.average.Tie as tie
 
 -- the dividend that is held
-divided : (c : tie.After-dividend) → c.dividend.result ≡ away c.before.args.paid c.before.args.claims
-divided c = rw (to_z-of_z c.before.ranges.paid) at c.dividend.ensures
+divided : (c : tie.After-dividend-t) → c.dividend-t.result ≡ away c.before.args.paid c.before.args.claims
+divided c = rw (to_z-of_z c.before.ranges.paid) at c.dividend-t.ensures
 
-mul-twice : tie.Need-overflow-mul-twice
+mul-twice : tie.Need-overflow_mul-twice
 mul-twice c = let s = c.before in divisor_fits s.args.paid s.args.claims s.requires
 
-div-q : tie.Need-nonzero-div-q
-div-q c = let s = c.before in quotient_fits s.args.paid s.args.claims s.requires c.dividend.result (divided c)
+div-q : tie.Need-nonzero_div-q
+div-q c = let s = c.before in quotient_fits s.args.paid s.args.claims s.requires c.dividend-t.result (divided c)
 
-rem-if1 : tie.Need-nonzero-rem-if1
-rem-if1 c = let s = c.before in quotient_fits s.args.paid s.args.claims s.requires c.dividend.result (divided c)
+rem-if1 : tie.Need-nonzero_rem-t
+rem-if1 c = let s = c.before in quotient_fits s.args.paid s.args.claims s.requires c.dividend-t.result (divided c)
 
-returns : tie.Need-returns
-returns c = let d = c.before in let s = d.before in apart_is s.args.paid s.args.claims s.requires d.dividend.result (divided d) c.if1.true
+returns : tie.Need-returns-then-t-twice-ne0
+returns c = let d = c.before in let s = d.before in apart_is s.args.paid s.args.claims s.requires d.dividend-t.result (divided d) c.if-t-twice-ne0.true
 
-rem-if2 : tie.Need-nonzero-rem-if2
-rem-if2 c = let d = c.before in let s = d.before in (lit≤ tt, part_fits (quotient d.dividend.result s.args.claims) _ (quotient_room s.args.paid s.args.claims s.requires d.dividend.result (divided d)))
+rem-if2 : tie.Need-nonzero_rem-q
+rem-if2 c = let d = c.before in let s = d.before in (lit≤ tt, part_fits (quotient d.dividend-t.result s.args.claims) _ (quotient_room s.args.paid s.args.claims s.requires d.dividend-t.result (divided d)))
 
-returns-2 : tie.Need-returns-2
+returns-2 : tie.Need-returns-then-q-eq0
 returns-2 c =
     let d = c.before.before in
     let s = d.before in
-    even_is s.args.paid s.args.claims s.requires d.dividend.result (divided d) c.before.if1.false c.if2.true
+    even_is s.args.paid s.args.claims s.requires d.dividend-t.result (divided d) c.before.if-t-twice-ne0.false c.if-q-eq0.true
 
-returns-3 : tie.Need-returns-3
+returns-3 : tie.Need-returns
 returns-3 c =
     let z = c.toward_zero.result in
     let d = c.before.before.before in
     let s = d.before in
     let is =
-    odd_is s.args.paid s.args.claims s.requires d.dividend.result (divided d) c.before.before.if1.false c.before.if2.false z c.toward_zero.ensures in
+    odd_is s.args.paid s.args.claims s.requires d.dividend-t.result (divided d) c.before.before.if-t-twice-ne0.false c.before.if-q-eq0.false z c.toward_zero.ensures in
     rw (to_z-of_z (size_fits z (omega (arith, is.1)))) is
 
-pub average-spec : {M : Type 1} → statement M
-average-spec =
+pub average_spec : {M : Type 1} → statement M
+average_spec =
     tie.close
     (tie.spec
     (λ c κs. search rules)

@@ -9,29 +9,29 @@ use Rattle.averages.proofs.Rounding.{times, away, product_fits, dividend_below, 
 use Rattle.averages.proofs.dividend.Statement.{statement}
 use Rattle.averages.proofs.dividend.Tie as tie
 
-below : (c : tie.Then1) → times c.before.args.paid -ℤ to_z w64 c.before.args.claims ≡ away c.before.args.paid c.before.args.claims
-below c = let s = c.before in dividend_below s.args.paid s.args.claims s.requires c.if1.true
+below : (c : tie.Then-paid-lt0) → times c.before.args.paid -ℤ to_z w64 c.before.args.claims ≡ away c.before.args.paid c.before.args.claims
+below c = let s = c.before in dividend_below s.args.paid s.args.claims s.requires c.if-paid-lt0.true
 
-above : (c : tie.Else1) → times c.before.args.paid +ℤ to_z w64 c.before.args.claims ≡ away c.before.args.paid c.before.args.claims
-above c = let s = c.before in dividend_above s.args.paid s.args.claims s.requires c.if1.false
+above : (c : tie.Else-paid-lt0) → times c.before.args.paid +ℤ to_z w64 c.before.args.claims ≡ away c.before.args.paid c.before.args.claims
+above c = let s = c.before in dividend_above s.args.paid s.args.claims s.requires c.if-paid-lt0.false
 
-mul-result : tie.Need-overflow-mul-result
+mul-result : tie.Need-overflow_mul-result
 mul-result c = let s = c.before in product_fits s.args.paid s.args.claims s.requires
 
-sub-result : tie.Need-overflow-sub-result
+sub-result : tie.Need-overflow_sub-result
 sub-result c = let s = c.before in rw (below c) (dividend_fits s.args.paid s.args.claims s.requires)
 
-mul-result-2 : tie.Need-overflow-mul-result-2
+mul-result-2 : tie.Need-overflow_mul-result-else-paid-lt0
 mul-result-2 c = let s = c.before in product_fits s.args.paid s.args.claims s.requires
 
-add-result : tie.Need-overflow-add-result
+add-result : tie.Need-overflow_add-result
 add-result c = let s = c.before in rw (above c) (dividend_fits s.args.paid s.args.claims s.requires)
 
-returns : tie.Need-returns
+returns : tie.Need-returns-then-paid-lt0
 returns c = let s = c.before in rw (below c) (to_z-of_z (dividend_fits s.args.paid s.args.claims s.requires))
 
-returns-2 : tie.Need-returns-2
+returns-2 : tie.Need-returns-else-paid-lt0
 returns-2 c = let s = c.before in rw (above c) (to_z-of_z (dividend_fits s.args.paid s.args.claims s.requires))
 
-pub dividend-spec : {M : Type 1} → statement M
-dividend-spec = tie.close (tie.spec (λ c. search rules) mul-result sub-result mul-result-2 add-result returns returns-2)
+pub dividend_spec : {M : Type 1} → statement M
+dividend_spec = tie.close (tie.spec (λ c. search rules) mul-result sub-result mul-result-2 add-result returns returns-2)

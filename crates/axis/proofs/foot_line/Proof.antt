@@ -9,8 +9,8 @@ returns : tie.Need-returns
 unfolding foot_line
 returns c = refl
 
-pub foot-line-spec : {M : Type 1} → statement M
-foot-line-spec =
+pub foot_line_spec : {M : Type 1} → statement M
+foot_line_spec =
     tie.close
     (tie.spec
     (λ c. search rules)

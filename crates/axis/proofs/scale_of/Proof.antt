@@ -21,33 +21,33 @@ of-step : {step largest up down most : ℕ} (one high low : ℕ) → largest ≡
 unfolding scale_of scale_with
 of-step one high low e f g h i = rw (h, i, g, f, e)
 
-steps-to-requires : tie.Need-steps-to-requires
+steps-to-requires : tie.Need-steps_to-requires
 steps-to-requires c κs =
     let s = c.before.before in
-    (s.requires.1.0, found s.args.one s.args.high s.args.low s.requires.0.0 s.requires.0.1 s.requires.1.0 s.requires.1.1 c.before.larger.ensures c.step-for.ensures)
+    (s.requires.1.0, found s.args.one s.args.high s.args.low s.requires.0.0 s.requires.0.1 s.requires.1.0 s.requires.1.1 c.before.larger.ensures c.step_for-step.ensures)
 
-steps-to-requires-2 : tie.Need-steps-to-requires-2
+steps-to-requires-2 : tie.Need-steps_to-down-requires
 steps-to-requires-2 c κs =
     let s = c.before.before.before.before in
-    (s.requires.1.1, found s.args.one s.args.high s.args.low s.requires.0.0 s.requires.0.1 s.requires.1.0 s.requires.1.1 c.before.before.before.larger.ensures c.before.before.step-for.ensures)
+    (s.requires.1.1, found s.args.one s.args.high s.args.low s.requires.0.0 s.requires.0.1 s.requires.1.0 s.requires.1.1 c.before.before.before.larger.ensures c.before.before.step_for-step.ensures)
 
-add-tick : tie.Need-overflow-add-tick
+add-tick : tie.Need-overflow_add-tick
 add-tick c =
     let s = c.before.before.before.before.before in
-    let step = c.before.before.before.step-for.result in
-    let p = found s.args.one s.args.high s.args.low s.requires.0.0 s.requires.0.1 s.requires.1.0 s.requires.1.1 c.before.before.before.before.larger.ensures c.before.before.before.step-for.ensures in
+    let step = c.before.before.before.step_for-step.result in
+    let p = found s.args.one s.args.high s.args.low s.requires.0.0 s.requires.0.1 s.requires.1.0 s.requires.1.1 c.before.before.before.before.larger.ensures c.before.before.before.step_for-step.ensures in
     record {
       fits = omega
-          (arith, p.1, c.before.before.steps-to.ensures, c.before.larger2.ensures, c.steps-to2.ensures, div-le_self (s.args.high + (step - 1)) step, div-le_self (s.args.low + (step - 1)) step);
+          (arith, p.1, c.before.before.steps_to.ensures, c.before.larger-up.ensures, c.steps_to-down.ensures, div-le_self (s.args.high + (step - 1)) step, div-le_self (s.args.low + (step - 1)) step);
     }
 
 returns : tie.Need-returns
 returns c =
     let s = c.before.before.before.before.before in
-    of-step s.args.one s.args.high s.args.low c.before.before.before.before.larger.ensures c.before.before.before.step-for.ensures c.before.before.steps-to.ensures c.before.larger2.ensures c.steps-to2.ensures
+    of-step s.args.one s.args.high s.args.low c.before.before.before.before.larger.ensures c.before.before.before.step_for-step.ensures c.before.before.steps_to.ensures c.before.larger-up.ensures c.steps_to-down.ensures
 
-pub scale-of-spec : {M : Type 1} → statement M
-scale-of-spec =
+pub scale_of_spec : {M : Type 1} → statement M
+scale_of_spec =
     tie.close
     (tie.spec
     (λ c κs. search rules)

@@ -9,24 +9,24 @@ use borrow.Author.Rules.{rules}
 use Rattle.axis.proofs.shown_step.Statement.{statement}
 use Rattle.axis.proofs.shown_step.Tie as tie
 
-mul-result : tie.Need-overflow-mul-result
+mul-result : tie.Need-overflow_mul-result
 mul-result c =
     let s = c.before in
-    let p : c.unit-of.result ≤ 1000000000 = rw c.unit-of.ensures (unit_bounds s.args.one s.args.step).1 in
+    let p : c.unit_of.result ≤ 1000000000 = rw c.unit_of.ensures (unit_bounds s.args.one s.args.step).1 in
     record { fits = omega (arith, mul-le-mul {n₂ = most_one} {m₂ = 1000000000} s.requires.1 p) }
 
-div-result : tie.Need-nonzero-div-result
+div-result : tie.Need-nonzero_div-result
 div-result c =
     let s = c.before in
-    let p : 1 ≤ c.unit-of.result = rw c.unit-of.ensures (unit_bounds s.args.one s.args.step).0 in
+    let p : 1 ≤ c.unit_of.result = rw c.unit_of.ensures (unit_bounds s.args.one s.args.step).0 in
     omega (arith, mul-le-mul {n₁ = 1} {m₁ = 1} s.requires.0 p)
 
 returns : tie.Need-returns
 unfolding shown_step
-returns c = ap (λ (u : ℕ). c.before.args.step / (c.before.args.one * u)) c.unit-of.ensures
+returns c = ap (λ (u : ℕ). c.before.args.step / (c.before.args.one * u)) c.unit_of.ensures
 
-pub shown-step-spec : {M : Type 1} → statement M
-shown-step-spec =
+pub shown_step_spec : {M : Type 1} → statement M
+shown_step_spec =
     tie.close
     (tie.spec
     (λ c κs. search rules)

@@ -9,8 +9,8 @@ returns : tie.Need-returns
 unfolding zero_line
 returns c = refl
 
-pub zero-line-spec : {M : Type 1} → statement M
-zero-line-spec =
+pub zero_line_spec : {M : Type 1} → statement M
+zero_line_spec =
     tie.close
     (tie.spec
     (λ c. search rules)

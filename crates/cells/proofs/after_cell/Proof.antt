@@ -8,9 +8,9 @@ use Rattle.cells.proofs.after_cell.Tie as tie
 returns : tie.Need-returns
 unfolding after_cell
 returns c =
-    c.past.ensures ∙ rw (c.before.before.from_cell.ensures, c.before.before.before.separators-of.ensures)
+    c.past.ensures ∙ rw (c.before.before.from_cell.ensures, c.before.before.before.separators_of-set.ensures)
 
-pub after-cell-spec : {M : Type 1} → statement M
-after-cell-spec =
+pub after_cell_spec : {M : Type 1} → statement M
+after_cell_spec =
     tie.close
     (tie.spec (λ c κs. search rules) (λ c κs. search rules) (λ c. search rules) (λ c κs. search rules) returns)

@@ -7,30 +7,28 @@ use borrow.Author.Rules.{rules}
 use Rattle.cells.proofs.after_label.Statement.{statement}
 use Rattle.cells.proofs.after_label.Tie as tie
 
-returns : tie.Need-returns
+returns : tie.Need-returns-then-first_of-eq34
 unfolding after_label
 returns c =
-    let l = c.before.before.before.before.before.from-label in
-    let q = eq-eqb (get_or l.result.now 0 0) 34 (sym c.before.before.before.before.first_of.ensures ∙ c.before.before.before.if1.true) in
-    c.past.ensures ∙ rw (c.before.before.after_first.ensures, ← l.ensures, q)
+    let l = c.before.before.before.before.before.before.from_label-text in
+    let q = eq-eqb (get_or l.result.now 0 0) 34 (sym c.before.before.before.before.before.first_of.ensures ∙ c.before.before.before.before.if-first_of-eq34.true) in
+    c.past.ensures ∙ rw (c.before.before.before.after_first.ensures, ← l.ensures, q)
 
-returns-2 : tie.Need-returns-2
+returns-2 : tie.Need-returns
 unfolding after_label
 returns-2 c =
-    let l = c.before.before.before.before.from-label in
-    let q = ne_eqb (get_or l.result.now 0 0) 34 (λ e. c.before.before.if1.false (c.before.before.before.first_of.ensures ∙ e)) in
+    let l = c.before.before.before.before.before.from_label-text in
+    let q = ne_eqb (get_or l.result.now 0 0) 34 (λ e. c.before.before.before.if-first_of-eq34.false (c.before.before.before.before.first_of.ensures ∙ e)) in
     c.from.ensures ∙ rw (← l.ensures, q)
 
-pub after-label-spec : {M : Type 1} → statement M
-after-label-spec =
+pub after_label_spec : {M : Type 1} → statement M
+after_label_spec =
     tie.close
     (tie.spec
     (λ c κs. search rules)
     (λ c κs. search rules)
     (λ c κs. search rules)
-    (λ c. search rules)
     (λ c κs. search rules)
     returns
-    (λ c. search rules)
     (λ c κs. search rules)
     returns-2)

@@ -10,44 +10,44 @@ use borrow.Author.Rules.{rules}
 use Rattle.cells.proofs.cell_count.Statement.{statement}
 use Rattle.cells.proofs.cell_count.Tie as tie
 
-abbrev invariant-loop : tie.invariant-loop
+abbrev invariant-loop : tie.invariant-loop-rest
 invariant-loop line s rest₀ count₀ rest count = (length (cells_by s rest₀) ≡ count + length (cells_by s rest)) × (count + length rest ≤ length rest₀)
 
-abbrev decreases-loop : tie.decreases-loop
+abbrev decreases-loop : tie.decreases-loop-rest
 decreases-loop line s rest₀ count₀ rest count = length rest
 
-loop-holds : tie.Need-loop-init invariant-loop decreases-loop
+loop-holds : tie.Need-loop-rest-init invariant-loop decreases-loop
 loop-holds c = (omega arith, omega arith)
 
 -- a cell is there
-there : (d : tie.After-from-cell invariant-loop decreases-loop) → 0 < length d.from_cell.result.now
-    → 0 < length (from_cell d.before.before.before.decider-of.result d.before.loop.rest.now)
+there : (d : tie.After-from_cell invariant-loop decreases-loop) → 0 < length d.from_cell.result.now
+    → 0 < length (from_cell d.before.before.before.decider_of-s.result d.before.loop-rest.rest.now)
 there d h = rw d.from_cell.ensures at h
 
-loop-less : tie.Need-loop-smaller invariant-loop decreases-loop
+loop-less : tie.Need-loop-rest-smaller invariant-loop decreases-loop
 loop-less c =
-    let d = c.before.before in
-    rw c.after-cell.ensures (walk_shorter d.before.before.before.decider-of.result d.before.loop.rest.now (there d c.before.if1.true))
+    let d = c.before.before.before in
+    rw c.after_cell-next.ensures (walk_shorter d.before.before.decider_of-s.result d.loop-rest.rest.now (there d c.before.loop-rest-test.true))
 
-loop-again : tie.Need-loop-preserved invariant-loop decreases-loop
+loop-again : tie.Need-loop-rest-preserved invariant-loop decreases-loop
 loop-again c =
-    let d = c.before.before in
-    let s = d.before.before.before.decider-of.result in
-    let xs = d.before.loop.rest.now in
-    let here = there d c.before.if1.true in
-    rw c.after-cell.ensures (omega (arith, d.before.loop.invariant.0, ap length (walk_more s xs here)), omega (arith, walk_shorter s xs here, d.before.loop.invariant.1))
+    let d = c.before.before.before in
+    let s = d.before.before.decider_of-s.result in
+    let xs = d.loop-rest.rest.now in
+    let here = there d c.before.loop-rest-test.true in
+    rw c.after_cell-next.ensures (omega (arith, d.loop-rest.invariant.0, ap length (walk_more s xs here)), omega (arith, walk_shorter s xs here, d.loop-rest.invariant.1))
 
 returns : tie.Need-returns invariant-loop decreases-loop
 returns c =
     let d = c.before in
     let l = d.before in
-    let s = l.before.before.decider-of.result in
-    let all = cells_are l.before.before.before.before.args.line.now s l.before.cells-text.result.now l.before.before.decider-of.ensures l.before.cells-text.ensures in
-    let over = walk_over s l.loop.rest.now (rw d.from_cell.ensures at c.if1.false) in
-    (sym (ap length all ∙ omega (arith, l.loop.invariant.0, ap length over)), omega (arith, l.loop.invariant.1))
+    let s = l.before.before.decider_of-s.result in
+    let all = cells_are l.before.before.before.before.args.line.now s l.before.cells_text-rest.result.now l.before.before.decider_of-s.ensures l.before.cells_text-rest.ensures in
+    let over = walk_over s l.loop-rest.rest.now (rw d.from_cell.ensures at c.loop-rest-test.false) in
+    (sym (ap length all ∙ omega (arith, l.loop-rest.invariant.0, ap length over)), omega (arith, l.loop-rest.invariant.1))
 
-pub cell-count-spec : {M : Type 1} → statement M
-cell-count-spec =
+pub cell_count_spec : {M : Type 1} → statement M
+cell_count_spec =
     tie.close
     (tie.spec
     invariant-loop

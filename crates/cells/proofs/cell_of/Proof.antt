@@ -7,7 +7,7 @@ use Rattle.cells.proofs.cell_of.Tie as tie
 
 returns : tie.Need-returns
 unfolding cell_from
-returns c = c.unquoted-of.ensures ∙ rw c.before.trimmed-of.ensures
+returns c = c.unquoted_of.ensures ∙ rw c.before.trimmed_of.ensures
 
-pub cell-of-spec : {M : Type 1} → statement M
-cell-of-spec = tie.close (tie.spec (λ c κs. search rules) (λ c κs. search rules) returns)
+pub cell_of_spec : {M : Type 1} → statement M
+cell_of_spec = tie.close (tie.spec (λ c κs. search rules) (λ c κs. search rules) returns)

@@ -5,18 +5,18 @@ use borrow.Author.Rules.{rules}
 use Rattle.cells.proofs.cells_text.Statement.{statement}
 use Rattle.cells.proofs.cells_text.Tie as tie
 
-returns : tie.Need-returns
+returns : tie.Need-returns-then-does_decide
 unfolding cells_text
 returns c =
-    rw (← c.before.before.before.before.decider-of.ensures, sym c.before.before.before.does-decide.ensures ∙ c.before.before.if1.true) (c.after_first.ensures ∙ rw c.before.after-label.ensures)
+    rw (← c.before.before.before.before.decider_of.ensures, sym c.before.before.before.does_decide.ensures ∙ c.before.before.if-does_decide.true) (c.after_first.ensures ∙ rw c.before.after_label.ensures)
 
-returns-2 : tie.Need-returns-2
+returns-2 : tie.Need-returns
 unfolding cells_text
 returns-2 c =
-    rw (← c.before.before.before.decider-of.ensures, sym c.before.before.does-decide.ensures ∙ c.before.if1.false) c.after-label2.ensures
+    rw (← c.before.before.before.decider_of.ensures, sym c.before.before.does_decide.ensures ∙ c.before.if-does_decide.false) c.after_label-2.ensures
 
-pub cells-text-spec : {M : Type 1} → statement M
-cells-text-spec =
+pub cells_text_spec : {M : Type 1} → statement M
+cells_text_spec =
     tie.close
     (tie.spec
     (λ c κs. search rules)

@@ -8,29 +8,28 @@ use borrow.Author.Rules.{rules}
 use Rattle.cells.proofs.content_of.Statement.{statement}
 use Rattle.cells.proofs.content_of.Tie as tie
 
-returns : tie.Need-returns
+returns : tie.Need-returns-then-first_of-eq35
 unfolding content_of
 returns c =
-    let f = c.before.before.before.from in
-    let q = eq-eqb (get_or f.result.now 0 0) 35 (sym c.before.before.first_of.ensures ∙ c.before.if1.true) in
-    rw (← c.before.before.before.before.before.without-return.ensures, ← f.ensures, q)
+    let f = c.before.before.from in
+    let q = eq-eqb (get_or f.result.now 0 0) 35 (sym c.before.first_of.ensures ∙ c.if-first_of-eq35.true) in
+    rw (← c.before.before.before.before.before.without_return-text.ensures, ← f.ensures, q)
 
-slice-aggregate-result-2 : tie.Need-slice-aggregate-result-2
-slice-aggregate-result-2 c = sym (length-take-le _ _ c.before.comment-start.ensures.1)
+slice-aggregate-result-2 : tie.Need-slice_bounds-result-end-2
+slice-aggregate-result-2 c = sym (length-take-le _ _ c.comment_start-e.ensures.1)
 
-returns-2 : tie.Need-returns-2
+returns-2 : tie.Need-returns
 unfolding content_of
 returns-2 c =
-    let f = c.before.before.before.before.from in
-    let q = ne_eqb (get_or f.result.now 0 0) 35 (λ e. c.before.before.if1.false (c.before.before.before.first_of.ensures ∙ e)) in
-    rw (← c.before.before.before.before.before.before.without-return.ensures, ← f.ensures, q, c.before.comment-start.ensures.0)
+    let f = c.before.before.before.from in
+    let q = ne_eqb (get_or f.result.now 0 0) 35 (λ e. c.before.if-first_of-eq35.false (c.before.before.first_of.ensures ∙ e)) in
+    rw (← c.before.before.before.before.before.before.without_return-text.ensures, ← f.ensures, q, c.comment_start-e.ensures.0)
 
-pub content-of-spec : {M : Type 1} → statement M
-content-of-spec =
+pub content_of_spec : {M : Type 1} → statement M
+content_of_spec =
     tie.close
     (tie.spec
     (λ c κs. search rules)
-    (λ c. search rules)
     (λ c κs. search rules)
     (λ c κs. search rules)
     (λ c. search rules)

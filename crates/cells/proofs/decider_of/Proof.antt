@@ -7,7 +7,7 @@ use Rattle.cells.proofs.decider_of.Tie as tie
 
 returns : tie.Need-returns
 unfolding decider
-returns c = c.first_of.ensures ∙ rw c.before.after-label.ensures
+returns c = c.first_of.ensures ∙ rw c.before.after_label.ensures
 
-pub decider-of-spec : {M : Type 1} → statement M
-decider-of-spec = tie.close (tie.spec (λ c κs. search rules) (λ c κs. search rules) returns)
+pub decider_of_spec : {M : Type 1} → statement M
+decider_of_spec = tie.close (tie.spec (λ c κs. search rules) (λ c κs. search rules) returns)

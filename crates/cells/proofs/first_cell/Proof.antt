@@ -8,10 +8,10 @@ use Rattle.cells.proofs.first_cell.Tie as tie
 returns : tie.Need-returns
 unfolding first_cell_of
 returns c =
-    c.cell-of.ensures ∙ rw (c.before.until.ensures, c.before.before.before.from_cell.ensures, c.before.before.before.before.separators-of.ensures)
+    c.cell_of.ensures ∙ rw (c.before.until.ensures, c.before.before.before.from_cell.ensures, c.before.before.before.before.separators_of-set.ensures)
 
-pub first-cell-spec : {M : Type 1} → statement M
-first-cell-spec =
+pub first_cell_spec : {M : Type 1} → statement M
+first_cell_spec =
     tie.close
     (tie.spec
     (λ c κs. search rules)

@@ -8,5 +8,7 @@ returns : tie.Need-returns
 unfolding from_label
 returns c = c.from.ensures
 
-pub from-label-spec : {M : Type 1} → statement M
-from-label-spec = tie.close (tie.spec (λ c. search rules) (λ c κs. search rules) returns)
+pub from_label_spec : {M : Type 1} → statement M
+from_label_spec = tie.close (tie.spec
+    (λ c κs. search rules)
+    returns)

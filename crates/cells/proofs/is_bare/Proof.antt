@@ -9,7 +9,9 @@ use Rattle.cells.proofs.is_bare.Tie as tie
 returns : tie.Need-returns
 unfolding is_bare
 returns c =
-    every_is (ascii " \t,;\"") c.before.before.before.args.line.now c.find.result c.find.ensures.0
+    every_is (ascii " \t,;\"") c.before.before.before.before.args.line.now c.find.result c.find.ensures.0
 
-pub is-bare-spec : {M : Type 1} → statement M
-is-bare-spec = tie.close (tie.spec (λ c. search rules) (λ c κs. search rules) returns)
+pub is_bare_spec : {M : Type 1} → statement M
+is_bare_spec = tie.close (tie.spec
+    (λ c κs. search rules)
+    returns)

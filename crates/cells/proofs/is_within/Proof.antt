@@ -11,27 +11,27 @@ use Rattle.cells.proofs.is_within.Statement.{statement}
 use Rattle.cells.proofs.is_within.Tie as tie
 
 -- the number that was read
-value : (c : tie.After-number-of) → to_z w64 (of_z w64 c.number_of_lem.result) ≡ whole_of c.before.before.args.word.now
-value c = to_z-of_z (sfits_of c.number_of_lem.type-inv) ∙ c.number_of_lem.ensures
+value : (c : tie.After-number_of-v) → to_z w64 (of_z w64 c.number_of_lem.result) ≡ whole_of c.before.before.args.word.now
+value c = to_z-of_z (sfits_of c.number_of_lem.type_inv) ∙ c.number_of_lem.ensures
 
-returns : tie.Need-returns
+returns : tie.Need-returns-then-v-least
 unfolding is_within
 returns c =
     let a = c.before.before.before.args in
-    sym (under a.least a.most (whole_of a.word.now) (rw (value c.before, to_z-of_z c.before.before.before.ranges.least) at c.if1.true))
+    sym (under a.least a.most (whole_of a.word.now) (rw (value c.before, to_z-of_z c.before.before.before.ranges.least) at c.if-v-least.true))
 
-returns-2 : tie.Need-returns-2
+returns-2 : tie.Need-returns-then-v-most
 unfolding is_within
 returns-2 c =
     let a = c.before.before.before.before.args in
-    sym (over a.least a.most (whole_of a.word.now) (rw (value c.before.before, to_z-of_z c.before.before.before.before.ranges.most) at c.if2.true))
+    sym (over a.least a.most (whole_of a.word.now) (rw (value c.before.before, to_z-of_z c.before.before.before.before.ranges.most) at c.if-v-most.true))
 
-returns-3 : tie.Need-returns-3
+returns-3 : tie.Need-returns
 unfolding is_within
 returns-3 c =
     let a = c.before.before.before.before.args in
-    sym (inside a.least a.most (whole_of a.word.now) (rw (value c.before.before, to_z-of_z c.before.before.before.before.ranges.least) at c.before.if1.false)
-    (rw (value c.before.before, to_z-of_z c.before.before.before.before.ranges.most) at c.if2.false))
+    sym (inside a.least a.most (whole_of a.word.now) (rw (value c.before.before, to_z-of_z c.before.before.before.before.ranges.least) at c.before.if-v-least.false)
+    (rw (value c.before.before, to_z-of_z c.before.before.before.before.ranges.most) at c.if-v-most.false))
 
-pub is-within-spec : {M : Type 1} → statement M
-is-within-spec = tie.close (tie.spec (λ c κs. search rules) returns returns-2 returns-3)
+pub is_within_spec : {M : Type 1} → statement M
+is_within_spec = tie.close (tie.spec (λ c κs. search rules) returns returns-2 returns-3)

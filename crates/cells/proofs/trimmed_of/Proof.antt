@@ -6,18 +6,17 @@ use borrow.Author.Rules.{rules}
 use Rattle.cells.proofs.trimmed_of.Statement.{statement}
 use Rattle.cells.proofs.trimmed_of.Tie as tie
 
-slice-aggregate-result : tie.Need-slice-aggregate-result
-slice-aggregate-result c = sym (length-take-le _ _ c.before.unspaced-end.ensures.1)
+slice-aggregate-result : tie.Need-slice_bounds-result-end
+slice-aggregate-result c = sym (length-take-le _ _ c.unspaced_end-e.ensures.1)
 
 returns : tie.Need-returns
 unfolding trimmed
-returns c = rw (c.before.unspaced-end.ensures.0, c.before.before.from.ensures)
+returns c = rw (c.unspaced_end-e.ensures.0, c.before.from-text.ensures)
 
-pub trimmed-of-spec : {M : Type 1} → statement M
-trimmed-of-spec =
+pub trimmed_of_spec : {M : Type 1} → statement M
+trimmed_of_spec =
     tie.close
     (tie.spec
-    (λ c. search rules)
     (λ c κs. search rules)
     (λ c κs. search rules)
     slice-aggregate-result

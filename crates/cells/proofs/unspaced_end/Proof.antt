@@ -9,29 +9,29 @@ use borrow.Author.Rules.{rules}
 use Rattle.cells.proofs.unspaced_end.Statement.{statement}
 use Rattle.cells.proofs.unspaced_end.Tie as tie
 
-abbrev invariant-loop : tie.invariant-loop
+abbrev invariant-loop : tie.invariant-loop-n
 invariant-loop text n₀ n = (n ≤ length text) × (unspaced (length text) text ≡ unspaced n text)
 
-abbrev decreases-loop : tie.decreases-loop
+abbrev decreases-loop : tie.decreases-loop-n
 decreases-loop text n₀ n = n
 
-returns : tie.Need-returns invariant-loop decreases-loop
+returns : tie.Need-returns-then-text-n-ne32 invariant-loop decreases-loop
 returns c =
-    let l = c.before.before.before.loop in
-    (sym (l.invariant.1 ∙ unspaced_here c.before.before.before.before.args.text.now l.n c.before.before.loop-test.true c.if1.true), l.invariant.0)
+    let l = c.before.before.before.loop-n in
+    (sym (l.invariant.1 ∙ unspaced_here c.before.before.before.before.args.text.now l.n c.before.before.loop-n-test.true c.if-text-n-ne32.true), l.invariant.0)
 
-loop-again : tie.Need-loop-preserved invariant-loop decreases-loop
+loop-again : tie.Need-loop-n-preserved invariant-loop decreases-loop
 loop-again c =
-    let l = c.before.before.before.loop in
-    (omega arith, l.invariant.1 ∙ unspaced_more c.before.before.before.before.args.text.now l.n c.before.before.loop-test.true c.if1.false)
+    let l = c.before.before.before.loop-n in
+    (omega arith, l.invariant.1 ∙ unspaced_more c.before.before.before.before.args.text.now l.n c.before.before.loop-n-test.true c.if-text-n-ne32.false)
 
-returns-2 : tie.Need-returns-2 invariant-loop decreases-loop
+returns-2 : tie.Need-returns invariant-loop decreases-loop
 returns-2 c =
-    let l = c.before.loop in
+    let l = c.before.loop-n in
     (sym (l.invariant.1 ∙ unspaced_none c.before.before.args.text.now l.n (omega arith)), omega arith)
 
-pub unspaced-end-spec : {M : Type 1} → statement M
-unspaced-end-spec =
+pub unspaced_end_spec : {M : Type 1} → statement M
+unspaced_end_spec =
     tie.close
     (tie.spec
     invariant-loop

@@ -8,7 +8,7 @@ returns : tie.Need-returns
 unfolding placed_pair
 returns c =
     let p = c.before.before.before in
-    rw (p.place.ensures.0, p.place.ensures.1, p.before.before.before.styled.ensures) at c.place2.ensures
+    rw (p.place.ensures.0, p.place.ensures.1, p.before.before.before.styled-style.ensures) at c.place-2.ensures
 
-pub place-pair-spec : {M : Type 1} → statement M
-place-pair-spec = tie.close (tie.spec (λ c κs. search rules) (λ c κs. search rules) (λ c κs. search rules) returns)
+pub place_pair_spec : {M : Type 1} → statement M
+place_pair_spec = tie.close (tie.spec (λ c κs. search rules) (λ c κs. search rules) (λ c κs. search rules) returns)

@@ -8,33 +8,33 @@ use borrow.Author.Rules.{rules}
 use Rattle.column_plot.proofs.put_column_plot.Statement.{statement}
 use Rattle.column_plot.proofs.put_column_plot.Tie as tie
 
-slice-aggregate-put-plot : tie.Need-slice-aggregate-put-plot
+slice-aggregate-put-plot : tie.Need-slice_bounds-put_plot-end
 slice-aggregate-put-plot c =
     let p = c.before.before in
     let s = p.before.before.before.before.before.before in
-    rw p.place-pair.ensures.0 (sym (pair_length s.args.n s.args.a s.args.b s.args.figures.now))
+    rw p.place_pair.ensures.0 (sym (pair_length s.args.n s.args.a s.args.b s.args.figures.now))
 
-put-plot-requires : tie.Need-put-plot-requires
+put-plot-requires : tie.Need-put_plot-requires
 unfolding pair_series
 put-plot-requires c κs =
     let p = c.before.before in
     let s = p.before.before.before.before.before.before in
     let scaled = s.requires.0 in
     let plotted = pair_plotted s.args.n s.args.a s.args.b s.args.figures.now scaled.rows_most s.requires.1.0 s.requires.1.1 in
-    ((scaled.one_least, scaled.one_most), ((scaled.rows_most, scaled.first_most), rw p.place-pair.ensures.0 plotted))
+    ((scaled.one_least, scaled.one_most), ((scaled.rows_most, scaled.first_most), rw p.place_pair.ensures.0 plotted))
 
-returns : tie.Need-returns
+returns : tie.Need-returns-then-html
 unfolding column_plot only either pair_series
 returns c =
     let p = c.before.before.before.before.before in
-    rw p.before.before.before.if1.true (rw p.place-pair.ensures.0 at c.before.before.put-plot.ensures)
+    rw p.before.before.before.if-html.true (rw p.place_pair.ensures.0 at c.before.before.put_plot.ensures)
 
-returns-2 : tie.Need-returns-2
+returns-2 : tie.Need-returns-else-html
 unfolding column_plot only either
-returns-2 c = rw c.if1.false (put_none c.before.before.before.args.out.now c.before.before.before.args.at)
+returns-2 c = rw c.if-html.false (put_none c.before.before.before.args.out.now c.before.before.before.args.at)
 
-pub put-column-plot-spec : {M : Type 1} → statement M
-put-column-plot-spec =
+pub put_column_plot_spec : {M : Type 1} → statement M
+put_column_plot_spec =
     tie.close
     (tie.spec
     (λ c κs. search rules)

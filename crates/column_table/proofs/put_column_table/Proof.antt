@@ -17,7 +17,7 @@ ends s = each_at (λ a. a + s.args.shape.rows ≤ s.requires.top) s.args.starts.
 digits : (s : tie.Start) (j : ℕ) → get_or s.args.decimals.now j 0 < 10
 digits s = each_at (λ d. d < 10) s.args.decimals.now s.requires.digits
 
-place-columns-requires : tie.Need-place-columns-requires
+place-columns-requires : tie.Need-place_columns-requires
 place-columns-requires c κs =
     let s = c.before.before.before.before.before in
     (s.requires.columns_most, (s.requires.rows_most, (omega arith, λ j h. (omega (arith, ends s j), digits s j))))
@@ -27,11 +27,11 @@ abbrev body : tie.Start → Grid
 body s = body_grid s.args.shape.columns s.args.shape.rows s.args.starts.now s.args.decimals.now s.args.figures.now
 
 -- the arrays hold it
-held : (c : tie.After-place-columns) → Holds (body c.before.before.before.before.before.before) c.place-columns.new.0 c.place-columns.new.1.0
+held : (c : tie.After-place_columns) → Holds (body c.before.before.before.before.before.before) c.place_columns.new.values c.place_columns.new.styles.0
 unfolding body_grid
-held c = c.place-columns.ensures
+held c = c.place_columns.ensures
 
-fill-totals-requires : tie.Need-fill-totals-requires
+fill-totals-requires : tie.Need-fill_totals-requires
 fill-totals-requires c κs =
     let s = c.before.before.before.before.before.before.before.before in
     let small = body_small most_value s.requires.top s.args.shape.columns s.args.shape.rows s.args.starts.now s.args.decimals.now s.args.figures.now (ends s) s.requires.small in
@@ -40,17 +40,16 @@ fill-totals-requires c κs =
 returns : tie.Need-returns
 unfolding column_table column_grid totalled
 returns c =
-    let t = c.before.before.before.before.before.before.before in
+    let t = c.before.before.before.before.before.before.before.before in
     let h = held t.before.before.before in
-    rw (t.fill-totals.ensures.0, t.fill-totals.ensures.1, h.0, h.1) at c.before.before.put-table.ensures
+    rw (t.fill_totals.ensures.0, t.fill_totals.ensures.1, h.0, h.1) at c.before.before.put_table.ensures
 
-pub put-column-table-spec : {M : Type 1} → statement M
-put-column-table-spec =
+pub put_column_table_spec : {M : Type 1} → statement M
+put_column_table_spec =
     tie.close
     (tie.spec
     place-columns-requires
     fill-totals-requires
-    (λ c. search rules)
     (λ c κs. search rules)
     (λ c. search rules)
     returns)

@@ -7,15 +7,15 @@ use Rattle.completion.proofs.PaymentsMost.{unit_most, payment_most}
 use Rattle.completion.proofs.payment.Statement.{statement}
 use Rattle.completion.proofs.payment.Tie as tie
 
-mul-unit : tie.Need-overflow-mul-unit
+mul-unit : tie.Need-overflow_mul-unit
 mul-unit c = omega (arith, mul-le-mul c.requires.1.0 c.requires.1.1)
 
-mul-result : tie.Need-overflow-mul-result
+mul-result : tie.Need-overflow_mul-result
 mul-result c = omega (arith, mul-le-mul c.requires.0 (unit_most c.args.share c.args.level c.requires.1.0 c.requires.1.1))
 
 returns : tie.Need-returns
 unfolding payment_of
 returns c = (refl, payment_most c.args.claims c.args.share c.args.level c.requires.0 c.requires.1.0 c.requires.1.1)
 
-pub payment-spec : {M : Type 1} → statement M
-payment-spec = tie.close (tie.spec mul-unit mul-result returns)
+pub payment_spec : {M : Type 1} → statement M
+payment_spec = tie.close (tie.spec mul-unit mul-result returns)

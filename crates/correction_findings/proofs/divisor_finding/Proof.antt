@@ -13,12 +13,12 @@ passed s =
     let packed = s.args.packed.now in
     correcting s.args.year packed 16 after_16 refl refl refl s.requires (divisor_refused s.args.year packed s.requires).0
 
-parts-again-requires : tie.Need-parts-again-requires
+parts-again-requires : tie.Need-parts_again-parts-requires
 parts-again-requires c κs = passed c.before
 
-of-naturals-requires : tie.Need-of-naturals-requires
+of-naturals-requires : tie.Need-of_naturals-requires
 of-naturals-requires c κs =
-    let small = c.parts_again.ensures.1 in
+    let small = c.parts_again-parts.ensures.1 in
     let w = small.weight in
     let b = small.reported in
     let y = small.paid in
@@ -26,10 +26,10 @@ of-naturals-requires c κs =
 
 returns : tie.Need-returns
 returns c =
-    let parts = c.before.parts_again in
+    let parts = c.before.parts_again-parts in
     let s = c.before.before.before in
-    let made = c.of-naturals.ensures in
+    let made = c.of_naturals.ensures in
     (made ∙ divisor_found (figures_of s.args.packed.now) parts.result parts.ensures.0 (passed s).latest, (rw made (omega arith), rw made (omega arith)))
 
-pub divisor-finding-spec : {M : Type 1} → statement M
-divisor-finding-spec = tie.close (tie.spec parts-again-requires of-naturals-requires returns)
+pub divisor_finding_spec : {M : Type 1} → statement M
+divisor_finding_spec = tie.close (tie.spec parts-again-requires of-naturals-requires returns)

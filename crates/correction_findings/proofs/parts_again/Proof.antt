@@ -21,138 +21,138 @@ use Rattle.correction_findings.proofs.Correcting.{parts_are}
 use Rattle.correction_findings.proofs.parts_again.Statement.{statement}
 use Rattle.correction_findings.proofs.parts_again.Tie as tie
 
-read-provided-requires : tie.Need-read-provided-requires
+read-provided-requires : tie.Need-read_provided-weight-requires
 read-provided-requires c κs = (c.before.before.before.before.before.before.requires.carried, (refl, (refl, (refl, (refl, refl)))))
 
-abbrev start : tie.After-read-provided → tie.Start
+abbrev start : tie.After-read_provided-weight → tie.Start
 start c = c.before.before.before.before.before.before.before
 
-abbrev F : tie.After-read-provided → Figures
+abbrev F : tie.After-read_provided-weight → Figures
 F c = figures_of (start c).args.packed.now
 
-passed : (c : tie.After-read-provided) → Corrects (start c).args.packed.now
+passed : (c : tie.After-read_provided-weight) → Corrects (start c).args.packed.now
 passed c = (start c).requires
 
-bytes : (c : tie.After-read-provided) → Fit 8 (start c).args.packed.now
-bytes c i = omega (arith, c.before.before.before.before.before.before.shared-slice-known.given i)
+bytes : (c : tie.After-read_provided-weight) → Fit 8 (start c).args.packed.now
+bytes c i = omega (arith, c.before.before.before.before.before.before.shared_slice_known-1.given i)
 
-good : (c : tie.After-read-provided) → Sound (F c)
+good : (c : tie.After-read_provided-weight) → Sound (F c)
 good c = let p = (passed c).carried in sound_figures (start c).args.packed.now (bytes c) p.opening p.fields
 
-provisions : (c : tie.After-read-provided) → c.read-provided.new.1.1.1.1.1.0 ≡ provisions_in (F c)
+provisions : (c : tie.After-read_provided-weight) → c.read_provided-weight.new.reporting.1.1.1.1.0 ≡ provisions_in (F c)
 provisions c =
     let p = passed c in
     let q = p.carried in
-    c.read-provided.ensures.1.1.1.1.1 ∙ all_provisions (F c) (good c) q.cumulatives q.development q.separation q.tail p.ultimates
+    c.read_provided-weight.ensures.1.1.1.1.1 ∙ all_provisions (F c) (good c) q.cumulatives q.development q.separation q.tail p.ultimates
 
-last-year-of-requires : tie.Need-last-year-of-requires
+last-year-of-requires : tie.Need-last_year_of-k-requires
 last-year-of-requires c κs = let s = (start c).args.packed.now in (years_known_lem s (opening_yes s (passed c).carried.opening).0).0
 
-last-year : (c : tie.After-last-year-of) → c.last-year-of.result ≡ (F c.before).k
+last-year : (c : tie.After-last_year_of-k) → c.last_year_of-k.result ≡ (F c.before).k
 unfolding figures_of
-last-year c = c.last-year-of.ensures.0
+last-year c = c.last_year_of-k.ensures.0
 
 -- the plain ratio
-plain-ratio-again-requires : tie.Need-plain-ratio-again-requires
+plain-ratio-again-requires : tie.Need-plain_ratio_again-plain-requires
 plain-ratio-again-requires c κs =
     let year = c.before.before in
     let at = year.before in
-    let read = at.read-provided.ensures in
+    let read = at.read_provided-weight.ensures in
     ratio_ready (F at) (good at) (passed at).carried.cumulatives _ _ _ (last-year year) read.1.1.1.1.0 read.1.1.1.0 (passed at).ratio
 
-abbrev years1 : tie.After-plain-ratio-again → tie.After-last-year-of
+abbrev years1 : tie.After-plain_ratio_again-plain → tie.After-last_year_of-k
 years1 c = c.before.before.before
 
-plain : (c : tie.After-plain-ratio-again) → c.plain-ratio-again.result ≡ plain_ratio_in (F (years1 c).before)
+plain : (c : tie.After-plain_ratio_again-plain) → c.plain_ratio_again-plain.result ≡ plain_ratio_in (F (years1 c).before)
 plain c =
     let at = (years1 c).before in
-    let read = at.read-provided.ensures in
-    c.plain-ratio-again.ensures ∙ plain_is (F at) (good at) (passed at).carried.cumulatives _ _ _ (last-year (years1 c)) read.1.1.1.1.0 read.1.1.1.0
+    let read = at.read_provided-weight.ensures in
+    c.plain_ratio_again-plain.ensures ∙ plain_is (F at) (good at) (passed at).carried.cumulatives _ _ _ (last-year (years1 c)) read.1.1.1.1.0 read.1.1.1.0
 
-plain_most : (c : tie.After-plain-ratio-again) → plain_ratio_in (F (years1 c).before) ≤ million
+plain_most : (c : tie.After-plain_ratio_again-plain) → plain_ratio_in (F (years1 c).before) ≤ million
 unfolding plain_ratio_in
 plain_most c =
     let at = (years1 c).before in
     let f = F at in
-    ratio_most (paid_total f.k f.increments) (ulae_total f.k f.ulae) (passed at).ratio
+    ratio_most (paid_total f.k f.increments-1) (ulae_total f.k f.ulae-1) (passed at).ratio
 
 -- B
-abbrev years2 : tie.After-provisions2 → tie.After-last-year-of
+abbrev years2 : tie.After-provisions-2-1 → tie.After-last_year_of-k
 years2 c = years1 c.before.before.before
 
-latest-reported-requires : tie.Need-latest-reported-requires
+latest-reported-requires : tie.Need-latest_reported-reported-requires
 latest-reported-requires c κs =
     let year = years2 c in
     let at = year.before in
-    let read = at.read-provided.ensures in (
-      year.last-year-of.ensures.1,
+    let read = at.read_provided-weight.ensures in (
+      year.last_year_of-k.ensures.1,
       (
         ultimates_fit (F at) _ _ _ (last-year year) read.1.1.1.1.0 (provisions at) (passed at).ultimates,
         shares_sum (F at) (good at) _ _ (last-year year) read.1.1.0,
       ),
     )
 
-reported : (c : tie.After-latest-reported) → c.latest-reported.result ≡ latest_reported_in (F (years2 c.before).before)
+reported : (c : tie.After-latest_reported-reported) → c.latest_reported-reported.result ≡ latest_reported_in (F (years2 c.before).before)
 reported c =
     let year = years2 c.before in
     let at = year.before in
-    let read = at.read-provided.ensures in
-    c.latest-reported.ensures.0 ∙ reported_is (F at) _ _ _ _ (last-year year) read.1.1.0 read.1.1.1.1.0 (provisions at)
+    let read = at.read_provided-weight.ensures in
+    c.latest_reported-reported.ensures.0 ∙ reported_is (F at) _ _ _ _ (last-year year) read.1.1.0 read.1.1.1.1.0 (provisions at)
 
 -- Y
-abbrev years3 : tie.After-increments2 → tie.After-last-year-of
+abbrev years3 : tie.After-increments-2-1 → tie.After-last_year_of-k
 years3 c = years2 c.before.before
 
-latest-paid-requires : tie.Need-latest-paid-requires
+latest-paid-requires : tie.Need-latest_paid-requires
 latest-paid-requires c κs =
     let year = years3 c in
     let at = year.before in
-    (year.last-year-of.ensures.1, rw at.read-provided.ensures.1.0 (good at).increments)
+    (year.last_year_of-k.ensures.1, rw at.read_provided-weight.ensures.1.0 (good at).increments)
 
-abbrev years4 : tie.After-size-of → tie.After-last-year-of
+abbrev years4 : tie.After-size_of-latest → tie.After-last_year_of-k
 years4 c = years3 c.before.before
 
-latest : (c : tie.After-size-of) → c.type_size.result ≡ nat_abs (latest_paid_in (F (years4 c).before))
+latest : (c : tie.After-size_of-latest) → c.type_size.result ≡ nat_abs (latest_paid_in (F (years4 c).before))
 latest c =
     let year = years4 c in
     let at = year.before in
-    let whole = to_z-of_z {w = w64} {z = c.before.latest_paid.result} (sfits_of c.before.latest_paid.type-inv) in
-    c.type_size.ensures ∙ ap nat_abs (whole ∙ c.before.latest_paid.ensures.0 ∙ latest_is (F at) _ _ (last-year year) at.read-provided.ensures.1.0)
+    let whole = to_z-of_z {w = w64} {z = c.before.latest_paid.result} (sfits_of c.before.latest_paid.type_inv) in
+    c.type_size.ensures ∙ ap nat_abs (whole ∙ c.before.latest_paid.ensures.0 ∙ latest_is (F at) _ _ (last-year year) at.read_provided-weight.ensures.1.0)
 
 -- the divisor
-abbrev counted : tie.After-size-of → tie.After-latest-reported
+abbrev counted : tie.After-size_of-latest → tie.After-latest_reported-reported
 counted c = c.before.before.before
 
-divisor-of-requires : tie.Need-divisor-of-requires
+divisor-of-requires : tie.Need-divisor_of-requires
 divisor-of-requires c κs =
     let at = (years4 c).before in
-    (rw at.read-provided.ensures.0 (good at).weight, ((counted c).latest-reported.ensures.1, rw (latest c) (latest_least (latest_paid_in (F at)) (passed at).latest)))
+    (rw at.read_provided-weight.ensures.0 (good at).weight, ((counted c).latest-reported.ensures.1, rw (latest c) (latest_least (latest_paid_in (F at)) (passed at).latest)))
 
-divisor : (c : tie.After-divisor-of) → c.divisor-of.result ≡ divisor_in (F (years4 c.before).before)
+divisor : (c : tie.After-divisor_of) → c.divisor_of.result ≡ divisor_in (F (years4 c.before).before)
 divisor c =
     let at = (years4 c.before).before in
-    c.divisor-of.ensures ∙ divisor_is (F at) _ _ _ at.read-provided.ensures.0 (reported (counted c.before)) (latest c.before)
+    c.divisor_of.ensures ∙ divisor_is (F at) _ _ _ at.read_provided-weight.ensures.0 (reported (counted c.before)) (latest c.before)
 
 returns : tie.Need-returns
 returns c =
-    let size = c.before in
+    let size = c.before.before in
     let b = counted size in
     let ratio = b.before.before.before.before in
     let at = (years4 size).before in
-    let weight = at.read-provided.ensures.0 in
-    let whole = to_z-of_z {w = w64} {z = size.before.latest_paid.result} (sfits_of size.before.latest_paid.type-inv) in (
+    let weight = at.read_provided-weight.ensures.0 in
+    let whole = to_z-of_z {w = w64} {z = size.latest_paid.result} (sfits_of size.latest_paid.type_inv) in (
       parts_are (F at) _ _ _ _ _ weight (plain ratio) (reported b) (latest size) (divisor c),
       record {
         weight = rw weight (good at).weight;
         plain = rw (plain ratio) (plain_most ratio);
-        reported = b.latest-reported.ensures.1;
-        paid = omega (arith, size.type_size.ensures ∙ ap nat_abs whole, size.before.latest_paid.ensures.1);
-        divisor = rw c.divisor-of.ensures (divisor_most _ _ _ (rw weight (good at).weight) b.latest-reported.ensures.1);
+        reported = b.latest_reported-reported.ensures.1;
+        paid = omega (arith, size.type_size.ensures ∙ ap nat_abs whole, size.latest_paid.ensures.1);
+        divisor = rw c.divisor_of.ensures (divisor_most _ _ _ (rw weight (good at).weight) b.latest_reported-reported.ensures.1);
       },
     )
 
-pub parts-again-spec : {M : Type 1} → statement M
-parts-again-spec =
+pub parts_again_spec : {M : Type 1} → statement M
+parts_again_spec =
     tie.close
     (tie.spec
     read-provided-requires

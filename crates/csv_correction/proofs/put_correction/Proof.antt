@@ -9,22 +9,16 @@ returns : tie.Need-returns
 unfolding correction_lines
 returns c =
     put_three
-    c.before.before.before.before.before.before.before.before.before.before.before.before.before.before.put-beside.ensures
-    c.before.before.before.before.before.before.before.before.put-beside2.ensures
-    c.before.before.put-beside3.ensures
+    c.before.before.before.before.before.before.before.before.before.before.before.before.before.before.before.before.before.before.put_beside-a.ensures
+    c.before.before.before.before.before.before.before.before.before.before.put_beside-b.ensures
+    c.before.before.put_beside.ensures
 
-pub put-correction-spec : {M : Type 1} → statement M
-put-correction-spec =
+pub put_correction_spec : {M : Type 1} → statement M
+put_correction_spec =
     tie.close
     (tie.spec
-    (λ c. search rules)
-    (λ c. search rules)
     (λ c κs. search rules)
-    (λ c. search rules)
-    (λ c. search rules)
     (λ c κs. search rules)
-    (λ c. search rules)
-    (λ c. search rules)
     (λ c κs. search rules)
     (λ c. search rules)
     returns)

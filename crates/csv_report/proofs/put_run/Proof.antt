@@ -29,34 +29,34 @@ module _ (year : ℕ) (s : List ℕ) where
   unfolding csv_report_of
   list_is k list x ok e g h = rw (h, g, e, ok)
 
-put-refused-requires : tie.Need-put-refused-requires
+put-refused-requires : tie.Need-put_refused-end-requires
 put-refused-requires c κs =
-    let run = c.before.before.before.doonamurk-run in
+    let run = c.before.before.before.doonamurk_run-answer in
     let s = c.before.before.before.before.before.before.before.args in
     refused_by s.year s.packed.now run.result run.ensures.0
 
-returns : tie.Need-returns
+returns : tie.Need-returns-then-answer-ne0
 returns c =
-    let run = c.before.before.before.before.before.before.doonamurk-run in
+    let run = c.before.before.before.before.before.before.doonamurk_run-answer in
     let s = c.before.before.before.before.before.before.before.before.before.before.args in
-    (run.ensures.0, put_same (refused-is s.year s.packed.now run.result run.ensures.0 c.before.before.before.before.if1.true) c.before.before.Put-refused.ensures)
+    (run.ensures.0, put_same (refused-is s.year s.packed.now run.result run.ensures.0 c.before.before.before.before.if-answer-ne0.true) c.before.before.put_refused-end.ensures)
 
-last-year-of-requires : tie.Need-last-year-of-requires
+last-year-of-requires : tie.Need-last_year_of-requires
 last-year-of-requires c κs =
-    let run = c.before.before.before.before.before.before.before.doonamurk-run in
+    let run = c.before.before.before.before.before.before.before.doonamurk_run-answer in
     let s = c.before.before.before.before.before.before.before.before.before.before.before.args in
-    some s.year s.packed.now (accepted s.year s.packed.now (sym run.ensures.0 ∙ c.before.before.before.before.before.if1.false))
+    some s.year s.packed.now (accepted s.year s.packed.now (sym run.ensures.0 ∙ c.before.before.before.before.before.if-answer-ne0.false))
 
-returns-2 : tie.Need-returns-2
+returns-2 : tie.Need-returns
 returns-2 c =
-    let run = c.before.before.before.before.before.before.before.before.before.before.before.doonamurk-run in
+    let run = c.before.before.before.before.before.before.before.before.before.before.before.doonamurk_run-answer in
     let s = c.before.before.before.before.before.before.before.before.before.before.before.before.before.before.before.args in
-    let year = c.before.before.before.last-year-of in
-    let ok = sym run.ensures.0 ∙ c.before.before.before.before.before.before.before.before.before.if1.false in
-    (run.ensures.0, put_same (list_is s.year s.packed.now year.result _ _ ok year.ensures.0 run.ensures.1.0 c.before.before.before.before.before.before.read-accepted.ensures.0) c.before.before.put-csv.ensures)
+    let year = c.before.before.before.last_year_of in
+    let ok = sym run.ensures.0 ∙ c.before.before.before.before.before.before.before.before.before.if-answer-ne0.false in
+    (run.ensures.0, put_same (list_is s.year s.packed.now year.result _ _ ok year.ensures.0 run.ensures.1.0 c.before.before.before.before.before.before.read_accepted-correction.ensures.0) c.before.before.put_csv-end.ensures)
 
-pub put-run-spec : {M : Type 1} → statement M
-put-run-spec =
+pub put_run_spec : {M : Type 1} → statement M
+put_run_spec =
     tie.close
     (tie.spec
     (λ c. search rules)

@@ -4,10 +4,10 @@ use Rattle.csv_rows.proofs.by_itself.Statement.{statement}
 use Rattle.csv_rows.proofs.by_itself.Tie as tie
 
 returns : tie.Need-returns
-returns c = rw c.level-at.ensures
+returns c = rw c.level_at.ensures
 
-pub by-itself-spec : {M : Type 1} → statement M
-by-itself-spec =
+pub by_itself_spec : {M : Type 1} → statement M
+by_itself_spec =
     tie.close
     (tie.spec
     (λ c κs. search rules)

@@ -4,10 +4,10 @@ use Rattle.csv_rows.proofs.by_origin.Statement.{statement}
 use Rattle.csv_rows.proofs.by_origin.Tie as tie
 
 returns : tie.Need-returns
-returns c = rw c.level-at.ensures
+returns c = rw c.level_at.ensures
 
-pub by-origin-spec : {M : Type 1} → statement M
-by-origin-spec =
+pub by_origin_spec : {M : Type 1} → statement M
+by_origin_spec =
     tie.close
     (tie.spec
     (λ c. search rules)

@@ -4,10 +4,10 @@ use Rattle.csv_rows.proofs.given_cells.Statement.{statement}
 use Rattle.csv_rows.proofs.given_cells.Tie as tie
 
 returns : tie.Need-returns
-returns c = rw c.falling-from.ensures
+returns c = rw c.falling_from.ensures
 
-pub given-cells-spec : {M : Type 1} → statement M
-given-cells-spec =
+pub given_cells_spec : {M : Type 1} → statement M
+given_cells_spec =
     tie.close
     (tie.spec
     (λ c. search rules)

@@ -9,20 +9,19 @@ returns : tie.Need-returns
 unfolding csv_beside
 returns c =
     put_append
-    c.before.before.before.before.before.before.before.before.before.before.before.before.before.before.before.before.before.before.before.before.before.before.before.put-bytes.ensures
+    c.before.before.before.before.before.before.before.before.before.before.before.before.before.before.before.before.before.before.before.before.before.before.before.before.put_bytes-a.ensures
     (put_five
-    c.before.before.before.before.before.before.before.before.before.before.before.before.before.before.before.before.before.before.put-bytes2.ensures
-    c.before.before.before.before.before.before.before.before.before.before.before.before.before.before.put-decimal.ensures
-    c.before.before.before.before.before.before.before.before.before.before.put_byte.ensures
-    c.before.before.before.before.before.before.put-bytes3.ensures
-    c.before.before.put-byte2.ensures)
+    c.before.before.before.before.before.before.before.before.before.before.before.before.before.before.before.before.before.before.put_bytes-b.ensures
+    c.before.before.before.before.before.before.before.before.before.before.before.before.before.before.put_decimal-c.ensures
+    c.before.before.before.before.before.before.before.before.before.before.put_byte-d.ensures
+    c.before.before.before.before.before.before.put_bytes-e.ensures
+    c.before.before.put_byte.ensures)
 
-pub put-beside-spec : {M : Type 1} → statement M
-put-beside-spec =
+pub put_beside_spec : {M : Type 1} → statement M
+put_beside_spec =
     tie.close
     (tie.spec
     (λ c κs. search rules)
-    (λ c. search rules)
     (λ c κs. search rules)
     (λ c κs. search rules)
     (λ c κs. search rules)

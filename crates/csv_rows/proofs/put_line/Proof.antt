@@ -8,10 +8,10 @@ use Rattle.csv_rows.proofs.put_line.Tie as tie
 
 returns : tie.Need-returns
 unfolding csv_line
-returns c = put_append c.before.before.before.before.before.before.put-years.ensures (rw (to_z-of_z c.before.before.before.before.before.before.before.before.before.before.before.ranges.z) at c.before.before.put-value.ensures)
+returns c = put_append c.before.before.before.before.before.before.put_years-a.ensures (rw (to_z-of_z c.before.before.before.before.before.before.before.before.before.before.before.ranges.z) at c.before.before.put_value.ensures)
 
-pub put-line-spec : {M : Type 1} → statement M
-put-line-spec =
+pub put_line_spec : {M : Type 1} → statement M
+put_line_spec =
     tie.close
     (tie.spec
     (λ c κs. search rules)

@@ -8,14 +8,14 @@ use Rattle.csv_rows.proofs.put_value.Tie as tie
 returns : tie.Need-returns
 returns c =
     put_five
-    c.before.before.before.before.before.before.before.before.before.before.before.before.before.before.before.before.before.before.put_byte.ensures
-    (rw (to_z-of_z c.before.before.before.before.before.before.before.before.before.before.before.before.before.before.before.before.before.before.before.before.before.before.ranges.z) at c.before.before.before.before.before.before.before.before.before.before.before.before.before.before.put-integer.ensures)
-    c.before.before.before.before.before.before.before.before.before.before.put-byte2.ensures
-    c.before.before.before.before.before.before.put-bytes.ensures
-    c.before.before.put-byte3.ensures
+    c.before.before.before.before.before.before.before.before.before.before.before.before.before.before.before.before.before.before.put_byte-a.ensures
+    (rw (to_z-of_z c.before.before.before.before.before.before.before.before.before.before.before.before.before.before.before.before.before.before.before.before.before.before.ranges.z) at c.before.before.before.before.before.before.before.before.before.before.before.before.before.before.put_integer-b.ensures)
+    c.before.before.before.before.before.before.before.before.before.before.put_byte-c.ensures
+    c.before.before.before.before.before.before.put_bytes-d.ensures
+    c.before.before.put_byte.ensures
 
-pub put-value-spec : {M : Type 1} → statement M
-put-value-spec =
+pub put_value_spec : {M : Type 1} → statement M
+put_value_spec =
     tie.close
     (tie.spec
     (λ c κs. search rules)

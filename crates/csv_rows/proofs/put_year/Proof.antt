@@ -5,16 +5,16 @@ use borrow.Author.Rules.{rules}
 use Rattle.csv_rows.proofs.put_year.Statement.{statement}
 use Rattle.csv_rows.proofs.put_year.Tie as tie
 
-returns : tie.Need-returns
+returns : tie.Need-returns-then-shown
 unfolding year_text
-returns c = rw c.before.before.before.before.if1.true c.before.before.put-decimal.ensures
+returns c = rw c.before.before.before.before.if-shown.true c.before.before.put_decimal.ensures
 
-returns-2 : tie.Need-returns-2
+returns-2 : tie.Need-returns
 unfolding year_text
-returns-2 c = rw c.if1.false (put_none _ _)
+returns-2 c = rw c.if-shown.false (put_none _ _)
 
-pub put-year-spec : {M : Type 1} → statement M
-put-year-spec =
+pub put_year_spec : {M : Type 1} → statement M
+put_year_spec =
     tie.close
     (tie.spec
     (λ c κs. search rules)

@@ -7,14 +7,14 @@ use Rattle.csv_rows.proofs.put_years.Tie as tie
 returns : tie.Need-returns
 returns c =
     put_five
-    c.before.before.before.before.before.before.before.before.before.before.before.before.before.before.before.before.before.before.put-bytes.ensures
-    c.before.before.before.before.before.before.before.before.before.before.before.before.before.before.put_byte.ensures
-    c.before.before.before.before.before.before.before.before.before.before.put-year.ensures
-    c.before.before.before.before.before.before.put-byte2.ensures
-    c.before.before.put-year2.ensures
+    c.before.before.before.before.before.before.before.before.before.before.before.before.before.before.before.before.before.before.put_bytes-a.ensures
+    c.before.before.before.before.before.before.before.before.before.before.before.before.before.before.put_byte-b.ensures
+    c.before.before.before.before.before.before.before.before.before.before.put_year-c.ensures
+    c.before.before.before.before.before.before.put_byte-d.ensures
+    c.before.before.put_year.ensures
 
-pub put-years-spec : {M : Type 1} → statement M
-put-years-spec =
+pub put_years_spec : {M : Type 1} → statement M
+put_years_spec =
     tie.close
     (tie.spec
     (λ c κs. search rules)

@@ -7,10 +7,10 @@ use Rattle.csv_text.proofs.put_csv.Tie as tie
 
 returns : tie.Need-returns
 unfolding csv_of
-returns c = put_append c.before.before.before.before.before.before.put-list.ensures c.before.before.put-valuation.ensures
+returns c = put_append c.before.before.before.before.before.before.put_list-a.ensures c.before.before.put_valuation.ensures
 
-pub put-csv-spec : {M : Type 1} → statement M
-put-csv-spec =
+pub put_csv_spec : {M : Type 1} → statement M
+put_csv_spec =
     tie.close
     (tie.spec
     (λ c κs. search rules)

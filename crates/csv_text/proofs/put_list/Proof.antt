@@ -9,20 +9,19 @@ returns : tie.Need-returns
 unfolding list_lines
 returns c =
     put_append
-    c.before.before.before.before.before.before.before.before.before.before.before.before.before.before.before.before.before.before.before.before.before.before.put-bytes.ensures
+    c.before.before.before.before.before.before.before.before.before.before.before.before.before.before.before.before.before.before.before.before.before.before.put_bytes-a.ensures
     (put_five
-    c.before.before.before.before.before.before.before.before.before.before.before.before.before.before.before.before.before.before.put-separation.ensures
-    c.before.before.before.before.before.before.before.before.before.before.before.before.before.before.put-completion.ensures
-    c.before.before.before.before.before.before.before.before.before.before.put-expense.ensures
-    c.before.before.before.before.before.before.put-ladder.ensures
-    c.before.before.put-tails.ensures)
+    c.before.before.before.before.before.before.before.before.before.before.before.before.before.before.before.before.before.before.put_separation-b.ensures
+    c.before.before.before.before.before.before.before.before.before.before.before.before.before.before.put_completion-c.ensures
+    c.before.before.before.before.before.before.before.before.before.before.put_expense-d.ensures
+    c.before.before.before.before.before.before.put_ladder-e.ensures
+    c.before.before.put_tails.ensures)
 
-pub put-list-spec : {M : Type 1} → statement M
-put-list-spec =
+pub put_list_spec : {M : Type 1} → statement M
+put_list_spec =
     tie.close
     (tie.spec
     (λ c κs. search rules)
-    (λ c. search rules)
     (λ c κs. search rules)
     (λ c κs. search rules)
     (λ c κs. search rules)

@@ -6,36 +6,32 @@ use borrow.Author.Rules.{rules}
 use Rattle.csv_text.proofs.put_valuation.Statement.{statement}
 use Rattle.csv_text.proofs.put_valuation.Tie as tie
 
-returns : tie.Need-returns
+returns : tie.Need-returns-then-corrects
 unfolding valuation_lines
 returns c =
     let last = c.before.before in
     let first = last.before.before.before.before in
     let b = first.before.before in
-    let corrected = sym b.before.corrects.ensures ∙ b.if1.true in
+    let corrected = sym b.before.corrects.ensures ∙ b.if-corrects.true in
     put_three
-    b.before.before.before.before.before.before.before.before.before.before.put-beside.ensures
-    b.before.before.before.before.put-beside2.ensures
-    (rw corrected (put_append first.put-correction.ensures last.put-corrected.ensures))
+    b.before.before.before.before.before.before.before.before.before.before.before.before.put_beside-a.ensures
+    b.before.before.before.before.put_beside-b.ensures
+    (rw corrected (put_append first.put_correction-c.ensures last.put_corrected.ensures))
 
-returns-2 : tie.Need-returns-2
+returns-2 : tie.Need-returns
 unfolding valuation_lines
 returns-2 c =
-    let plain = sym c.before.corrects.ensures ∙ c.if1.false in
+    let plain = sym c.before.corrects.ensures ∙ c.if-corrects.false in
     put_three
-    c.before.before.before.before.before.before.before.before.before.before.put-beside.ensures
-    c.before.before.before.before.put-beside2.ensures
+    c.before.before.before.before.before.before.before.before.before.before.before.before.put_beside-a.ensures
+    c.before.before.before.before.put_beside-b.ensures
     (rw plain (put_none _ _))
 
-pub put-valuation-spec : {M : Type 1} → statement M
-put-valuation-spec =
+pub put_valuation_spec : {M : Type 1} → statement M
+put_valuation_spec =
     tie.close
     (tie.spec
-    (λ c. search rules)
-    (λ c. search rules)
     (λ c κs. search rules)
-    (λ c. search rules)
-    (λ c. search rules)
     (λ c κs. search rules)
     (λ c κs. search rules)
     (λ c κs. search rules)

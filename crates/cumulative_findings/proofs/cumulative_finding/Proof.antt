@@ -15,35 +15,35 @@ use Rattle.cumulative_findings.proofs.cumulative_finding.Tie as tie
 read-requires : tie.Need-read-requires
 read-requires c κs = let s = c.before.before.before.before.before.before in (read_passed s.args.year s.args.packed.now s.requires).0
 
-last-year-of-requires : tie.Need-last-year-of-requires
+last-year-of-requires : tie.Need-last_year_of-requires
 last-year-of-requires c κs =
     let s = c.before.before.before.before.before.before.before.before in
     (years_known_lem s.args.packed.now (opening_yes s.args.packed.now (read_passed s.args.year s.args.packed.now s.requires).0).0).0
 
 -- the record, its last year and its increments
-abbrev start : tie.After-last-year-of → tie.Start
+abbrev start : tie.After-last_year_of → tie.Start
 start c = c.before.before.before.before.before.before.before.before.before
 
-bytes : (c : tie.After-last-year-of) → Fit 8 (start c).args.packed.now
-bytes c i = omega (arith, c.before.before.before.before.before.before.before.before.shared-slice-known.given i)
+bytes : (c : tie.After-last_year_of) → Fit 8 (start c).args.packed.now
+bytes c i = omega (arith, c.before.before.before.before.before.before.before.before.shared_slice_known-1.given i)
 
-year_is : (c : tie.After-last-year-of) → c.last-year-of.result ≡ (figures_of (start c).args.packed.now).k
+year_is : (c : tie.After-last_year_of) → c.last_year_of.result ≡ (figures_of (start c).args.packed.now).k
 unfolding figures_of
-year_is c = c.last-year-of.ensures.0
+year_is c = c.last_year_of.ensures.0
 
-increments-are : (c : tie.After-last-year-of) → c.before.before.read.new.1.1.0 ≡ (figures_of (start c).args.packed.now).increments
+increments-are : (c : tie.After-last_year_of) → c.before.before.read.new.increments.1.0 ≡ (figures_of (start c).args.packed.now).increments
 increments-are c =
     let s = start c in
     let passed = read_passed s.args.year s.args.packed.now s.pre in
     c.before.before.read.ensures.1.1.1.0 ∙ (figures_filled s.args.packed.now (bytes c) passed.0 passed.1).increments
 
-sound : (c : tie.After-last-year-of) → Sound (figures_of (start c).args.packed.now)
+sound : (c : tie.After-last_year_of) → Sound (figures_of (start c).args.packed.now)
 sound c =
     let s = start c in
     let passed = read_passed s.args.year s.args.packed.now s.pre in
     sound_figures s.args.packed.now (bytes c) passed.0 passed.1
 
-cumulative-found-requires : tie.Need-cumulative-found-requires
+cumulative-found-requires : tie.Need-cumulative_found-requires
 cumulative-found-requires c κs =
     let s = start c in
     found_ready (figures_of s.args.packed.now) (sound c) (cumulatives_no s.args.year s.args.packed.now s.pre) _ _ (year_is c) (increments-are c)
@@ -51,8 +51,8 @@ cumulative-found-requires c κs =
 returns : tie.Need-returns
 returns c =
     let at = c.before in
-    (c.cumulative-found.ensures.0 ∙ found_is (figures_of (start at).args.packed.now) _ _ (year_is at) (increments-are at), c.cumulative-found.ensures.1)
+    (c.cumulative_found.ensures.0 ∙ found_is (figures_of (start at).args.packed.now) _ _ (year_is at) (increments-are at), c.cumulative_found.ensures.1)
 
-pub cumulative-finding-spec : {M : Type 1} → statement M
-cumulative-finding-spec =
+pub cumulative_finding_spec : {M : Type 1} → statement M
+cumulative_finding_spec =
     tie.close (tie.spec read-requires last-year-of-requires cumulative-found-requires returns)

@@ -9,14 +9,14 @@ use Rattle.decimals.proofs.decimal_of.Statement.{statement}
 use Rattle.decimals.proofs.decimal_of.Tie as tie
 
 -- the number of the digits, and how many come after the point
-digits : (n : tie.After-size-from2) → n.size-from2.result ≡ numerator n.before.before.before.before.before.args.word.now
+digits : (n : tie.After-size_from-n) → n.size_from-n.result ≡ numerator n.before.before.before.before.before.args.word.now
 unfolding numerator
-digits n = n.size-from2.ensures.0 ∙ rw (n.before.before.size-from.ensures.0, n.before.before.before.whole-digits.ensures, n.before.fraction-digits.ensures)
+digits n = n.size_from-n.ensures.0 ∙ rw (n.before.before.size_from-whole.ensures.0, n.before.before.before.whole_digits.ensures, n.before.fraction_digits-fraction.ensures)
 
-places : (n : tie.After-size-from2) → length n.before.fraction-digits.result.now ≡ length (fraction_digits n.before.before.before.before.before.args.word.now)
-places n = ap length n.before.fraction-digits.ensures
+places : (n : tie.After-size_from-n) → length n.before.fraction_digits-fraction.result.now ≡ length (fraction_digits n.before.before.before.before.before.args.word.now)
+places n = ap length n.before.fraction_digits-fraction.ensures
 
-quotient-of-requires : tie.Need-quotient-of-requires
+quotient-of-requires : tie.Need-quotient_of-requires
 quotient-of-requires c κs =
     let n = c.before in
     let e = n.before.before.before.before.before in
@@ -24,10 +24,10 @@ quotient-of-requires c κs =
 
 returns : tie.Need-returns
 unfolding decimal_of
-returns c = c.quotient-of.ensures ∙ rw (c.before.is_negative.ensures, digits c.before.before, places c.before.before)
+returns c = c.quotient_of.ensures ∙ rw (c.before.is_negative.ensures, digits c.before.before, places c.before.before)
 
-pub decimal-of-spec : {M : Type 1} → statement M
-decimal-of-spec =
+pub decimal_of_spec : {M : Type 1} → statement M
+decimal_of_spec =
     tie.close
     (tie.spec
     (λ c κs. search rules)

@@ -7,7 +7,10 @@ use Rattle.decimals.proofs.fraction_digits.Tie as tie
 
 returns : tie.Need-returns
 unfolding fraction_digits
-returns c = c.past.ensures ∙ rw c.before.before.Unsigned-of.ensures
+returns c = c.past.ensures ∙ rw c.before.before.before.unsigned_of.ensures
 
-pub fraction-digits-spec : {M : Type 1} → statement M
-fraction-digits-spec = tie.close (tie.spec (λ c κs. search rules) (λ c. search rules) (λ c κs. search rules) returns)
+pub fraction_digits_spec : {M : Type 1} → statement M
+fraction_digits_spec = tie.close (tie.spec
+    (λ c κs. search rules)
+    (λ c κs. search rules)
+    returns)

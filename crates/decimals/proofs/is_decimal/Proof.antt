@@ -12,48 +12,48 @@ use Rattle.decimals.proofs.is_decimal.Statement.{statement}
 use Rattle.decimals.proofs.is_decimal.Tie as tie
 
 -- the parts that were cut
-abbrev word : tie.After-fraction-digits → List ℕ
+abbrev word : tie.After-fraction_digits-fraction → List ℕ
 word f = f.before.before.before.args.word.now
 
-whole : (f : tie.After-fraction-digits) → length f.before.whole-digits.result.now ≡ length (whole_digits (word f))
-whole f = ap length f.before.whole-digits.ensures
+whole : (f : tie.After-fraction_digits-fraction) → length f.before.whole_digits-whole.result.now ≡ length (whole_digits (word f))
+whole f = ap length f.before.whole_digits-whole.ensures
 
-fraction : (f : tie.After-fraction-digits) → length f.fraction-digits.result.now ≡ length (fraction_digits (word f))
-fraction f = ap length f.fraction-digits.ensures
+fraction : (f : tie.After-fraction_digits-fraction) → length f.fraction_digits-fraction.result.now ≡ length (fraction_digits (word f))
+fraction f = ap length f.fraction_digits-fraction.ensures
 
-returns : tie.Need-returns
-returns c = decimal_long (word c.before) (omega (arith, whole c.before, c.if1.true))
+returns : tie.Need-returns-then-whole-gt15
+returns c = decimal_long (word c.before) (omega (arith, whole c.before, c.if-whole-gt15.true))
 
-returns-2 : tie.Need-returns-2
-returns-2 c = decimal_long (word c.before.before) (omega (arith, whole c.before.before, fraction c.before.before, c.if2.true, c.before.if1.false))
+returns-2 : tie.Need-returns-then-fraction-whole
+returns-2 c = decimal_long (word c.before.before) (omega (arith, whole c.before.before, fraction c.before.before, c.if-fraction-whole.true, c.before.if-whole-gt15.false))
 
 -- at most 15 digits, and what is said of the word without its sign
-short : (e : tie.Else2) → length (whole_digits (word e.before.before)) + length (fraction_digits (word e.before.before)) ≤ most_digits
-short e = omega (arith, whole e.before.before, fraction e.before.before, e.if2.false, e.before.if1.false)
+short : (e : tie.Else-fraction-whole) → length (whole_digits (word e.before.before)) + length (fraction_digits (word e.before.before)) ≤ most_digits
+short e = omega (arith, whole e.before.before, fraction e.before.before, e.if-fraction-whole.false, e.before.if-whole-gt15.false)
 
-said : (n : tie.After-is-natural) → is_natural (unsigned (word n.before.before.before.before)) ≡ n.is-natural.result
-said n = sym (n.is-natural.ensures ∙ ap is_natural n.before.Unsigned-of.ensures)
+said : (n : tie.After-is_natural) → is_natural (unsigned (word n.before.before.before.before)) ≡ n.is_natural.result
+said n = sym (n.is_natural.ensures ∙ ap is_natural n.before.unsigned_of.ensures)
 
-returns-3 : tie.Need-returns-3
-returns-3 c = decimal_digits _ (short c.before.before.before) (said c.before ∙ c.if3.true)
+returns-3 : tie.Need-returns-then-is_natural
+returns-3 c = decimal_digits _ (short c.before.before.before) (said c.before ∙ c.if-is_natural.true)
 
 -- what is said of the digits before the point, where the word is not digits alone
-front : (n : tie.After-is-natural2) → is_natural (whole_digits (word n.before.before.before.before.before.before)) ≡ n.is-natural2.result
-front n = sym (n.is-natural2.ensures ∙ ap is_natural n.before.before.before.before.before.before.before.whole-digits.ensures)
+front : (n : tie.After-is_natural-2) → is_natural (whole_digits (word n.before.before.before.before.before.before)) ≡ n.is_natural-2.result
+front n = sym (n.is_natural-2.ensures ∙ ap is_natural n.before.before.before.before.before.before.before.whole_digits-whole.ensures)
 
-returns-4 : tie.Need-returns-4
+returns-4 : tie.Need-returns-then-is_natural-2
 returns-4 c =
-    let n = c.before.before in
-    decimal_parts _ (short n.before.before.before.before) (said n.before.before ∙ n.before.if3.false) (front n ∙ c.before.if4.true) _
-    (c.is-natural3.ensures ∙ ap is_natural n.before.before.before.before.before.before.fraction-digits.ensures)
+    let n = c.before.before.before in
+    decimal_parts _ (short n.before.before.before) (said n.before ∙ n.if-is_natural.false) (front n ∙ c.before.if-is_natural-2.true) _
+    (c.is_natural-then-is_natural-2.ensures ∙ ap is_natural n.before.before.before.before.before.fraction_digits-fraction.ensures)
 
-returns-5 : tie.Need-returns-5
+returns-5 : tie.Need-returns
 returns-5 c =
-    let n = c.before in
-    decimal_none _ (short n.before.before.before.before) (said n.before.before ∙ n.before.if3.false) (front n ∙ c.if4.false)
+    let n = c.before.before in
+    decimal_none _ (short n.before.before.before) (said n.before ∙ n.if-is_natural.false) (front n ∙ c.if-is_natural-2.false)
 
-pub is-decimal-spec : {M : Type 1} → statement M
-is-decimal-spec =
+pub is_decimal_spec : {M : Type 1} → statement M
+is_decimal_spec =
     tie.close
     (tie.spec
     (λ c κs. search rules)

@@ -4,8 +4,8 @@ use borrow.Author.Rules.{rules}
 use Rattle.decimals.proofs.is_negative.Statement.{statement}
 use Rattle.decimals.proofs.is_negative.Tie as tie
 
-returns : tie.Need-returns
-returns c = none_negative c.before.args.word.now c.if1.true
+returns : tie.Need-returns-then-word-eq0
+returns c = none_negative c.before.args.word.now c.if-word-eq0.true
 
-pub is-negative-spec : {M : Type 1} → statement M
-is-negative-spec = tie.close (tie.spec returns (λ c. search rules) (λ c. search rules))
+pub is_negative_spec : {M : Type 1} → statement M
+is_negative_spec = tie.close (tie.spec returns (λ c. search rules) (λ c. search rules))

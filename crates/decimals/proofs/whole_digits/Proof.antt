@@ -7,7 +7,10 @@ use Rattle.decimals.proofs.whole_digits.Tie as tie
 
 returns : tie.Need-returns
 unfolding whole_digits
-returns c = c.until.ensures ∙ rw c.before.before.Unsigned-of.ensures
+returns c = c.until.ensures ∙ rw c.before.before.before.unsigned_of.ensures
 
-pub whole-digits-spec : {M : Type 1} → statement M
-whole-digits-spec = tie.close (tie.spec (λ c κs. search rules) (λ c. search rules) (λ c κs. search rules) returns)
+pub whole_digits_spec : {M : Type 1} → statement M
+whole_digits_spec = tie.close (tie.spec
+    (λ c κs. search rules)
+    (λ c κs. search rules)
+    returns)

@@ -10,32 +10,32 @@ use borrow.Author.Rules.{rules}
 use Rattle.drawing.proofs.put_ticks.Statement.{statement}
 use Rattle.drawing.proofs.put_ticks.Tie as tie
 
-abbrev invariant-loop : tie.invariant-loop
+abbrev invariant-loop : tie.invariant-loop-t
 invariant-loop out₀ at s wide q n end₀ t₀ out end t = (t ≤ n) × ((n ≡ s.up + s.down + 1) × Put out₀ out at end (joined (up_to (tick_at s wide q) t)))
 
-abbrev decreases-loop : tie.decreases-loop
+abbrev decreases-loop : tie.decreases-loop-t
 decreases-loop out₀ at s wide q n end₀ t₀ out end t = n - t
 
-loop-holds : tie.Need-loop-init invariant-loop decreases-loop
+loop-holds : tie.Need-loop-t-init invariant-loop decreases-loop
 loop-holds c = (omega arith, (refl, put_first _ _ _))
 
-loop-again : tie.Need-loop-preserved invariant-loop decreases-loop
+loop-again : tie.Need-loop-t-preserved invariant-loop decreases-loop
 loop-again c =
     let s = c.before.before.before.before.before.before.before.before in
-    let l = c.before.before.before.before.before.loop in
-    (omega arith, (refl, put_more (tick_at s.args.s s.args.wide s.args.q) l.t l.invariant.1.1 c.before.before.put-tick.ensures))
+    let l = c.before.before.before.before.before.loop-t in
+    (omega arith, (refl, put_more (tick_at s.args.s s.args.wide s.args.q) l.t l.invariant.1.1 c.before.before.put_tick-end.ensures))
 
-same_length : tie.Need-same-length invariant-loop decreases-loop
-same_length c = put_length c.before.loop.invariant.1.1
+same_length : tie.Need-shape_of-out invariant-loop decreases-loop
+same_length c = put_length c.before.loop-t.invariant.1.1
 
 returns : tie.Need-returns invariant-loop decreases-loop
 unfolding ticks
 returns c =
-    let e : c.before.loop.t ≡ c.before.before.before.before.args.s.up + c.before.before.before.before.args.s.down + 1 = omega arith in
-    rw e at c.before.loop.invariant.1.1
+    let e : c.before.loop-t.t ≡ c.before.before.before.before.args.s.up + c.before.before.before.before.args.s.down + 1 = omega arith in
+    rw e at c.before.loop-t.invariant.1.1
 
-pub put-ticks-spec : {M : Type 1} → statement M
-put-ticks-spec =
+pub put_ticks_spec : {M : Type 1} → statement M
+put_ticks_spec =
     tie.close
     (tie.spec
     invariant-loop

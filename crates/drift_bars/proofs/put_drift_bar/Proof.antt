@@ -12,28 +12,28 @@ use Rattle.drift_bars.specs.Bars.{drift_bar}
 use Rattle.drift_bars.proofs.put_drift_bar.Statement.{statement}
 use Rattle.drift_bars.proofs.put_drift_bar.Tie as tie
 
-put-bar-requires : tie.Need-put-bar-requires
+put-bar-requires : tie.Need-put_bar-requires
 put-bar-requires c κs =
     let s = c.before.before.before.before.before in
     let drawn = s.requires in
     let a = s.args in
-    let kept : to_z w64 (of_z w64 c.share-at.result) ≡ share_at a.list.now a.width a.j a.a = to_z-of_z (sfits_of c.share-at.type-inv) ∙ c.share-at.ensures in
+    let kept : to_z w64 (of_z w64 c.share_at.result) ≡ share_at a.list.now a.width a.j a.a = to_z-of_z (sfits_of c.share_at.type_inv) ∙ c.share_at.ensures in
     rw kept (drawn.scale_sound, (omega (arith, share_most a.list.now a.width a.j drawn.small a.a), drawn.reached))
 
-returns : tie.Need-returns
+returns : tie.Need-returns-then-is_refused
 unfolding drift_bar
-returns c = rw (sym c.before.is-refused.ensures ∙ c.if1.true) (put_none _ _)
+returns c = rw (sym c.before.is_refused.ensures ∙ c.if-is_refused.true) (put_none _ _)
 
-returns-2 : tie.Need-returns-2
+returns-2 : tie.Need-returns-else-is_refused
 unfolding drift_bar
 returns-2 c =
     let s = c.before.before.before.before.before.before.before.before in
     let a = s.args in
-    let kept : to_z w64 (of_z w64 c.before.before.before.share-at.result) ≡ share_at a.list.now a.width a.j a.a = to_z-of_z (sfits_of c.before.before.before.share-at.type-inv) ∙ c.before.before.before.share-at.ensures in
-    rw (sym c.before.before.before.before.before.before.is-refused.ensures ∙ c.before.before.before.before.before.if1.false) (rw kept at c.before.before.put-bar.ensures)
+    let kept : to_z w64 (of_z w64 c.before.before.before.share_at.result) ≡ share_at a.list.now a.width a.j a.a = to_z-of_z (sfits_of c.before.before.before.share_at.type_inv) ∙ c.before.before.before.share_at.ensures in
+    rw (sym c.before.before.before.before.before.before.is_refused.ensures ∙ c.before.before.before.before.before.if-is_refused.false) (rw kept at c.before.before.put_bar.ensures)
 
-pub put-drift-bar-spec : {M : Type 1} → statement M
-put-drift-bar-spec =
+pub put_drift_bar_spec : {M : Type 1} → statement M
+put_drift_bar_spec =
     tie.close
     (tie.spec
     (λ c κs. search rules)

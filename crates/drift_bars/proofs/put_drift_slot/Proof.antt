@@ -7,10 +7,10 @@ use Rattle.drift_bars.proofs.put_drift_slot.Tie as tie
 
 returns : tie.Need-returns
 unfolding drift_slot
-returns c = put_append c.before.before.before.before.before.before.put-drift-bar.ensures c.before.before.put-drift-label.ensures
+returns c = put_append c.before.before.before.before.before.before.put_drift_bar-end.ensures c.before.before.put_drift_label.ensures
 
-pub put-drift-slot-spec : {M : Type 1} → statement M
-put-drift-slot-spec =
+pub put_drift_slot_spec : {M : Type 1} → statement M
+put_drift_slot_spec =
     tie.close
     (tie.spec
     (λ c κs. search rules)

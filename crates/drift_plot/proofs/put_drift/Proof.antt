@@ -6,16 +6,16 @@ use borrow.Author.Rules.{rules}
 use Rattle.drift_plot.proofs.put_drift.Statement.{statement}
 use Rattle.drift_plot.proofs.put_drift.Tie as tie
 
-returns : tie.Need-returns
+returns : tie.Need-returns-then-html
 unfolding drift only either
-returns c = rw c.before.before.before.before.before.before.before.before.before.before.before.before.if1.true (put_three (rw c.before.before.before.before.before.before.before.before.before.before.before.before.if1.true at c.before.before.before.before.before.before.before.before.before.before.put-beside-start.ensures) c.before.before.before.before.before.before.put-drift-plots.ensures (rw c.before.before.before.before.before.before.before.before.before.before.before.before.if1.true at c.before.before.put-beside-end.ensures))
+returns c = rw c.before.before.before.before.before.before.before.before.before.before.before.before.if-html.true (put_three (rw c.before.before.before.before.before.before.before.before.before.before.before.before.if-html.true at c.before.before.before.before.before.before.before.before.before.before.put_beside_start-start.ensures) c.before.before.before.before.before.before.put_drift_plots-end.ensures (rw c.before.before.before.before.before.before.before.before.before.before.before.before.if-html.true at c.before.before.put_beside_end.ensures))
 
-returns-2 : tie.Need-returns-2
+returns-2 : tie.Need-returns-else-html
 unfolding drift only either
-returns-2 c = rw c.if1.false (put_none _ _)
+returns-2 c = rw c.if-html.false (put_none _ _)
 
-pub put-drift-spec : {M : Type 1} → statement M
-put-drift-spec =
+pub put_drift_spec : {M : Type 1} → statement M
+put_drift_spec =
     tie.close
     (tie.spec
     (λ c κs. search rules)

@@ -7,28 +7,28 @@ use borrow.Author.Rules.{rules}
 use Rattle.drift_plot.proofs.put_drift_by.Statement.{statement}
 use Rattle.drift_plot.proofs.put_drift_by.Tie as tie
 
-put-figure-start-requires : tie.Need-put-figure-start-requires
-put-figure-start-requires c κs = (omega (arith, c.before.before.before.before.before.requires.1.0.1), rw c.before.foot-line.ensures (foot_most c.before.before.before.before.before.args.scale c.before.before.before.before.before.requires.1.0.0))
+put-figure-start-requires : tie.Need-put_figure_start-start-requires
+put-figure-start-requires c κs = (omega (arith, c.before.before.before.before.before.requires.1.0.1), rw c.before.foot_line.ensures (foot_most c.before.before.before.before.before.args.scale c.before.before.before.before.before.requires.1.0.0))
 
-put-ticks-requires : tie.Need-put-ticks-requires
+put-ticks-requires : tie.Need-put_ticks-ticks-requires
 put-ticks-requires c κs =
     let s = c.before.before.before.before.before.before.before.before.before.before.before in
-    (s.requires.1.0.0, omega (arith, c.shown-step.ensures, shown_most s.args.one s.args.scale.step, s.requires.1.0.0.most))
+    (s.requires.1.0.0, omega (arith, c.shown_step.ensures, shown_most s.args.one s.args.scale.step, s.requires.1.0.0.most))
 
-put-figure-end-requires : tie.Need-put-figure-end-requires
+put-figure-end-requires : tie.Need-put_figure_end-requires
 put-figure-end-requires c κs = omega (arith, c.before.before.before.before.before.before.before.before.before.before.before.before.before.before.before.before.before.before.before.before.requires.1.0.1)
 
 returns : tie.Need-returns
 unfolding drift_by slots_of
 returns c =
     put_four
-    (rw (c.before.before.before.before.before.before.before.before.before.before.before.before.before.before.before.before.before.before.before.foot-line.ensures, c.before.before.before.before.before.before.before.before.before.before.before.before.before.before.before.before.before.before.unit-of.ensures) at c.before.before.before.before.before.before.before.before.before.before.before.before.before.before.before.before.before.put-figure-start.ensures)
-    (rw (c.before.before.before.before.before.before.before.before.before.before.before.before.before.wide_of.ensures, c.before.before.before.before.before.before.before.before.before.before.before.before.shown-step.ensures) at c.before.before.before.before.before.before.before.before.before.before.before.put-ticks.ensures)
-    c.before.before.before.before.before.before.before.put-drift-bars.ensures
-    (rw c.before.before.before.zero-line.ensures at c.before.before.put-figure-end.ensures)
+    (rw (c.before.before.before.before.before.before.before.before.before.before.before.before.before.before.before.before.before.before.before.foot_line.ensures, c.before.before.before.before.before.before.before.before.before.before.before.before.before.before.before.before.before.before.unit_of.ensures) at c.before.before.before.before.before.before.before.before.before.before.before.before.before.before.before.before.before.put_figure_start-start.ensures)
+    (rw (c.before.before.before.before.before.before.before.before.before.before.before.before.before.wide_of.ensures, c.before.before.before.before.before.before.before.before.before.before.before.before.shown_step.ensures) at c.before.before.before.before.before.before.before.before.before.before.before.put_ticks-ticks.ensures)
+    c.before.before.before.before.before.before.before.put_drift_bars-bars.ensures
+    (rw c.before.before.before.zero_line.ensures at c.before.before.put_figure_end.ensures)
 
-pub put-drift-by-spec : {M : Type 1} → statement M
-put-drift-by-spec =
+pub put_drift_by_spec : {M : Type 1} → statement M
+put_drift_by_spec =
     tie.close
     (tie.spec
     (λ c. search rules)

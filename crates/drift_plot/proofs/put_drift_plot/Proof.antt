@@ -12,24 +12,24 @@ use borrow.Author.Rules.{rules}
 use Rattle.drift_plot.proofs.put_drift_plot.Statement.{statement}
 use Rattle.drift_plot.proofs.put_drift_plot.Tie as tie
 
-scale-of-requires : tie.Need-scale-of-requires
+scale-of-requires : tie.Need-scale_of-scale-requires
 scale-of-requires c κs =
     let s = c.before.before.before.before in
     let a = s.args in
     let small = s.requires.0.1.1 in
-    rw (c.one-for.ensures, c.before.before.largest-share.ensures, c.before.largest-share2.ensures)
+    rw (c.one_for-one.ensures, c.before.before.largest_share-high.ensures, c.before.largest_share-low.ensures)
     (one_bounds _, (largest_most a.list.now a.width a.j small false a.n, largest_most a.list.now a.width a.j small true a.n))
 
-slice-aggregate-put-drift-by : tie.Need-slice-aggregate-put-drift-by
-slice-aggregate-put-drift-by c = sym (length-take-le _ _ (omega (arith, c.before.before.before.put-drift-words.ensures.ended, put_length c.before.before.before.put-drift-words.ensures)))
+slice-aggregate-put-drift-by : tie.Need-slice_bounds-put_drift_by-end
+slice-aggregate-put-drift-by c = sym (length-take-le _ _ (omega (arith, c.before.before.before.put_drift_words-end.ensures.ended, put_length c.before.before.before.put_drift_words-end.ensures)))
 
-put-drift-by-requires : tie.Need-put-drift-by-requires
+put-drift-by-requires : tie.Need-put_drift_by-requires
 unfolding drift_scale
 put-drift-by-requires c κs =
     let s = c.before.before.before.before.before.before.before.before.before.before.before in
     let a = s.args in
     let small = s.requires.0.1.1 in
-    rw (c.before.before.before.before.before.before.scale_of.ensures, c.before.before.before.before.before.before.before.one-for.ensures, c.before.before.before.before.before.before.before.before.before.largest-share.ensures, c.before.before.before.before.before.before.before.before.largest-share2.ensures) (
+    rw (c.before.before.before.before.before.before.scale_of-scale.ensures, c.before.before.before.before.before.before.before.one_for-one.ensures, c.before.before.before.before.before.before.before.before.before.largest_share-high.ensures, c.before.before.before.before.before.before.before.before.largest_share-low.ensures) (
       one_bounds _,
       (
         (scale_sound a.list.now a.width a.j small a.n, s.requires.0.1.0),
@@ -50,11 +50,11 @@ returns c =
     let s = c.before.before.before.before.before.before.before.before.before.before.before.before.before.before in
     let a = s.args in
     let high = largest_share false a.list.now a.width a.j a.n in
-    let words = put_back c.before.before.before.before.before.before.put-drift-words.ensures (omega (arith, words_most a.j c.before.before.before.before.before.before.before.in-percent.result)) in
-    rw (words, c.before.before.before.before.before.before.before.before.before.scale_of.ensures, c.before.before.before.before.before.before.before.before.before.before.one-for.ensures, c.before.before.before.before.before.before.before.in-percent.ensures, c.before.before.before.before.before.before.before.before.before.before.before.before.largest-share.ensures, c.before.before.before.before.before.before.before.before.before.before.before.largest-share2.ensures) at c.before.before.put-drift-by.ensures
+    let words = put_back c.before.before.before.before.before.before.put_drift_words-end.ensures (omega (arith, words_most a.j c.before.before.before.before.before.before.before.in_percent.result)) in
+    rw (words, c.before.before.before.before.before.before.before.before.before.scale_of-scale.ensures, c.before.before.before.before.before.before.before.before.before.before.one_for-one.ensures, c.before.before.before.before.before.before.before.in_percent.ensures, c.before.before.before.before.before.before.before.before.before.before.before.before.largest_share-high.ensures, c.before.before.before.before.before.before.before.before.before.before.before.largest_share-low.ensures) at c.before.before.put_drift_by.ensures
 
-pub put-drift-plot-spec : {M : Type 1} → statement M
-put-drift-plot-spec =
+pub put_drift_plot_spec : {M : Type 1} → statement M
+put_drift_plot_spec =
     tie.close
     (tie.spec
     (λ c κs. search rules)

@@ -8,8 +8,8 @@ returns : tie.Need-returns
 unfolding in_percent
 returns c = refl
 
-pub in-percent-spec : {M : Type 1} → statement M
-in-percent-spec =
+pub in_percent_spec : {M : Type 1} → statement M
+in_percent_spec =
     tie.close
     (tie.spec
     returns)

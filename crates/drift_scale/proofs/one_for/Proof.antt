@@ -5,16 +5,16 @@ use borrow.Author.Rules.{rules}
 use Rattle.drift_scale.proofs.one_for.Statement.{statement}
 use Rattle.drift_scale.proofs.one_for.Tie as tie
 
-returns : tie.Need-returns
+returns : tie.Need-returns-then-in_percent
 unfolding one_for
-returns c = rw (sym c.before.in-percent.ensures ∙ c.if1.true)
+returns c = rw (sym c.before.in_percent.ensures ∙ c.if-in_percent.true)
 
-returns-2 : tie.Need-returns-2
+returns-2 : tie.Need-returns-else-in_percent
 unfolding one_for
-returns-2 c = rw (sym c.before.in-percent.ensures ∙ c.if1.false)
+returns-2 c = rw (sym c.before.in_percent.ensures ∙ c.if-in_percent.false)
 
-pub one-for-spec : {M : Type 1} → statement M
-one-for-spec =
+pub one_for_spec : {M : Type 1} → statement M
+one_for_spec =
     tie.close
     (tie.spec
     (λ c κs. search rules)

@@ -6,10 +6,10 @@ use Rattle.drift_scale.proofs.share_at.Statement.{statement}
 use Rattle.drift_scale.proofs.share_at.Tie as tie
 
 returns : tie.Need-returns
-returns c = to_z-of_z (sfits_of c.entry_of.type-inv) ∙ c.entry_of.ensures
+returns c = to_z-of_z (sfits_of c.entry_of.type_inv) ∙ c.entry_of.ensures
 
-pub share-at-spec : {M : Type 1} → statement M
-share-at-spec =
+pub share_at_spec : {M : Type 1} → statement M
+share_at_spec =
     tie.close
     (tie.spec
     (λ c. search rules)

@@ -4,21 +4,19 @@ use borrow.Author.Rules.{rules}
 use Rattle.drift_words.proofs.put_axis_word.Statement.{statement}
 use Rattle.drift_words.proofs.put_axis_word.Tie as tie
 
-returns : tie.Need-returns
+returns : tie.Need-returns-then-percent
 unfolding axis_word
-returns c = rw c.before.before.before.before.before.if1.true c.before.before.put-bytes.ensures
+returns c = rw c.before.before.before.before.before.before.if-percent.true c.before.before.put_bytes.ensures
 
-returns-2 : tie.Need-returns-2
+returns-2 : tie.Need-returns-else-percent
 unfolding axis_word
-returns-2 c = rw c.before.before.before.before.before.if1.false c.before.before.put-bytes2.ensures
+returns-2 c = rw c.before.before.before.before.before.before.if-percent.false c.before.before.put_bytes-else-percent.ensures
 
-pub put-axis-word-spec : {M : Type 1} → statement M
-put-axis-word-spec =
+pub put_axis_word_spec : {M : Type 1} → statement M
+put_axis_word_spec =
     tie.close
     (tie.spec
-    (λ c. search rules)
     (λ c κs. search rules)
-    (λ c. search rules)
     (λ c κs. search rules)
     (λ c. search rules)
     returns

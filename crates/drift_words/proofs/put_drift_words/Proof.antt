@@ -7,16 +7,14 @@ use Rattle.drift_words.proofs.put_drift_words.Tie as tie
 
 returns : tie.Need-returns
 unfolding drift_words
-returns c = put_four c.before.before.before.before.before.before.before.before.before.before.before.before.before.before.before.put-bytes.ensures c.before.before.before.before.before.before.before.before.before.before.before.put-decimal.ensures c.before.before.before.before.before.before.put-bytes2.ensures c.before.before.put-axis-word.ensures
+returns c = put_four c.before.before.before.before.before.before.before.before.before.before.before.before.before.before.before.before.put_bytes-a.ensures c.before.before.before.before.before.before.before.before.before.before.before.before.put_decimal-b.ensures c.before.before.before.before.before.before.put_bytes-c.ensures c.before.before.put_axis_word.ensures
 
-pub put-drift-words-spec : {M : Type 1} → statement M
-put-drift-words-spec =
+pub put_drift_words_spec : {M : Type 1} → statement M
+put_drift_words_spec =
     tie.close
     (tie.spec
-    (λ c. search rules)
     (λ c κs. search rules)
     (λ c κs. search rules)
-    (λ c. search rules)
     (λ c κs. search rules)
     (λ c κs. search rules)
     (λ c. search rules)

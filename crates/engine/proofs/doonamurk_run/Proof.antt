@@ -1,6 +1,6 @@
 -- Each answer is that of a segment of the questions, and of an accepted run the third demand holds (ran). Assumes nothing.
 use borrow.Author.Rules.{rules}
-use borrow.Author.Tests.{leb-true, not-true, not-false}
+use borrow.Author.Tests.{leb-true}
 use native.Mathlib.Omega.{arith}
 use mathlib.Core.Path.{◌≡◌, refl, sym, ◌∙◌}
 use mathlib.Core.Bool.{true}
@@ -20,50 +20,50 @@ use Rattle.engine.proofs.Run.{ran}
 use Rattle.engine.proofs.doonamurk_run.Statement.{statement}
 use Rattle.engine.proofs.doonamurk_run.Tie as tie
 
-opens-requires : tie.Need-opens-requires
+opens-requires : tie.Need-opens-answer-requires
 opens-requires c κs = search rules
 
-abbrev start : tie.After-opens → tie.Start
+abbrev start : tie.After-opens-answer → tie.Start
 start c = c.before.before
 
-bytes : (c : tie.After-opens) → Fit 8 (start c).args.packed.now
-bytes c i = omega (arith, c.before.shared-slice-known.given i)
+bytes : (c : tie.After-opens-answer) → Fit 8 (start c).args.packed.now
+bytes c i = omega (arith, c.before.shared_slice_known-1.given i)
 
-returns : tie.Need-returns
+returns : tie.Need-returns-then-answer-ne-ACCEPTED
 unfolding questions
 returns c =
     let at = c.before in
     let s = start at in
     let packed = s.args.packed.now in
     let out = s.args.results.now in
-    ran s.args.valuation-year packed out (bytes at) at.opens.result _ (first_refused_lem (filled s.args.valuation-year (figures_of packed) out) out (opening_questions packed) _ at.opens.result (sym at.opens.ensures) c.if1.true)
+    ran s.args.valuation-year packed out (bytes at) at.opens-answer.result _ (first_refused_lem (filled s.args.valuation-year (figures_of packed) out) out (opening_questions packed) _ at.opens-answer.result (sym at.opens-answer.ensures) c.if-answer-ne-ACCEPTED.true)
 
-yes-opening : (c : tie.Else1) → first_no (opening_questions (start c.before).args.packed.now) ≡ 0
-yes-opening c = sym c.before.opens.ensures ∙ c.if1.false
+yes-opening : (c : tie.Else-answer-ne-ACCEPTED) → first_no (opening_questions (start c.before).args.packed.now) ≡ 0
+yes-opening c = sym c.before.opens-answer.ensures ∙ c.if-answer-ne-ACCEPTED.false
 
-holds-list-requires : tie.Need-holds-list-requires
+holds-list-requires : tie.Need-holds_list-requires
 holds-list-requires c κs =
     let packed = (start c.before).args.packed.now in
     (years_known_lem packed (opening_yes packed (yes-opening c)).0).0
 
-returns-2 : tie.Need-returns-2
+returns-2 : tie.Need-returns-then-not-holds_list
 unfolding questions opening_questions every
 returns-2 c =
     let one = c.before.before in
     let s = start one.before in
     let packed = s.args.packed.now in
     let out = s.args.results.now in
-    let no = sym c.before.holds-list.ensures ∙ not-true c.before.holds-list.result c.if2.true in
+    let no = sym c.before.holds_list.ensures ∙ c.if-not-holds_list.true in
     ran s.args.valuation-year packed out (bytes one.before) 3 out
     (later (filled s.args.valuation-year (figures_of packed) out) out (opening_questions packed) _ out 3 refl (yes-opening one)
     (first_refused_lem (filled s.args.valuation-year (figures_of packed) out) out ((3, _) ∷ []) _ 3 (one_no 3 _ no) (λ z. omega arith)))
 
-yes-room : (c : tie.Else2) →
+yes-room : (c : tie.Else-not-holds_list) →
     let s = start c.before.before.before in
     holds_list s.args.packed.now (length s.args.results.now) ≡ true
-yes-room c = sym c.before.holds-list.ensures ∙ not-false c.before.holds-list.result c.if2.false
+yes-room c = sym c.before.holds_list.ensures ∙ c.if-not-holds_list.false
 
-run-record-requires : tie.Need-run-record-requires
+run-record-requires : tie.Need-run_record-requires
 unfolding holds_list
 run-record-requires c κs =
     let two = c.before in
@@ -72,10 +72,10 @@ run-record-requires c κs =
     let out = s.args.results.now in
     (yes-opening two.before.before, leb-true (result_count (last_year_of packed)) (length out) (yes-room two))
 
-same_length : tie.Need-same-length
+same_length : tie.Need-shape_of-results
 same_length c = search rules
 
-returns-3 : tie.Need-returns-3
+returns-3 : tie.Need-returns
 unfolding questions opening_questions every
 returns-3 c =
     let run = c.before in
@@ -85,12 +85,12 @@ returns-3 c =
     let packed = s.args.packed.now in
     let out = s.args.results.now in
     let f = figures_of packed in
-    ran s.args.valuation-year packed out (bytes one.before) run.run-record.result _
+    ran s.args.valuation-year packed out (bytes one.before) run.run_record.result _
     (later (filled s.args.valuation-year f out) out (opening_questions packed) _ _ _ refl (yes-opening one)
-    (later (filled s.args.valuation-year f out) out ((3, _) ∷ []) _ _ _ refl (one_yes 3 _ (yes-room two)) run.run-record.ensures))
+    (later (filled s.args.valuation-year f out) out ((3, _) ∷ []) _ _ _ refl (one_yes 3 _ (yes-room two)) run.run_record.ensures))
 
-pub doonamurk-run-spec : {M : Type 1} → statement M
-doonamurk-run-spec =
+pub doonamurk_run_spec : {M : Type 1} → statement M
+doonamurk_run_spec =
     tie.close
     (tie.spec
     opens-requires

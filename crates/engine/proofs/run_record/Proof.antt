@@ -15,55 +15,55 @@ use Rattle.engine.proofs.Figures.{figures_are}
 use Rattle.engine.proofs.run_record.Statement.{statement}
 use Rattle.engine.proofs.run_record.Tie as tie
 
-read-requires : tie.Need-read-requires
+read-requires : tie.Need-read-opened-requires
 read-requires c κs = search rules
 
-abbrev start : tie.After-read → tie.Start
+abbrev start : tie.After-read-opened → tie.Start
 start c = c.before.before.before.before.before.before.before
 
-bytes : (c : tie.After-read) → Fit 8 (start c).args.packed.now
-bytes c i = omega (arith, c.before.before.before.before.before.before.shared-slice-known.given i)
+bytes : (c : tie.After-read-opened) → Fit 8 (start c).args.packed.now
+bytes c i = omega (arith, c.before.before.before.before.before.before.shared_slice_known-1.given i)
 
-returns : tie.Need-returns
+returns : tie.Need-returns-then-opened-ne-ACCEPTED
 returns c =
     let at = c.before.before in
     let s = start at in
     let packed = s.args.packed.now in
-    first_refused_lem (filled s.args.year (figures_of packed) s.args.out.now) s.args.out.now (field_questions packed) _ at.read.result.answer (sym at.read.ensures.0) c.if1.true
+    first_refused_lem (filled s.args.year (figures_of packed) s.args.out.now) s.args.out.now (field_questions packed) _ at.read-opened.result.answer (sym at.read-opened.ensures.0) c.if-opened-ne-ACCEPTED.true
 
 -- questions 4 and 5 have said yes
-yes-fields : (c : tie.Else1) → first_no (field_questions (start c.before.before).args.packed.now) ≡ 0
-yes-fields c = sym c.before.before.read.ensures.0 ∙ c.if1.false
+yes-fields : (c : tie.Else-opened-ne-ACCEPTED) → first_no (field_questions (start c.before.before).args.packed.now) ≡ 0
+yes-fields c = sym c.before.before.read-opened.ensures.0 ∙ c.if-opened-ne-ACCEPTED.false
 
-last-year-of-requires : tie.Need-last-year-of-requires
+last-year-of-requires : tie.Need-last_year_of-requires
 last-year-of-requires c κs =
     let s = start c.before.before in
     let packed = s.args.packed.now in
     (years_known_lem packed (opening_yes packed s.pre.0).0).0
 
-figures-read : (c : tie.After-last-year-of) →
+figures-read : (c : tie.After-last_year_of) →
     let at = c.before.before.before in
-    figures c.last-year-of.result at.read.new.1.0 at.read.new.1.1.0 at.read.new.1.1.1.0 at.read.new.1.1.1.1.0 at.read.result.weight at.read.new.1.1.1.1.1.0 at.read.result.tail
+    figures c.last_year_of.result at.read-opened.new.increments.0 at.read-opened.new.increments.1.0 at.read-opened.new.increments.1.1.0 at.read-opened.new.increments.1.1.1.0 at.read-opened.result.weight at.read-opened.new.increments.1.1.1.1.0 at.read-opened.result.tail
     ≡ figures_of (start at).args.packed.now
 figures-read c =
     let at = c.before.before.before in
     let s = start at in
     let packed = s.args.packed.now in
-    let e = at.read.ensures.1 in
-    figures_are packed (figures_filled packed (bytes at) s.pre.0 (yes-fields c.before)) _ _ _ _ _ _ _ _ c.last-year-of.ensures.0 e.1.0 e.1.1.0 e.1.1.1.0 e.1.1.1.1.0 e.0 e.1.1.1.1.1.0 e.1.1.1.1.1.1
+    let e = at.read-opened.ensures.1 in
+    figures_are packed (figures_filled packed (bytes at) s.pre.0 (yes-fields c.before)) _ _ _ _ _ _ _ _ c.last_year_of.ensures.0 e.1.0 e.1.1.0 e.1.1.1.0 e.1.1.1.1.0 e.0 e.1.1.1.1.1.0 e.1.1.1.1.1.1
 
-run-figures-requires : tie.Need-run-figures-requires
+run-figures-requires : tie.Need-run_figures-requires
 run-figures-requires c κs =
     let last = c.before.before.before.before.before.before in
     let at = last.before.before.before in
     let s = start at in
     let packed = s.args.packed.now in
-    (rw (figures-read last) (sound_figures packed (bytes at) s.pre.0 (yes-fields last.before)), rw last.last-year-of.ensures.0 s.pre.1)
+    (rw (figures-read last) (sound_figures packed (bytes at) s.pre.0 (yes-fields last.before)), rw last.last_year_of.ensures.0 s.pre.1)
 
-same_length : tie.Need-same-length
+same_length : tie.Need-shape_of-out
 same_length c = search rules
 
-returns-2 : tie.Need-returns-2
+returns-2 : tie.Need-returns
 unfolding field_questions every
 returns-2 c =
     let run = c.before in
@@ -71,10 +71,10 @@ returns-2 c =
     let at = last.before.before.before in
     let s = start at in
     let packed = s.args.packed.now in
-    later (filled s.args.year (figures_of packed) s.args.out.now) s.args.out.now (field_questions packed) _ _ _ refl (yes-fields last.before) (rw (figures-read last) at run.run-figures.ensures)
+    later (filled s.args.year (figures_of packed) s.args.out.now) s.args.out.now (field_questions packed) _ _ _ refl (yes-fields last.before) (rw (figures-read last) at run.run_figures.ensures)
 
-pub run-record-spec : {M : Type 1} → statement M
-run-record-spec =
+pub run_record_spec : {M : Type 1} → statement M
+run_record_spec =
     tie.close
     (tie.spec
     read-requires

@@ -13,62 +13,62 @@ use Rattle.entries.proofs.Runs.{sets_map_more}
 use Rattle.entries.proofs.put_naturals.Statement.{statement}
 use Rattle.entries.proofs.put_naturals.Tie as tie
 
-abbrev invariant-loop : tie.invariant-loop
+abbrev invariant-loop : tie.invariant-loop-i
 invariant-loop out₀ at vs n i₀ out i = (i ≤ n) × (out ≡ sets out₀ at (map pos (take i vs))) × (length out ≡ length out₀)
 
-abbrev decreases-loop : tie.decreases-loop
+abbrev decreases-loop : tie.decreases-loop-i
 decreases-loop out₀ at vs n i₀ out i = n - i
 
-loop-holds : tie.Need-loop-init invariant-loop decreases-loop
+loop-holds : tie.Need-loop-i-init invariant-loop decreases-loop
 loop-holds c = (omega arith, refl, refl)
 
-mul-out : tie.Need-overflow-mul-out invariant-loop decreases-loop
+mul-out : tie.Need-offset_bounds-vs-i invariant-loop decreases-loop
 mul-out c = search rules
 
-shared-slice-read-out : tie.Need-shared-slice-read-out invariant-loop decreases-loop
+shared-slice-read-out : tie.Need-bounds-vs-i invariant-loop decreases-loop
 shared-slice-read-out c = search rules
 
-cast-out : tie.Need-overflow-cast-out invariant-loop decreases-loop
-cast-out c = record { sfits = c.before.before.before.requires.1.1 c.before.before.loop.i (omega arith) }
+cast-out : tie.Need-overflow_cast-out invariant-loop decreases-loop
+cast-out c = record { sfits = c.before.before.before.requires.1.1 c.before.before.loop-i.i (omega arith) }
 
-add-t11 : tie.Need-overflow-add-t11 invariant-loop decreases-loop
+add-t11 : tie.Need-overflow_add-at invariant-loop decreases-loop
 add-t11 c = search rules
 
-mul-t12 : tie.Need-overflow-mul-t12 invariant-loop decreases-loop
+mul-t12 : tie.Need-offset_bounds-out-at invariant-loop decreases-loop
 mul-t12 c = search rules
 
-slice-set-from-out : tie.Need-slice-set-from-out invariant-loop decreases-loop
+slice-set-from-out : tie.Need-bounds-out-at invariant-loop decreases-loop
 slice-set-from-out c = search rules
 
-add-i : tie.Need-overflow-add-i invariant-loop decreases-loop
+add-i : tie.Need-overflow_step-i invariant-loop decreases-loop
 add-i c = search rules
 
-loop-less : tie.Need-loop-smaller invariant-loop decreases-loop
+loop-less : tie.Need-loop-i-smaller invariant-loop decreases-loop
 loop-less c = search rules
 
-loop-again : tie.Need-loop-preserved invariant-loop decreases-loop
+loop-again : tie.Need-loop-i-preserved invariant-loop decreases-loop
 loop-again c =
     let s = c.before.before.before in
-    let l = c.before.before.loop in
+    let l = c.before.before.loop-i in
     let vs = s.args.vs.now in (
       omega arith,
       rw (to_z_pos w64 (get_or vs l.i 0) (s.requires.1.1 l.i (omega arith)), l.invariant.1) (sets_map_more pos vs s.args.out.now s.args.at l.i 0 (omega arith)),
       simp length-set l.invariant.2,
     )
 
-add-result : tie.Need-overflow-add-result invariant-loop decreases-loop
+add-result : tie.Need-overflow_add-result invariant-loop decreases-loop
 add-result c = search rules
 
-same_length : tie.Need-same-length invariant-loop decreases-loop
+same_length : tie.Need-shape_of-out invariant-loop decreases-loop
 same_length c = search rules
 
 returns : tie.Need-returns invariant-loop decreases-loop
 returns c =
-    let e : c.before.loop.i ≡ c.before.before.args.n = omega arith in
-    (refl, rw e at c.before.loop.invariant.1)
+    let e : c.before.loop-i.i ≡ c.before.before.args.n = omega arith in
+    (refl, rw e at c.before.loop-i.invariant.1)
 
-pub put-naturals-spec : {M : Type 1} → statement M
-put-naturals-spec =
+pub put_naturals_spec : {M : Type 1} → statement M
+put_naturals_spec =
     tie.close
     (tie.spec
     invariant-loop

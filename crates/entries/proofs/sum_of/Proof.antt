@@ -10,47 +10,47 @@ use Rattle.laws.proofs.Lists.{total_take}
 use Rattle.entries.proofs.sum_of.Statement.{statement}
 use Rattle.entries.proofs.sum_of.Tie as tie
 
-abbrev invariant-loop : tie.invariant-loop
+abbrev invariant-loop : tie.invariant-loop-i
 invariant-loop vs n sum₀ i₀ sum i = (i ≤ n) × (sum ≡ total (take i vs)) × (sum ≤ most_ultimate * i)
 
-abbrev decreases-loop : tie.decreases-loop
+abbrev decreases-loop : tie.decreases-loop-i
 decreases-loop vs n sum₀ i₀ sum i = n - i
 
-loop-holds : tie.Need-loop-init invariant-loop decreases-loop
+loop-holds : tie.Need-loop-i-init invariant-loop decreases-loop
 unfolding total
 loop-holds c = (omega arith, refl, omega arith)
 
-mul-sum : tie.Need-overflow-mul-sum invariant-loop decreases-loop
+mul-sum : tie.Need-offset_bounds-vs-i invariant-loop decreases-loop
 mul-sum c = search rules
 
-shared-slice-read-sum : tie.Need-shared-slice-read-sum invariant-loop decreases-loop
+shared-slice-read-sum : tie.Need-bounds-vs-i invariant-loop decreases-loop
 shared-slice-read-sum c = search rules
 
-add-sum : tie.Need-overflow-add-sum invariant-loop decreases-loop
+add-sum : tie.Need-overflow_add-sum invariant-loop decreases-loop
 add-sum c =
-    let i = c.before.before.loop.i in
+    let i = c.before.before.loop-i.i in
     omega (arith, c.before.before.before.requires.1.1 i (omega arith))
 
-add-i : tie.Need-overflow-add-i invariant-loop decreases-loop
+add-i : tie.Need-overflow_step-i invariant-loop decreases-loop
 add-i c = search rules
 
-loop-less : tie.Need-loop-smaller invariant-loop decreases-loop
+loop-less : tie.Need-loop-i-smaller invariant-loop decreases-loop
 loop-less c = search rules
 
-loop-again : tie.Need-loop-preserved invariant-loop decreases-loop
+loop-again : tie.Need-loop-i-preserved invariant-loop decreases-loop
 loop-again c =
-    let i = c.before.before.loop.i in
+    let i = c.before.before.loop-i.i in
     let vs = c.before.before.before.args.vs.now in
     omega (arith, total_take vs i, c.before.before.before.requires.1.1 i (omega arith))
 
 returns : tie.Need-returns invariant-loop decreases-loop
 returns c =
     let s = c.before.before in
-    let e : c.before.loop.i ≡ s.args.n = omega arith in
-    rw e at c.before.loop.invariant.1
+    let e : c.before.loop-i.i ≡ s.args.n = omega arith in
+    rw e at c.before.loop-i.invariant.1
 
-pub sum-of-spec : {M : Type 1} → statement M
-sum-of-spec =
+pub sum_of_spec : {M : Type 1} → statement M
+sum_of_spec =
     tie.close
     (tie.spec
     invariant-loop

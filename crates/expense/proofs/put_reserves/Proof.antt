@@ -37,7 +37,7 @@ finished f g ratio l at n =
     rw (map_up_to pos f n, map_up_to pos g n, sets_append fs gs l at (at + n) (omega arith), add-one (at + 2 * n), ← append_assoc fs gs last)
     (sets_append (fs ++ gs) last l at (at + 2 * n) (omega (arith, length-append fs gs)))
 
-abbrev invariant-loop : tie.invariant-loop
+abbrev invariant-loop : tie.invariant-loop-i
 invariant-loop out₀ at k paid provisions reporting weight ratio n after₀ total₀ i₀ out after sum i =
     (i ≤ n)
     × ((after ≡ reported_after k reporting i)
@@ -48,145 +48,145 @@ invariant-loop out₀ at k paid provisions reporting weight ratio n after₀ tot
     ≡ sets (sets out₀ at (up_to (λ j. pos (not_reported k reporting paid provisions j)) i)) (at + n)
     (up_to (λ j. pos (reserve k ratio weight reporting paid provisions j)) i))))))
 
-abbrev decreases-loop : tie.decreases-loop
+abbrev decreases-loop : tie.decreases-loop-i
 decreases-loop out₀ at k paid provisions reporting weight ratio n after₀ total₀ i₀ out after sum i = n - i
 
-add-n : tie.Need-overflow-add-n invariant-loop decreases-loop
+add-n : tie.Need-overflow_add-n invariant-loop decreases-loop
 add-n c = search rules
 
-loop-holds : tie.Need-loop-init invariant-loop decreases-loop
+loop-holds : tie.Need-loop-i-init invariant-loop decreases-loop
 unfolding reported_after up_to total
 loop-holds c = (omega arith, (refl, (refl, (omega arith, (refl, refl)))))
 
-mul-provision : tie.Need-overflow-mul-provision invariant-loop decreases-loop
+mul-provision : tie.Need-offset_bounds-provisions-i invariant-loop decreases-loop
 mul-provision c = omega arith
 
-element-copy-out-provision : tie.Need-element-copy-out-provision invariant-loop decreases-loop
+element-copy-out-provision : tie.Need-bounds-provisions-i invariant-loop decreases-loop
 element-copy-out-provision c = omega arith
 
-mul-open : tie.Need-overflow-mul-open invariant-loop decreases-loop
+mul-open : tie.Need-offset_bounds-paid-i invariant-loop decreases-loop
 mul-open c = omega arith
 
-element-copy-out-open : tie.Need-element-copy-out-open invariant-loop decreases-loop
+element-copy-out-open : tie.Need-bounds-paid-i invariant-loop decreases-loop
 element-copy-out-open c = omega arith
 
-add_open : tie.Need-overflow-add-open invariant-loop decreases-loop
+add_open : tie.Need-overflow_add-open invariant-loop decreases-loop
 unfolding ultimate
-add_open c = omega (arith, c.before.before.before.before.requires.0.ultimates c.before.before.before.loop.i (omega arith))
+add_open c = omega (arith, c.before.before.before.before.before.before.requires.0.ultimates c.before.before.before.before.before.loop-i.i (omega arith))
 
 -- X × B of row i
-product : (c : tie.After-open invariant-loop decreases-loop) →
-    let s = c.before.before.before.before in
-    let t = c.before.before.before.loop in
-    (get_or s.args.paid.now t.i 0 + get_or s.args.provisions.now t.i 0) * t.after ≤ most_ultimate * million
+product : (c : tie.After-open-1 invariant-loop decreases-loop) →
+    let s = c.before.before.before.before.before.before in
+    let t = c.before.before.before.before.before.loop-i in
+    (get_or s.args.paid.now t.i 0 + get_or s.args.provisions.now t.i 0) * t.after-1 ≤ most_ultimate * million
 unfolding ultimate
 product c =
-    let s = c.before.before.before.before in
-    let t = c.before.before.before.loop in
+    let s = c.before.before.before.before.before.before in
+    let t = c.before.before.before.before.before.loop-i in
     rw t.invariant.1.0 (product_most s.args.k s.args.paid.now s.args.provisions.now s.args.reporting.now s.args.weight s.args.ratio s.requires.0 t.i (omega arith))
 
 -- N of row i
-open_is : (c : tie.After-open invariant-loop decreases-loop) →
-    let s = c.before.before.before.before in
-    let t = c.before.before.before.loop in
-    (get_or s.args.paid.now t.i 0 + get_or s.args.provisions.now t.i 0) * t.after / million
+open_is : (c : tie.After-open-1 invariant-loop decreases-loop) →
+    let s = c.before.before.before.before.before.before in
+    let t = c.before.before.before.before.before.loop-i in
+    (get_or s.args.paid.now t.i 0 + get_or s.args.provisions.now t.i 0) * t.after-1 / million
     ≡ not_reported s.args.k s.args.reporting.now s.args.paid.now s.args.provisions.now t.i
 unfolding not_reported ultimate
-open_is c = rw c.before.before.before.loop.invariant.1.0
+open_is c = rw c.before.before.before.before.before.loop-i.invariant.1.0
 
-mul-open-2 : tie.Need-overflow-mul-open-2 invariant-loop decreases-loop
+mul-open-2 : tie.Need-overflow_mul-open invariant-loop decreases-loop
 mul-open-2 c = omega (arith, product c)
 
-reserve-of-requires : tie.Need-reserve-of-requires invariant-loop decreases-loop
+reserve-of-requires : tie.Need-reserve_of-amount-requires invariant-loop decreases-loop
 reserve-of-requires c κs =
-    let s = c.before.before.before.before in
-    let t = c.before.before.before.loop in
+    let s = c.before.before.before.before.before.before in
+    let t = c.before.before.before.before.before.loop-i in
     let part = provision_most s.args.k s.args.paid.now s.args.provisions.now s.args.reporting.now s.args.weight s.args.ratio s.requires.0 t.i (omega arith) in
     (s.requires.0.ratio, (s.requires.0.weight, (omega (arith, product c), part)))
 
-cast-out : tie.Need-overflow-cast-out invariant-loop decreases-loop
+cast-out : tie.Need-overflow_cast-out invariant-loop decreases-loop
 cast-out c = record { sfits = omega (arith, product c.before) }
 
-add-out : tie.Need-overflow-add-out invariant-loop decreases-loop
+add-out : tie.Need-overflow_add-out invariant-loop decreases-loop
 add-out c = search rules
 
-mul-out : tie.Need-overflow-mul-out invariant-loop decreases-loop
+mul-out : tie.Need-offset_bounds-out-at invariant-loop decreases-loop
 mul-out c = search rules
 
-slice-set-from-out : tie.Need-slice-set-from-out invariant-loop decreases-loop
+slice-set-from-out : tie.Need-bounds-out-at invariant-loop decreases-loop
 slice-set-from-out c = search rules
 
-cast-out-2 : tie.Need-overflow-cast-out-2 invariant-loop decreases-loop
-cast-out-2 c = record { sfits = omega (arith, c.reserve-of.ensures.1) }
+cast-out-2 : tie.Need-overflow_cast-out-in-loop-i invariant-loop decreases-loop
+cast-out-2 c = record { sfits = omega (arith, c.reserve_of-amount.ensures.1) }
 
-add-t27 : tie.Need-overflow-add-t27 invariant-loop decreases-loop
+add-t27 : tie.Need-overflow_add-at invariant-loop decreases-loop
 add-t27 c = search rules
 
-add-t18 : tie.Need-overflow-add-t18 invariant-loop decreases-loop
+add-t18 : tie.Need-overflow_add-at-in-loop-i invariant-loop decreases-loop
 add-t18 c = search rules
 
-mul-t29 : tie.Need-overflow-mul-t29 invariant-loop decreases-loop
+mul-t29 : tie.Need-offset_bounds-out-at-in-loop-i invariant-loop decreases-loop
 mul-t29 c = search rules
 
-slice-set-from-out-2 : tie.Need-slice-set-from-out-2 invariant-loop decreases-loop
+slice-set-from-out-2 : tie.Need-bounds-out-at-in-loop-i invariant-loop decreases-loop
 slice-set-from-out-2 c = simp length-set (omega arith)
 
-add_total : tie.Need-overflow-add-total invariant-loop decreases-loop
-add_total c = omega (arith, c.reserve-of.ensures.1)
+add_total : tie.Need-overflow_add-total invariant-loop decreases-loop
+add_total c = omega (arith, c.reserve_of-amount.ensures.1)
 
-sub-after : tie.Need-overflow-sub-after invariant-loop decreases-loop
+sub-after : tie.Need-overflow_sub-after invariant-loop decreases-loop
 sub-after c = omega arith
 
-mul-after : tie.Need-overflow-mul-after invariant-loop decreases-loop
+mul-after : tie.Need-offset_bounds-reporting-k invariant-loop decreases-loop
 mul-after c = omega arith
 
-element-copy-out-after : tie.Need-element-copy-out-after invariant-loop decreases-loop
+element-copy-out-after : tie.Need-bounds-reporting-k invariant-loop decreases-loop
 element-copy-out-after c = omega arith
 
 -- B of the row after i
-next : (c : tie.After-after invariant-loop decreases-loop) →
-    let s = c.before.before.before.before.before.before in
-    let t = c.before.before.before.before.before.loop in
+next : (c : tie.After-after-1 invariant-loop decreases-loop) →
+    let s = c.before.before.before.before.before.before.before.before.before in
+    let t = c.before.before.before.before.before.before.before.before.loop-i in
     let b = s.args.reporting.now in
-    (t.after + get_or b (s.args.k - t.i) 0 ≡ reported_after s.args.k b (t.i + 1)) × (t.after + get_or b (s.args.k - t.i) 0 ≤ million)
+    (t.after-1 + get_or b (s.args.k - t.i) 0 ≡ reported_after s.args.k b (t.i + 1)) × (t.after-1 + get_or b (s.args.k - t.i) 0 ≤ million)
 next c =
-    let s = c.before.before.before.before.before.before in
-    let t = c.before.before.before.before.before.loop in
+    let s = c.before.before.before.before.before.before.before.before.before in
+    let t = c.before.before.before.before.before.before.before.before.loop-i in
     let more = reported_more s.args.k s.args.reporting.now t.i (omega arith) in
     let most = reported_most s.args.k s.args.paid.now s.args.provisions.now s.args.reporting.now s.args.weight s.args.ratio s.requires.0 (t.i + 1) (omega arith) in
     (omega arith, omega arith)
 
-add-after : tie.Need-overflow-add-after invariant-loop decreases-loop
+add-after : tie.Need-overflow_add-after invariant-loop decreases-loop
 add-after c = omega (arith, next c)
 
-add-i : tie.Need-overflow-add-i invariant-loop decreases-loop
+add-i : tie.Need-overflow_step-i invariant-loop decreases-loop
 add-i c = omega arith
 
-loop-less : tie.Need-loop-smaller invariant-loop decreases-loop
+loop-less : tie.Need-loop-i-smaller invariant-loop decreases-loop
 loop-less c = omega arith
 
 -- Q of row i
-amount-is : (c : tie.After-reserve-of invariant-loop decreases-loop) →
-    let s = c.before.before.before.before.before in
-    let t = c.before.before.before.before.loop in
-    c.reserve-of.result ≡ reserve s.args.k s.args.ratio s.args.weight s.args.reporting.now s.args.paid.now s.args.provisions.now t.i
+amount-is : (c : tie.After-reserve_of-amount invariant-loop decreases-loop) →
+    let s = c.before.before.before.before.before.before.before in
+    let t = c.before.before.before.before.before.before.loop-i in
+    c.reserve_of-amount.result ≡ reserve s.args.k s.args.ratio s.args.weight s.args.reporting.now s.args.paid.now s.args.provisions.now t.i
 unfolding reserve
-amount-is c = c.reserve-of.ensures.0 ∙ rw (open_is c.before)
+amount-is c = c.reserve_of-amount.ensures.0 ∙ rw (open_is c.before)
 
-loop-again : tie.Need-loop-preserved invariant-loop decreases-loop
+loop-again : tie.Need-loop-i-preserved invariant-loop decreases-loop
 loop-again c =
-    let d = c.before in
-    let s = d.before.before.before.before.before in
-    let t = d.before.before.before.before.loop in
+    let d = c.before.before in
+    let s = d.before.before.before.before.before.before.before in
+    let t = d.before.before.before.before.before.before.loop-i in
     let k = s.args.k in
     let p = s.args.paid.now in
     let q = s.args.provisions.now in
     let b = s.args.reporting.now in
     let f = not_reported k b p q in
     let g = reserve k s.args.ratio s.args.weight b p q in
-    let part = (get_or p t.i 0 + get_or q t.i 0) * t.after / million in
+    let part = (get_or p t.i 0 + get_or q t.i 0) * t.after-1 / million in
     let small : part < 2 ^ 63 = omega (arith, product d.before) in
-    let low : d.reserve-of.result < 2 ^ 63 = omega (arith, d.reserve-of.ensures.1) in
+    let low : d.reserve_of-amount.result < 2 ^ 63 = omega (arith, d.reserve_of-amount.ensures.1) in
     let stored = both_more (λ (j : ℕ). pos (f j)) (λ (j : ℕ). pos (g j)) s.args.out.now s.args.at (k + 1) t.i (omega arith) in
     let inv = t.invariant.1.1.1.1 in (
       omega arith,
@@ -195,37 +195,37 @@ loop-again c =
         (
           rw (add-one t.i) (omega (arith, total_more g t.i, amount-is d)),
           (
-            omega (arith, d.reserve-of.ensures.1),
+            omega (arith, d.reserve_of-amount.ensures.1),
             (
               simp length-set inv.0,
-              rw (to_z_pos w64 part small, to_z_pos w64 d.reserve-of.result low, open_is d.before, amount-is d, inv.1) stored,
+              rw (to_z_pos w64 part small, to_z_pos w64 d.reserve_of-amount.result low, open_is d.before, amount-is d, inv.1) stored,
             ),
           ),
         ),
       ),
     )
 
-mul-put-natural : tie.Need-overflow-mul-put-natural invariant-loop decreases-loop
+mul-put-natural : tie.Need-overflow_mul-n invariant-loop decreases-loop
 mul-put-natural c = omega arith
 
-add-put-natural : tie.Need-overflow-add-put-natural invariant-loop decreases-loop
+add-put-natural : tie.Need-overflow_add-at-2 invariant-loop decreases-loop
 add-put-natural c = omega arith
 
-put-natural-requires : tie.Need-put-natural-requires invariant-loop decreases-loop
+put-natural-requires : tie.Need-put_natural-end-requires invariant-loop decreases-loop
 put-natural-requires c κs = search rules
 
-put-natural-requires-2 : tie.Need-put-natural-requires-2 invariant-loop decreases-loop
+put-natural-requires-2 : tie.Need-put_natural-requires invariant-loop decreases-loop
 put-natural-requires-2 c κs = search rules
 
-same_length : tie.Need-same-length invariant-loop decreases-loop
+same_length : tie.Need-shape_of-out invariant-loop decreases-loop
 same_length c = search rules
 
 returns : tie.Need-returns invariant-loop decreases-loop
 returns c =
     let s = c.before.before.before.before.before.before.before.before in
-    let t = c.before.before.before.before.before.before.before.loop in
-    let one = c.before.before.before.before.put-natural.ensures in
-    let two = c.before.put-natural2.ensures in
+    let t = c.before.before.before.before.before.before.before.loop-i in
+    let one = c.before.before.before.before.put_natural-end.ensures in
+    let two = c.before.put_natural.ensures in
     let k = s.args.k in
     let f = not_reported k s.args.reporting.now s.args.paid.now s.args.provisions.now in
     let g = reserve k s.args.ratio s.args.weight s.args.reporting.now s.args.paid.now s.args.provisions.now in
@@ -234,8 +234,8 @@ returns c =
     let stored = rw e at t.invariant.1.1.1.1.1 in
     (omega (arith, one.0, two.0), rw (two.1, one.0, one.1, sum, stored) (finished f g s.args.ratio s.args.out.now s.args.at (k + 1)))
 
-pub put-reserves-spec : {M : Type 1} → statement M
-put-reserves-spec =
+pub put_reserves_spec : {M : Type 1} → statement M
+put_reserves_spec =
     tie.close
     (tie.spec
     invariant-loop

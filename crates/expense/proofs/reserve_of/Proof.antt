@@ -14,19 +14,19 @@ use Rattle.expense.proofs.reserve_of.Tie as tie
 all : (c : tie.Start) → c.args.weight * c.args.not-reported + (million - c.args.weight) * c.args.provision ≤ million * most_ultimate
 all c = mixture_most c.args.weight c.args.not-reported c.args.provision c.requires.1.0 c.requires.1.1.0 c.requires.1.1.1
 
-mul-weighted : tie.Need-overflow-mul-weighted
+mul-weighted : tie.Need-overflow_mul-weighted
 mul-weighted c = omega (arith, all c)
 
-sub-weighted : tie.Need-overflow-sub-weighted
+sub-weighted : tie.Need-overflow_sub-weighted
 sub-weighted c = search rules
 
-mul-weighted-2 : tie.Need-overflow-mul-weighted-2
+mul-weighted-2 : tie.Need-overflow_mul-weighted-2
 mul-weighted-2 c = omega (arith, all c)
 
-add-weighted : tie.Need-overflow-add-weighted
+add-weighted : tie.Need-overflow_add-weighted
 add-weighted c = omega (arith, all c)
 
-mul-result : tie.Need-overflow-mul-result
+mul-result : tie.Need-overflow_mul-result
 unfolding weighted
 mul-result c =
     let mean = weighted_most c.args.weight c.args.not-reported c.args.provision c.requires.1.0 c.requires.1.1.0 c.requires.1.1.1 in
@@ -36,6 +36,6 @@ returns : tie.Need-returns
 unfolding weighted reserve_of
 returns c = (refl, reserve_of_most c.args.ratio c.args.weight c.args.not-reported c.args.provision c.requires.0 c.requires.1.0 c.requires.1.1.0 c.requires.1.1.1)
 
-pub reserve-of-spec : {M : Type 1} → statement M
-reserve-of-spec =
+pub reserve_of_spec : {M : Type 1} → statement M
+reserve_of_spec =
     tie.close (tie.spec mul-weighted sub-weighted mul-weighted-2 add-weighted mul-result returns)

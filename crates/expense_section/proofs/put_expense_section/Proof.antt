@@ -7,15 +7,13 @@ use Rattle.expense_section.proofs.put_expense_section.Tie as tie
 
 returns : tie.Need-returns
 unfolding expense_section
-returns c = put_five c.before.before.before.before.before.before.before.before.before.before.before.before.before.before.before.before.before.before.before.put-section-start.ensures c.before.before.before.before.before.before.before.before.before.before.before.before.before.before.put-Only.ensures c.before.before.before.before.before.before.before.before.before.before.put-used.ensures c.before.before.before.before.before.before.put-ratio-table.ensures c.before.before.put-section-end.ensures
+returns c = put_five c.before.before.before.before.before.before.before.before.before.before.before.before.before.before.before.before.before.before.before.before.put_section_start-method.ensures c.before.before.before.before.before.before.before.before.before.before.before.before.before.before.put_only-used.ensures c.before.before.before.before.before.before.before.before.before.before.put_used-table.ensures c.before.before.before.before.before.before.put_ratio_table-end.ensures c.before.before.put_section_end.ensures
 
-pub put-expense-section-spec : {M : Type 1} → statement M
-put-expense-section-spec =
+pub put_expense_section_spec : {M : Type 1} → statement M
+put_expense_section_spec =
     tie.close
     (tie.spec
-    (λ c. search rules)
     (λ c κs. search rules)
-    (λ c. search rules)
     (λ c κs. search rules)
     (λ c κs. search rules)
     (λ c κs. search rules)

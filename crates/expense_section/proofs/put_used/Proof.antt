@@ -4,21 +4,19 @@ use borrow.Author.Rules.{rules}
 use Rattle.expense_section.proofs.put_used.Statement.{statement}
 use Rattle.expense_section.proofs.put_used.Tie as tie
 
-returns : tie.Need-returns
+returns : tie.Need-returns-then-corrected
 unfolding used_text
-returns c = rw c.before.before.before.before.before.if1.true c.before.before.put-Only.ensures
+returns c = rw c.before.before.before.before.before.before.if-corrected.true c.before.before.put_only.ensures
 
-returns-2 : tie.Need-returns-2
+returns-2 : tie.Need-returns-else-corrected
 unfolding used_text
-returns-2 c = rw c.before.before.before.before.before.if1.false c.before.before.put-only2.ensures
+returns-2 c = rw c.before.before.before.before.before.before.if-corrected.false c.before.before.put_only-else-corrected.ensures
 
-pub put-used-spec : {M : Type 1} → statement M
-put-used-spec =
+pub put_used_spec : {M : Type 1} → statement M
+put_used_spec =
     tie.close
     (tie.spec
-    (λ c. search rules)
     (λ c κs. search rules)
-    (λ c. search rules)
     (λ c κs. search rules)
     (λ c. search rules)
     returns

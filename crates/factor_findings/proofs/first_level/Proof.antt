@@ -8,5 +8,5 @@ returns : tie.Need-returns
 unfolding refused_level
 returns c = c.first_above.ensures
 
-pub first-level-spec : {M : Type 1} → statement M
-first-level-spec = tie.close (tie.spec (λ c. search rules) (λ c κs. search rules) returns)
+pub first_level_spec : {M : Type 1} → statement M
+first_level_spec = tie.close (tie.spec (λ c. search rules) (λ c κs. search rules) returns)

@@ -12,5 +12,5 @@ returns c =
     let s = c.args.packed.now in
     (running_is (square_of (figures_of s)) (figures_of s).k (running_no c.args.year s c.requires), (omega arith, omega arith))
 
-pub running-finding-spec : {M : Type 1} → statement M
-running-finding-spec = tie.close (tie.spec returns)
+pub running_finding_spec : {M : Type 1} → statement M
+running_finding_spec = tie.close (tie.spec returns)

@@ -8,5 +8,5 @@ returns : tie.Need-returns
 unfolding no_factors
 returns c = refl
 
-pub no-factors-spec : {M : Type 1} → statement M
-no-factors-spec = tie.close (tie.spec returns)
+pub no_factors_spec : {M : Type 1} → statement M
+no_factors_spec = tie.close (tie.spec returns)

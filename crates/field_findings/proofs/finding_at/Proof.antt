@@ -28,48 +28,48 @@ unfolding finding_at
 of_parts s k r m y e f g h = rw (e, f, g, h, y)
 
 -- the record has passed questions 1 and 2
-is_whole : (c : tie.After-shared-slice-known) → WholeRecord c.before.args.s.now
-is_whole c = whole_record c.before.args.s.now (λ i. omega (arith, c.shared-slice-known.given i)) c.before.requires.0
+is_whole : (c : tie.After-shared_slice_known-1) → WholeRecord c.before.args.s.now
+is_whole c = whole_record c.before.args.s.now (λ i. omega (arith, c.shared_slice_known-1.given i)) c.before.requires.0
 
-row-of-requires : tie.Need-row-of-requires
+row-of-requires : tie.Need-row_of-row-requires
 row-of-requires c κs =
     let few = (is_whole c).few in
     let p = c.before.requires.1 in
     (omega (arith, p.0), (p.1.0, p.1.1.0))
 
 -- the row holds field m, and lies within the record
-row_within : (c : tie.After-row-of) → RowInside c.before.before.args.s.now c.row_of.result.at c.row_of.result.bits c.row_of.result.count
+row_within : (c : tie.After-row_of-row) → RowInside c.before.before.args.s.now c.row_of-row.result.at c.row_of-row.result.bits c.row_of-row.result.count
 row_within c =
     let p = c.before.before.requires.1 in
-    held_inside (is_whole c.before) p.0 c.row_of.ensures p.1.1.0 p.1.0
+    held_inside (is_whole c.before) p.0 c.row_of-row.ensures p.1.1.0 p.1.0
 
-has-field : (c : tie.After-row-of) → c.before.before.args.m < c.row_of.result.count
+has-field : (c : tie.After-row_of-row) → c.before.before.args.m < c.row_of-row.result.count
 has-field c =
     let p = c.before.before.requires.1 in
-    rw (held_count (is_whole c.before) p.0 c.row_of.ensures p.1.1.0, ← p.0) p.1.1.1
+    rw (held_count (is_whole c.before) p.0 c.row_of-row.ensures p.1.1.0, ← p.0) p.1.1.1
 
-fits : (c : tie.After-row-of) → c.row_of.result.bits * c.before.before.args.m + c.row_of.result.bits ≤ c.row_of.result.bits * c.row_of.result.count
-fits c = room c.row_of.result.bits c.before.before.args.m c.row_of.result.count (has-field c)
+fits : (c : tie.After-row_of-row) → c.row_of-row.result.bits * c.before.before.args.m + c.row_of-row.result.bits ≤ c.row_of-row.result.bits * c.row_of-row.result.count
+fits c = room c.row_of-row.result.bits c.before.before.args.m c.row_of-row.result.count (has-field c)
 
-mul-field : tie.Need-overflow-mul-field
+mul-field : tie.Need-overflow_mul-row
 mul-field c =
     let inside = row_within c.before in
     let last = fits c.before in
     search rules
 
-add-field : tie.Need-overflow-add-field
+add-field : tie.Need-overflow_add-row
 add-field c =
     let inside = row_within c.before.before in
     let last = fits c.before.before in
     search rules
 
-field-requires : tie.Need-field-requires
+field-requires : tie.Need-field-code-requires
 field-requires c κs =
     let inside = row_within c.before.before in
     let last = fits c.before.before in
     search rules
 
-spot-of-requires : tie.Need-spot-of-requires
+spot-of-requires : tie.Need-spot_of-place-requires
 spot-of-requires c κs =
     let start = c.before.before.before.before.before in
     let few = (is_whole c.before.before.before.before).few in
@@ -79,38 +79,38 @@ value-requires : tie.Need-value-requires
 value-requires c κs =
     let call = c.before.before.before.before in
     let p = call.before.before.requires.1 in
-    rw c.before.field.ensures (held_small (is_whole call.before) p.0 call.row_of.ensures p.1.1.0 call.before.before.args.m)
+    rw c.before.field-code.ensures (held_small (is_whole call.before) p.0 call.row_of-row.ensures p.1.1.0 call.before.before.args.m)
 
-limits : (c : tie.After-row-of) → (c.row_of.result.least < 9223372036854775808) × (c.row_of.result.most < 9223372036854775808)
+limits : (c : tie.After-row_of-row) → (c.row_of-row.result.least < 9223372036854775808) × (c.row_of-row.result.most < 9223372036854775808)
 limits c =
     let p = c.before.before.requires.1 in
-    held_limits (is_whole c.before) p.0 c.row_of.ensures p.1.1.0
+    held_limits (is_whole c.before) p.0 c.row_of-row.ensures p.1.1.0
 
-least-value-requires : tie.Need-least-value-requires
+least-value-requires : tie.Need-least_value-requires
 least-value-requires c κs = limits c.before.before.before.before.before
 
-cast-t14 : tie.Need-overflow-cast-t14
+cast-t14 : tie.Need-overflow_cast-result
 cast-t14 c = record { sfits = (limits c.before.before.before.before.before.before.before).1 }
 
 returns : tie.Need-returns
 returns c =
-    let spot = c.before.before.before in
-    let call = spot.before.before.before.before in
+    let spot = c.before.before.before.before in
+    let call = spot.before.before.before in
     let start = call.before.before in
     let whole = is_whole call.before in
     let p = start.requires.1 in
-    let row = call.row_of in
+    let row = call.row_of-row in
     let value = c.before.before.value in
-    let least = c.before.least-value in
+    let least = c.before.least_value in
     of_parts start.args.s.now start.args.k start.args.r start.args.m p.0 spot.spot_of_lem.ensures
-    (to_z-of_z {w = w64} {z = value.result} (sfits_of value.type-inv)
-    ∙ (value.ensures ∙ (held_value whole p.0 row.ensures p.1.1.0 spot.before.field.result
-    ∙ ap (value_of (kind_of (last_year_of start.args.s.now) start.args.r)) (spot.before.field.ensures ∙ held_code whole p.0 row.ensures p.1.1.0 start.args.m (has-field call)))))
-    (to_z-of_z {w = w64} {z = least.result} (sfits_of least.type-inv) ∙ (least.ensures ∙ held_least whole p.0 row.ensures p.1.1.0))
+    (to_z-of_z {w = w64} {z = value.result} (sfits_of value.type_inv)
+    ∙ (value.ensures ∙ (held_value whole p.0 row.ensures p.1.1.0 spot.field-code.result
+    ∙ ap (value_of (kind_of (last_year_of start.args.s.now) start.args.r)) (spot.field-code.ensures ∙ held_code whole p.0 row.ensures p.1.1.0 start.args.m (has-field call)))))
+    (to_z-of_z {w = w64} {z = least.result} (sfits_of least.type_inv) ∙ (least.ensures ∙ held_least whole p.0 row.ensures p.1.1.0))
     (to_z_pos w64 row.result.most (limits call).1 ∙ ap pos (held_most whole p.0 row.ensures p.1.1.0))
 
-pub finding-at-spec : {M : Type 1} → statement M
-finding-at-spec =
+pub finding_at_spec : {M : Type 1} → statement M
+finding_at_spec =
     tie.close
     (tie.spec
     row-of-requires

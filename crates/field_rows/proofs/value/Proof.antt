@@ -8,13 +8,13 @@ use Rattle.field_rows.specs.Rows.{value_in}
 use Rattle.field_rows.proofs.value.Statement.{statement}
 use Rattle.field_rows.proofs.value.Tie as tie
 
-returns : tie.Need-returns
+returns : tie.Need-returns-then-row
 unfolding value_in
-returns c = rw (c.before.if1.true, to_z-of_z {w = w64} {z = c.amount.result} (sfits_of c.amount.type-inv)) c.amount.ensures
+returns c = rw (c.before.if-row.true, to_z-of_z {w = w64} {z = c.amount.result} (sfits_of c.amount.type_inv)) c.amount.ensures
 
-returns-2 : tie.Need-returns-2
+returns-2 : tie.Need-returns
 unfolding value_in
-returns-2 c = rw (c.if1.false, to_z_pos w64 c.before.args.code (omega arith))
+returns-2 c = rw (c.if-row.false, to_z_pos w64 c.before.args.code (omega arith))
 
 pub value_spec : {M : Type 1} → statement M
 value_spec = tie.close (tie.spec (λ c κs. search rules) returns (λ c. search rules) returns-2)

@@ -9,20 +9,18 @@ returns : tie.Need-returns
 unfolding axis_label axis_text
 returns c =
     put_append
-    c.before.before.before.before.before.before.before.before.before.before.before.before.before.before.before.before.before.before.before.before.put-bytes.ensures
-    (put_append (put_three c.before.before.before.before.before.before.before.before.before.before.before.before.before.before.before.before.put-unit-word.ensures (rw c.before.before.before.before.before.before.before.before.before.before.before.before.line-length.ensures at c.before.before.before.before.before.before.before.before.before.before.before.put-word-gap.ensures) c.before.before.before.before.before.before.before.put-line.ensures) c.before.before.put-bytes2.ensures)
+    c.before.before.before.before.before.before.before.before.before.before.before.before.before.before.before.before.before.before.before.before.before.put_bytes-a.ensures
+    (put_append (put_three c.before.before.before.before.before.before.before.before.before.before.before.before.before.before.before.before.before.put_unit_word-b.ensures (rw c.before.before.before.before.before.before.before.before.before.before.before.before.before.line_length.ensures at c.before.before.before.before.before.before.before.before.before.before.before.before.put_word_gap-c.ensures) c.before.before.before.before.before.before.before.before.put_line-d.ensures) c.before.before.put_bytes.ensures)
 
-pub put-axis-label-spec : {M : Type 1} → statement M
-put-axis-label-spec =
+pub put_axis_label_spec : {M : Type 1} → statement M
+put_axis_label_spec =
     tie.close
     (tie.spec
-    (λ c. search rules)
     (λ c κs. search rules)
     (λ c κs. search rules)
     (λ c κs. search rules)
     (λ c κs. search rules)
     (λ c κs. search rules)
-    (λ c. search rules)
     (λ c κs. search rules)
     (λ c. search rules)
     returns)

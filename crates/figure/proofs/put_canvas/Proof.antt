@@ -9,29 +9,24 @@ returns : tie.Need-returns
 unfolding canvas
 returns c =
     put_five
-    (rw c.before.before.before.before.before.before.before.before.before.before.before.before.before.before.before.before.before.before.before.before.before.before.before.before.before.wide_of.ensures at c.before.before.before.before.before.before.before.before.before.before.before.before.before.before.before.before.before.before.before.before.before.before.before.before.put-numbered.ensures)
-    c.before.before.before.before.before.before.before.before.before.before.before.before.before.before.before.before.before.before.before.put-numbered2.ensures
-    (rw c.before.before.before.before.before.before.before.before.before.before.before.before.before.before.least-of.ensures at c.before.before.before.before.before.before.before.before.before.before.before.before.before.put-numbered3.ensures)
-    (rw c.before.before.before.before.before.before.before.before.wide-of2.ensures at c.before.before.before.before.before.before.before.put-numbered4.ensures)
-    c.before.before.put-bytes.ensures
+    (rw c.before.before.before.before.before.before.before.before.before.before.before.before.before.before.before.before.before.before.before.before.before.before.before.before.before.before.before.before.before.wide_of.ensures at c.before.before.before.before.before.before.before.before.before.before.before.before.before.before.before.before.before.before.before.before.before.before.before.before.before.before.before.before.put_numbered-a.ensures)
+    c.before.before.before.before.before.before.before.before.before.before.before.before.before.before.before.before.before.before.before.before.before.before.put_numbered-b.ensures
+    (rw c.before.before.before.before.before.before.before.before.before.before.before.before.before.before.before.before.least_of.ensures at c.before.before.before.before.before.before.before.before.before.before.before.before.before.before.before.put_numbered-c.ensures)
+    (rw c.before.before.before.before.before.before.before.before.before.wide_of-2.ensures at c.before.before.before.before.before.before.before.before.put_numbered-d.ensures)
+    c.before.before.put_bytes.ensures
 
-pub put-canvas-spec : {M : Type 1} → statement M
-put-canvas-spec =
+pub put_canvas_spec : {M : Type 1} → statement M
+put_canvas_spec =
     tie.close
     (tie.spec
-    (λ c. search rules)
-    (λ c κs. search rules)
-    (λ c κs. search rules)
-    (λ c. search rules)
-    (λ c. search rules)
-    (λ c κs. search rules)
-    (λ c. search rules)
     (λ c κs. search rules)
     (λ c κs. search rules)
     (λ c. search rules)
     (λ c κs. search rules)
     (λ c κs. search rules)
-    (λ c. search rules)
+    (λ c κs. search rules)
+    (λ c κs. search rules)
+    (λ c κs. search rules)
     (λ c κs. search rules)
     (λ c. search rules)
     returns)

@@ -7,19 +7,16 @@ use Rattle.figure.proofs.put_description.Tie as tie
 
 returns : tie.Need-returns
 unfolding description
-returns c = put_five c.before.before.before.before.before.before.before.before.before.before.before.before.before.before.before.before.before.before.before.before.put-bytes.ensures c.before.before.before.before.before.before.before.before.before.before.before.before.before.before.before.before.put-line.ensures c.before.before.before.before.before.before.before.before.before.before.before.put-bytes2.ensures c.before.before.before.before.before.before.before.put-line2.ensures c.before.before.put-bytes3.ensures
+returns c = put_five c.before.before.before.before.before.before.before.before.before.before.before.before.before.before.before.before.before.before.before.before.before.before.put_bytes-a.ensures c.before.before.before.before.before.before.before.before.before.before.before.before.before.before.before.before.before.before.put_line-b.ensures c.before.before.before.before.before.before.before.before.before.before.before.before.put_bytes-c.ensures c.before.before.before.before.before.before.before.before.put_line-d.ensures c.before.before.put_bytes.ensures
 
-pub put-description-spec : {M : Type 1} → statement M
-put-description-spec =
+pub put_description_spec : {M : Type 1} → statement M
+put_description_spec =
     tie.close
     (tie.spec
-    (λ c. search rules)
     (λ c κs. search rules)
     (λ c κs. search rules)
-    (λ c. search rules)
     (λ c κs. search rules)
     (λ c κs. search rules)
-    (λ c. search rules)
     (λ c κs. search rules)
     (λ c. search rules)
     returns)

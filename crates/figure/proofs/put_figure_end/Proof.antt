@@ -7,18 +7,15 @@ use Rattle.figure.proofs.put_figure_end.Tie as tie
 
 returns : tie.Need-returns
 unfolding figure_end
-returns c = put_three c.before.before.before.before.before.before.before.before.before.before.before.before.before.put-numbered.ensures (rw c.before.before.before.before.before.before.before.before.wide_of.ensures at c.before.before.before.before.before.before.before.put-numbered2.ensures) c.before.before.put-bytes.ensures
+returns c = put_three c.before.before.before.before.before.before.before.before.before.before.before.before.before.before.before.put_numbered-a.ensures (rw c.before.before.before.before.before.before.before.before.before.wide_of.ensures at c.before.before.before.before.before.before.before.before.put_numbered-b.ensures) c.before.before.put_bytes.ensures
 
-pub put-figure-end-spec : {M : Type 1} → statement M
-put-figure-end-spec =
+pub put_figure_end_spec : {M : Type 1} → statement M
+put_figure_end_spec =
     tie.close
     (tie.spec
-    (λ c. search rules)
-    (λ c κs. search rules)
-    (λ c. search rules)
     (λ c κs. search rules)
     (λ c κs. search rules)
-    (λ c. search rules)
+    (λ c κs. search rules)
     (λ c κs. search rules)
     (λ c. search rules)
     returns)

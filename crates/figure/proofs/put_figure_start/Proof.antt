@@ -7,10 +7,10 @@ use Rattle.figure.proofs.put_figure_start.Tie as tie
 
 returns : tie.Need-returns
 unfolding figure_start
-returns c = put_four c.before.before.before.before.before.before.before.before.before.before.before.before.before.before.put-caption.ensures c.before.before.before.before.before.before.before.before.before.before.put-canvas.ensures c.before.before.before.before.before.before.put-description.ensures c.before.before.put-axis-label.ensures
+returns c = put_four c.before.before.before.before.before.before.before.before.before.before.before.before.before.before.put_caption-a.ensures c.before.before.before.before.before.before.before.before.before.before.put_canvas-b.ensures c.before.before.before.before.before.before.put_description-c.ensures c.before.before.put_axis_label.ensures
 
-pub put-figure-start-spec : {M : Type 1} → statement M
-put-figure-start-spec =
+pub put_figure_start_spec : {M : Type 1} → statement M
+put_figure_start_spec =
     tie.close
     (tie.spec
     (λ c κs. search rules)

@@ -7,7 +7,7 @@ use borrow.Author.Rules.{rules}
 use Rattle.figure_caption.proofs.least_of.Statement.{statement}
 use Rattle.figure_caption.proofs.least_of.Tie as tie
 
-mul-result : tie.Need-overflow-mul-result
+mul-result : tie.Need-overflow_mul-result
 unfolding wide_of
 mul-result c = record { fits = omega (arith, c.wide_of.ensures, c.before.requires) }
 
@@ -15,8 +15,8 @@ returns : tie.Need-returns
 unfolding least_of
 returns c = ap (λ (w : ℕ). 2 * w / 3) c.wide_of.ensures
 
-pub least-of-spec : {M : Type 1} → statement M
-least-of-spec =
+pub least_of_spec : {M : Type 1} → statement M
+least_of_spec =
     tie.close
     (tie.spec
     (λ c κs. search rules)

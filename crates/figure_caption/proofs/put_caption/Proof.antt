@@ -9,22 +9,19 @@ returns : tie.Need-returns
 unfolding caption
 returns c =
     put_append
-    (rw c.before.before.before.before.before.before.before.before.before.before.before.before.before.before.before.before.before.before.before.before.before.before.before.before.before.least-of.ensures at c.before.before.before.before.before.before.before.before.before.before.before.before.before.before.before.before.before.before.before.before.before.before.before.before.put-numbered.ensures)
-    (put_five c.before.before.before.before.before.before.before.before.before.before.before.before.before.before.before.before.before.before.before.put-bytes.ensures c.before.before.before.before.before.before.before.before.before.before.before.before.before.before.before.put-line.ensures c.before.before.before.before.before.before.before.before.before.before.before.put-legend.ensures c.before.before.before.before.before.before.before.put-legend2.ensures c.before.before.put-bytes2.ensures)
+    (rw c.before.before.before.before.before.before.before.before.before.before.before.before.before.before.before.before.before.before.before.before.before.before.before.before.before.before.before.least_of.ensures at c.before.before.before.before.before.before.before.before.before.before.before.before.before.before.before.before.before.before.before.before.before.before.before.before.before.before.put_numbered-a.ensures)
+    (put_five c.before.before.before.before.before.before.before.before.before.before.before.before.before.before.before.before.before.before.before.before.put_bytes-b.ensures c.before.before.before.before.before.before.before.before.before.before.before.before.before.before.before.before.put_line-c.ensures c.before.before.before.before.before.before.before.before.before.before.before.before.put_legend-d.ensures c.before.before.before.before.before.before.before.before.put_legend-e.ensures c.before.before.put_bytes.ensures)
 
-pub put-caption-spec : {M : Type 1} → statement M
-put-caption-spec =
+pub put_caption_spec : {M : Type 1} → statement M
+put_caption_spec =
     tie.close
     (tie.spec
-    (λ c. search rules)
-    (λ c κs. search rules)
-    (λ c κs. search rules)
-    (λ c. search rules)
     (λ c κs. search rules)
     (λ c κs. search rules)
     (λ c κs. search rules)
     (λ c κs. search rules)
-    (λ c. search rules)
+    (λ c κs. search rules)
+    (λ c κs. search rules)
     (λ c κs. search rules)
     (λ c. search rules)
     returns)

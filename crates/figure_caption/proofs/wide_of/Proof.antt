@@ -5,16 +5,16 @@ use borrow.Author.Rules.{rules}
 use Rattle.figure_caption.proofs.wide_of.Statement.{statement}
 use Rattle.figure_caption.proofs.wide_of.Tie as tie
 
-returns : tie.Need-returns
+returns : tie.Need-returns-then-wide-lt300
 unfolding wide_of
 returns c = omega arith
 
-returns-2 : tie.Need-returns-2
+returns-2 : tie.Need-returns-else-wide-lt300
 unfolding wide_of
 returns-2 c = omega arith
 
-pub wide-of-spec : {M : Type 1} → statement M
-wide-of-spec =
+pub wide_of_spec : {M : Type 1} → statement M
+wide_of_spec =
     tie.close
     (tie.spec
     (λ c. search rules)

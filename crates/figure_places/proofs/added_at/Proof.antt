@@ -8,10 +8,10 @@ use Rattle.figure_places.proofs.added_at.Tie as tie
 
 returns : tie.Need-returns
 unfolding added_at added_from
-returns c = ap₂ (λ (r m : ℕ). added_from r m c.before.before.args.k) c.entries-of.ensures.0 c.before.Cells-of.ensures.0
+returns c = ap₂ (λ (r m : ℕ). added_from r m c.before.before.args.k) c.entries_of-exposures.ensures.0 c.before.cells_of-m.ensures.0
 
-pub added-at-spec : {M : Type 1} → statement M
-added-at-spec =
+pub added_at_spec : {M : Type 1} → statement M
+added_at_spec =
     tie.close
     (tie.spec
     (λ c. search rules)

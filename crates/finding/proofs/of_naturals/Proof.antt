@@ -10,8 +10,8 @@ returns c =
     let low = c.requires in
     rw (to_z_pos w64 {n = c.args.one} low.0, to_z_pos w64 {n = c.args.two} low.1.0, to_z_pos w64 {n = c.args.three} low.1.1)
 
-pub of-naturals-spec : {M : Type 1} → statement M
-of-naturals-spec =
+pub of_naturals_spec : {M : Type 1} → statement M
+of_naturals_spec =
     tie.close
     (tie.spec
     (λ c. search rules)

@@ -8,10 +8,10 @@ use Rattle.finding_table.proofs.put_finding_table.Tie as tie
 returns : tie.Need-returns
 unfolding finding_table
 returns c =
-    put_three c.before.before.before.before.before.before.before.before.before.before.put-record-table.ensures c.before.before.before.before.before.before.put-triangle-table.ensures c.before.before.put-reserve-table.ensures
+    put_three c.before.before.before.before.before.before.before.before.before.before.put_record_table-a.ensures c.before.before.before.before.before.before.put_triangle_table-b.ensures c.before.before.put_reserve_table.ensures
 
-pub put-finding-table-spec : {M : Type 1} → statement M
-put-finding-table-spec =
+pub put_finding_table_spec : {M : Type 1} → statement M
+put_finding_table_spec =
     tie.close
     (tie.spec
     (λ c κs. search rules)

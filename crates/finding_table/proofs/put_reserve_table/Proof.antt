@@ -7,83 +7,67 @@ use borrow.Author.Rules.{rules}
 use Rattle.finding_table.proofs.put_reserve_table.Statement.{statement}
 use Rattle.finding_table.proofs.put_reserve_table.Tie as tie
 
-returns : tie.Need-returns
+returns : tie.Need-returns-then-n-eq18
 unfolding tail_table styled
-returns c = put_same (at_18 _ _ _ c.before.before.before.before.before.before.if1.true) c.before.before.put-figures.ensures
+returns c = put_same (at_18 _ _ _ c.before.before.before.before.before.before.before.before.if-n-eq18.true) c.before.before.put_figures.ensures
 
-returns-2 : tie.Need-returns-2
+returns-2 : tie.Need-returns-then-n-eq19
 unfolding tail_average_table styled
-returns-2 c = put_same (at_19 _ _ _ c.before.before.before.before.before.before.if2.true) c.before.before.put-figures2.ensures
+returns-2 c = put_same (at_19 _ _ _ c.before.before.before.before.before.before.before.before.if-n-eq19.true) c.before.before.put_figures-then-n-eq19.ensures
 
-returns-3 : tie.Need-returns-3
+returns-3 : tie.Need-returns-then-n-eq11
 unfolding ultimate_table styled
-returns-3 c = put_same (at_11 _ _ _ c.before.before.before.before.before.before.if3.true) c.before.before.put-figures3.ensures
+returns-3 c = put_same (at_11 _ _ _ c.before.before.before.before.before.before.before.before.if-n-eq11.true) c.before.before.put_figures-then-n-eq11.ensures
 
-returns-4 : tie.Need-returns-4
+returns-4 : tie.Need-returns-then-n-eq12
 unfolding total_table styled
-returns-4 c = put_same (at_12 _ _ _ c.before.before.before.before.before.before.if4.true) c.before.before.put-figures4.ensures
+returns-4 c = put_same (at_12 _ _ _ c.before.before.before.before.before.before.before.before.if-n-eq12.true) c.before.before.put_figures-then-n-eq12.ensures
 
-returns-5 : tie.Need-returns-5
+returns-5 : tie.Need-returns-then-n-eq15
 unfolding latest_table styled
-returns-5 c = put_same (at_15 _ _ _ c.before.before.before.before.before.before.if5.true) c.before.before.put-figures5.ensures
+returns-5 c = put_same (at_15 _ _ _ c.before.before.before.before.before.before.before.before.if-n-eq15.true) c.before.before.put_figures-then-n-eq15.ensures
 
-returns-6 : tie.Need-returns-6
+returns-6 : tie.Need-returns-then-n-eq16
 unfolding divisor_table styled
-returns-6 c = put_same (at_16 _ _ _ c.before.before.before.before.before.before.if6.true) c.before.before.put-figures6.ensures
+returns-6 c = put_same (at_16 _ _ _ c.before.before.before.before.before.before.before.before.if-n-eq16.true) c.before.before.put_figures-then-n-eq16.ensures
 
-returns-7 : tie.Need-returns-7
+returns-7 : tie.Need-returns-then-n-eq17
 unfolding corrected_table styled
-returns-7 c = put_same (at_17 _ _ _ c.before.before.before.before.before.before.if7.true) c.before.before.put-figures7.ensures
+returns-7 c = put_same (at_17 _ _ _ c.before.before.before.before.before.before.before.before.if-n-eq17.true) c.before.before.put_figures-then-n-eq17.ensures
 
-returns-8 : tie.Need-returns-8
+returns-8 : tie.Need-returns-then-n-eq14
 unfolding completed_table styled
-returns-8 c = put_same (at_14 _ _ _ c.before.before.before.before.before.before.if8.true) c.before.before.put-figures8.ensures
+returns-8 c = put_same (at_14 _ _ _ c.before.before.before.before.before.before.before.before.if-n-eq14.true) c.before.before.put_figures-then-n-eq14.ensures
 
-returns-9 : tie.Need-returns-9
+returns-9 : tie.Need-returns
 returns-9 c =
-    put_same (no_reserve _ _ _ c.before.before.before.before.before.before.before.if1.false c.before.before.before.before.before.before.if2.false c.before.before.before.before.before.if3.false c.before.before.before.before.if4.false c.before.before.before.if5.false c.before.before.if6.false c.before.if7.false c.if8.false) (put_none _ _)
+    put_same (no_reserve _ _ _ c.before.before.before.before.before.before.before.if-n-eq18.false c.before.before.before.before.before.before.if-n-eq19.false c.before.before.before.before.before.if-n-eq11.false c.before.before.before.before.if-n-eq12.false c.before.before.before.if-n-eq15.false c.before.before.if-n-eq16.false c.before.if-n-eq17.false c.if-n-eq14.false) (put_none _ _)
 
-pub put-reserve-table-spec : {M : Type 1} → statement M
-put-reserve-table-spec =
+pub put_reserve_table_spec : {M : Type 1} → statement M
+put_reserve_table_spec =
     tie.close
     (tie.spec
-    (λ c. search rules)
-    (λ c. search rules)
     (λ c κs. search rules)
     (λ c. search rules)
     returns
-    (λ c. search rules)
-    (λ c. search rules)
     (λ c κs. search rules)
     (λ c. search rules)
     returns-2
-    (λ c. search rules)
-    (λ c. search rules)
     (λ c κs. search rules)
     (λ c. search rules)
     returns-3
-    (λ c. search rules)
-    (λ c. search rules)
     (λ c κs. search rules)
     (λ c. search rules)
     returns-4
-    (λ c. search rules)
-    (λ c. search rules)
     (λ c κs. search rules)
     (λ c. search rules)
     returns-5
-    (λ c. search rules)
-    (λ c. search rules)
     (λ c κs. search rules)
     (λ c. search rules)
     returns-6
-    (λ c. search rules)
-    (λ c. search rules)
     (λ c κs. search rules)
     (λ c. search rules)
     returns-7
-    (λ c. search rules)
-    (λ c. search rules)
     (λ c κs. search rules)
     (λ c. search rules)
     returns-8

@@ -14,19 +14,17 @@ returns c =
     let words = gaps.before.before.before.before in
     let averages = words.before.before.before.before in
     let paragraph = averages.before.before.before.before in
-    let start = paragraph.before.before.before.before.before in
-    let s = start.before.before.before.before in
-    put_append start.put-section-start.ensures
-    (put_five paragraph.put-Only.ensures averages.put-average-table.ensures (rw (to_z-of_z s.ranges.averages, to_z-of_z s.ranges.gaps) at words.put-fit-words.ensures) gaps.put-gap-table.ensures
-    end.put-section-end.ensures)
+    let start = paragraph.before.before.before.before.before.before in
+    let s = start.before.before.before.before.before in
+    put_append start.put_section_start-paragraph.ensures
+    (put_five paragraph.put_only-table.ensures averages.put_average_table-words.ensures (rw (to_z-of_z s.ranges.averages, to_z-of_z s.ranges.gaps) at words.put_fit_words-gap_table.ensures) gaps.put_gap_table-end.ensures
+    end.put_section_end.ensures)
 
-pub put-fit-section-spec : {M : Type 1} → statement M
-put-fit-section-spec =
+pub put_fit_section_spec : {M : Type 1} → statement M
+put_fit_section_spec =
     tie.close
     (tie.spec
-    (λ c. search rules)
     (λ c κs. search rules)
-    (λ c. search rules)
     (λ c κs. search rules)
     (λ c κs. search rules)
     (λ c κs. search rules)

@@ -10,28 +10,22 @@ returns : tie.Need-returns
 unfolding fit_sums
 returns c =
     let e = c.before.before in
-    let d = e.before.before.before.before.before.before in
+    let d = e.before.before.before.before.before.before.before.before in
     let m = d.before.before.before.before in
-    let b = m.before.before.before.before.before.before in
+    let b = m.before.before.before.before.before.before.before.before in
     let a = b.before.before.before.before in
-    let s = a.before.before.before.before.before in
-    put_five a.put-either.ensures (rw (to_z-of_z s.ranges.averages) at b.put-hundredths.ensures) m.put-either2.ensures (rw (to_z-of_z s.ranges.gaps) at d.put-hundredths2.ensures)
-    e.put-either3.ensures
+    let s = a.before.before.before.before.before.before.before in
+    put_five a.put_either-a.ensures (rw (to_z-of_z s.ranges.averages) at b.put_hundredths-b.ensures) m.put_either-c.ensures (rw (to_z-of_z s.ranges.gaps) at d.put_hundredths-d.ensures)
+    e.put_either.ensures
 
-pub put-fit-sums-spec : {M : Type 1} → statement M
-put-fit-sums-spec =
+pub put_fit_sums_spec : {M : Type 1} → statement M
+put_fit_sums_spec =
     tie.close
     (tie.spec
-    (λ c. search rules)
-    (λ c. search rules)
     (λ c κs. search rules)
     (λ c κs. search rules)
-    (λ c. search rules)
-    (λ c. search rules)
     (λ c κs. search rules)
     (λ c κs. search rules)
-    (λ c. search rules)
-    (λ c. search rules)
     (λ c κs. search rules)
     (λ c. search rules)
     returns)

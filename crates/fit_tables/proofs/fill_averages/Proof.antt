@@ -14,7 +14,7 @@ use borrow.Author.Rules.{rules}
 use Rattle.fit_tables.proofs.fill_averages.Statement.{statement}
 use Rattle.fit_tables.proofs.fill_averages.Tie as tie
 
-place-past-requires : tie.Need-place-past-requires
+place-past-requires : tie.Need-place_past-requires
 place-past-requires c κs =
     let s = c.before.before.before.before in
     let n = numbers (added_at s.args.k) (starts_of s.args.k) s.args.k s.requires.0 refl refl in
@@ -25,7 +25,7 @@ unfolding average_grid
 returns c =
     let a = c.before.before.before.before in
     let s = a.before in
-    rw (known s.args.k).averages (shaded (average_style s.args.k s.args.figures.now) (s.args.k + 1) 0 s.args.k s.args.figures.now a.average-styles.ensures s.requires.1.1 c.place-past.ensures)
+    rw (known s.args.k).averages (shaded (average_style s.args.k s.args.figures.now) (s.args.k + 1) 0 s.args.k s.args.figures.now a.average_styles-kinds.ensures s.requires.1.1 c.place_past.ensures)
 
-pub fill-averages-spec : {M : Type 1} → statement M
-fill-averages-spec = tie.close (tie.spec (λ c κs. search rules) (λ c. search rules) place-past-requires returns)
+pub fill_averages_spec : {M : Type 1} → statement M
+fill_averages_spec = tie.close (tie.spec (λ c κs. search rules) (λ c. search rules) place-past-requires returns)

@@ -17,17 +17,17 @@ use Rattle.fit_tables.proofs.fill_gaps.Statement.{statement}
 use Rattle.fit_tables.proofs.fill_gaps.Tie as tie
 
 -- where all stands
-places : (c : tie.After-added-at) → Numbers c.added-at.result (starts_of c.before.args.k) c.before.args.k
-places c = numbers c.added-at.result (starts_of c.before.args.k) c.before.args.k c.before.requires.0 c.added-at.ensures refl
+places : (c : tie.After-added_at-added) → Numbers c.added_at-added.result (starts_of c.before.args.k) c.before.args.k
+places c = numbers c.added_at-added.result (starts_of c.before.args.k) c.before.args.k c.before.requires.0 c.added_at-added.ensures refl
 
-place-past-requires : tie.Need-place-past-requires
+place-past-requires : tie.Need-place_past-requires
 place-past-requires c κs =
-    let a = c.before.before.before.before.before in
+    let a = c.before.before.before.before.before.before in
     let n = places a in
-    let k = a.before.args.k in
+    let k = a.args.k in
     (n.few, (omega arith, (omega arith, rows_room k (k + 2) n.few (omega arith))))
 
-place-column-requires : tie.Need-place-column-requires
+place-column-requires : tie.Need-place_column-requires
 place-column-requires c κs =
     let n = places c.before.before.before.before.before.before.before.before in
     (n.few, (omega arith, (omega arith, omega arith)))
@@ -36,17 +36,17 @@ returns : tie.Need-returns
 unfolding gap_grid
 returns c =
     let p = c.before.before.before in
-    let style = p.before.before.before.before.styled.ensures in
-    let kinds = p.before.before.before.before.before.gap-styles.ensures in
-    let at = p.before.before.before.before.before.before.added-at.ensures in
+    let style = p.before.before.before.before.styled-style.ensures in
+    let kinds = p.before.before.before.before.before.gap_styles-kinds.ensures in
+    let at = p.before.before.before.before.before.before.added_at-added.ensures in
     let s = p.before.before.before.before.before.before.before in
     let xs = s.args.figures.now in
     let k = s.args.k in
-    let triangle = shaded (gap_style k xs) (k + 2) (added_at k).gaps k xs kinds s.requires.1.1 (rw at at p.place-past.ensures) in
-    next (column_of (styled plain 2) (k + 1) (k + 2) (added_at k).sums k xs) (past_rows (gap_style k xs) (k + 2) (added_at k).gaps k (k + 1) xs blank) triangle (rw (style, at) at c.place-column.ensures)
+    let triangle = shaded (gap_style k xs) (k + 2) (added_at k).gaps k xs kinds s.requires.1.1 (rw at at p.place_past.ensures) in
+    next (column_of (styled plain 2) (k + 1) (k + 2) (added_at k).sums k xs) (past_rows (gap_style k xs) (k + 2) (added_at k).gaps k (k + 1) xs blank) triangle (rw (style, at) at c.place_column.ensures)
 
-pub fill-gaps-spec : {M : Type 1} → statement M
-fill-gaps-spec =
+pub fill_gaps_spec : {M : Type 1} → statement M
+fill_gaps_spec =
     tie.close
     (tie.spec
     (λ c κs. search rules)

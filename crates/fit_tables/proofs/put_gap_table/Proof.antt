@@ -6,26 +6,24 @@ use borrow.Author.Rules.{rules}
 use Rattle.fit_tables.proofs.put_gap_table.Statement.{statement}
 use Rattle.fit_tables.proofs.put_gap_table.Tie as tie
 
-put-summed-table-requires : tie.Need-put-summed-table-requires
+put-summed-table-requires : tie.Need-put_summed_table-requires
 put-summed-table-requires c κs =
-    let f = c.before.before.before.before.before in
+    let f = c.before.before.before.before.before.before.before in
     let s = f.before.before.before.before in
-    (s.requires.0, (s.requires.1.0, (omega arith, rw f.fill-gaps.ensures.0 (gaps_small s.args.k s.args.figures.now s.requires.0 s.requires.1.1))))
+    (s.requires.0, (s.requires.1.0, (omega arith, rw f.fill_gaps.ensures.0 (gaps_small s.args.k s.args.figures.now s.requires.0 s.requires.1.1))))
 
 returns : tie.Need-returns
 unfolding gap_table
 returns c =
     let p = c.before.before in
-    let f = p.before.before.before.before.before.before in
-    rw (f.fill-gaps.ensures.0, f.fill-gaps.ensures.1) at p.put-summed-table.ensures
+    let f = p.before.before.before.before.before.before.before.before in
+    rw (f.fill_gaps.ensures.0, f.fill_gaps.ensures.1) at p.put_summed_table.ensures
 
-pub put-gap-table-spec : {M : Type 1} → statement M
-put-gap-table-spec =
+pub put_gap_table_spec : {M : Type 1} → statement M
+put_gap_table_spec =
     tie.close
     (tie.spec
     (λ c κs. search rules)
-    (λ c. search rules)
-    (λ c. search rules)
     (λ c. search rules)
     put-summed-table-requires
     (λ c. search rules)

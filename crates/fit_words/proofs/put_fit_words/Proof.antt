@@ -12,7 +12,7 @@ returns c =
     let b = c.before.before in
     let a = b.before.before.before.before in
     let s = a.before.before.before in
-    put_append (rw (to_z-of_z s.ranges.averages, to_z-of_z s.ranges.gaps) at a.put-fit-sums.ensures) b.put-lost-payments.ensures
+    put_append (rw (to_z-of_z s.ranges.averages, to_z-of_z s.ranges.gaps) at a.put_fit_sums-end.ensures) b.put_lost_payments.ensures
 
-pub put-fit-words-spec : {M : Type 1} → statement M
-put-fit-words-spec = tie.close (tie.spec (λ c κs. search rules) (λ c κs. search rules) (λ c. search rules) returns)
+pub put_fit_words_spec : {M : Type 1} → statement M
+put_fit_words_spec = tie.close (tie.spec (λ c κs. search rules) (λ c κs. search rules) (λ c. search rules) returns)

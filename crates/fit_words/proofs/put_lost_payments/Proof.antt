@@ -6,17 +6,25 @@ use borrow.Author.Rules.{rules}
 use Rattle.fit_words.proofs.put_lost_payments.Statement.{statement}
 use Rattle.fit_words.proofs.put_lost_payments.Tie as tie
 
-returns : tie.Need-returns
+returns : tie.Need-returns-then-lost-eq0
 unfolding lost_payments
 returns c =
-    rw (eq-eqb _ _ c.if1.true) (put_none _ _)
+    rw (eq-eqb _ _ c.if-lost-eq0.true) (put_none _ _)
 
-returns-2 : tie.Need-returns-2
+returns-2 : tie.Need-returns-else-lost-eq0
 unfolding lost_payments
 returns-2 c =
-    rw (ne_eqb _ _ c.before.before.before.before.before.before.before.before.before.before.before.before.before.before.before.before.before.before.before.before.before.before.before.before.before.before.before.if1.false) (put_five c.before.before.before.before.before.before.before.before.before.before.before.before.before.before.before.before.before.before.before.before.before.before.before.put-either.ensures c.before.before.before.before.before.before.before.before.before.before.before.before.before.before.before.before.before.before.before.put-decimal.ensures c.before.before.before.before.before.before.before.before.before.before.before.before.before.put-either2.ensures c.before.before.before.before.before.before.before.before.put-bytes.ensures c.before.before.put-either3.ensures)
+    rw (ne_eqb _ _ c.before.before.before.before.before.before.before.before.before.before.before.before.before.before.before.before.before.before.before.before.before.before.before.before.before.before.before.before.before.before.before.before.before.before.if-lost-eq0.false) (put_five c.before.before.before.before.before.before.before.before.before.before.before.before.before.before.before.before.before.before.before.before.before.before.before.before.before.before.before.before.put_either-a.ensures c.before.before.before.before.before.before.before.before.before.before.before.before.before.before.before.before.before.before.before.before.before.before.before.before.put_decimal-b.ensures c.before.before.before.before.before.before.before.before.before.before.before.before.before.before.before.before.put_either-c.ensures c.before.before.before.before.before.before.before.before.before.before.put_bytes-d.ensures c.before.before.put_either.ensures)
 
-pub put-lost-payments-spec : {M : Type 1} → statement M
-put-lost-payments-spec =
+pub put_lost_payments_spec : {M : Type 1} → statement M
+put_lost_payments_spec =
     tie.close
-    (tie.spec (λ c. search rules) (λ c. search rules) (λ c κs. search rules) (λ c κs. search rules) (λ c. search rules) (λ c. search rules) (λ c κs. search rules) (λ c. search rules) (λ c κs. search rules) (λ c. search rules) (λ c. search rules) (λ c κs. search rules) returns (λ c. search rules) returns-2)
+    (tie.spec
+    (λ c κs. search rules)
+    (λ c κs. search rules)
+    (λ c κs. search rules)
+    (λ c κs. search rules)
+    (λ c κs. search rules)
+    returns
+    (λ c. search rules)
+    returns-2)

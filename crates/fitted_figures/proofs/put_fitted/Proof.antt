@@ -43,59 +43,59 @@ later-sized b a n i xs h small j l =
 fewer-sized : (b a n m : ℕ) (xs : List ℤ) → m ≤ n → Sized b a n xs → Sized b a m xs
 fewer-sized b a n m xs h small j l = small j (omega arith)
 
-abbrev invariant-loop : tie.invariant-loop
+abbrev invariant-loop : tie.invariant-loop-i
 invariant-loop out₀ at r l k n from₀ i₀ out from i = (i ≤ n) × ((from ≡ row_start k i) × (out ≡ sets out₀ at (joined (up_to (row k r l out₀) i))))
 
-abbrev decreases-loop : tie.decreases-loop
+abbrev decreases-loop : tie.decreases-loop-i
 decreases-loop out₀ at r l k n from₀ i₀ out from i = n - i
 
-loop-holds : tie.Need-loop-init invariant-loop decreases-loop
+loop-holds : tie.Need-loop-i-init invariant-loop decreases-loop
 unfolding up_to joined row_start
 loop-holds c = (omega arith, (refl, refl))
 
 -- the row ends within the triangle
-within : (l : tie.At-loop invariant-loop decreases-loop) → l.loop.i ≤ l.before.args.k → l.loop.from + (l.before.args.k + 1 - l.loop.i) ≤ cells l.before.args.k
-within l h = omega (arith, row_within l.before.args.k l.loop.i h, l.loop.invariant.1.0)
+within : (l : tie.At-loop-i invariant-loop decreases-loop) → l.loop-i.i ≤ l.before.args.k → l.loop-i.from + (l.before.args.k + 1 - l.loop-i.i) ≤ cells l.before.args.k
+within l h = omega (arith, row_within l.before.args.k l.loop-i.i h, l.loop-i.invariant.1.0)
 
-put-fitted-row-requires : tie.Need-put-fitted-row-requires invariant-loop decreases-loop
+put-fitted-row-requires : tie.Need-put_fitted_row-requires invariant-loop decreases-loop
 put-fitted-row-requires c κs =
     let l = c.before.before in
     let s = l.before in
     let rows = within l (omega arith) in
     let n = s.args.k + 1 in
-    let done = joined (up_to (row s.args.k s.args.r s.args.l s.args.out.now) l.loop.i) in
+    let done = joined (up_to (row s.args.k s.args.r s.args.l s.args.out.now) l.loop-i.i) in
     let shares =
-    sized_before billion s.args.r (n - l.loop.i) s.args.out.now s.args.at done (omega arith)
-    (fewer-sized billion s.args.r n (n - l.loop.i) s.args.out.now (omega arith) s.requires.1.1.1.1.0) in
+    sized_before billion s.args.r (n - l.loop-i.i) s.args.out.now s.args.at done (omega arith)
+    (fewer-sized billion s.args.r n (n - l.loop-i.i) s.args.out.now (omega arith) s.requires.1.1.1.1.0) in
     let levels =
-    sized_before billion (s.args.l + l.loop.i) (n - l.loop.i) s.args.out.now s.args.at done (omega arith)
-    (later-sized billion s.args.l n l.loop.i s.args.out.now (omega arith) s.requires.1.1.1.1.1) in
-    (omega (arith, rows), (omega arith, (omega arith, (rw l.loop.invariant.1.1 shares, rw l.loop.invariant.1.1 levels))))
+    sized_before billion (s.args.l + l.loop-i.i) (n - l.loop-i.i) s.args.out.now s.args.at done (omega arith)
+    (later-sized billion s.args.l n l.loop-i.i s.args.out.now (omega arith) s.requires.1.1.1.1.1) in
+    (omega (arith, rows), (omega arith, (omega arith, (rw l.loop-i.invariant.1.1 shares, rw l.loop-i.invariant.1.1 levels))))
 
-loop-again : tie.Need-loop-preserved invariant-loop decreases-loop
+loop-again : tie.Need-loop-i-preserved invariant-loop decreases-loop
 loop-again c =
     let l = c.before.before.before in
     let s = l.before in
     let rows = within l (omega arith) in
     let one = row s.args.k s.args.r s.args.l s.args.out.now in
     let same =
-    products-before s.args.r (s.args.l + l.loop.i) (s.args.k + 1 - l.loop.i) s.args.out.now s.args.at (joined (up_to one l.loop.i)) (omega arith) (omega arith) in (
+    products-before s.args.r (s.args.l + l.loop-i.i) (s.args.k + 1 - l.loop-i.i) s.args.out.now s.args.at (joined (up_to one l.loop-i.i)) (omega arith) (omega arith) in (
       omega arith,
       (
-        omega (arith, row_start_more s.args.k l.loop.i, l.loop.invariant.1.0),
-        (rw (l.loop.invariant.1.0, l.loop.invariant.1.1, same) at c.put-fitted-row.ensures)
-            ∙ row_more s.args.k one (row_length s.args.k s.args.r s.args.l s.args.out.now) s.args.out.now s.args.at l.loop.i,
+        omega (arith, row_start_more s.args.k l.loop-i.i, l.loop-i.invariant.1.0),
+        (rw (l.loop-i.invariant.1.0, l.loop-i.invariant.1.1, same) at c.put_fitted_row.ensures)
+            ∙ row_more s.args.k one (row_length s.args.k s.args.r s.args.l s.args.out.now) s.args.out.now s.args.at l.loop-i.i,
       ),
     )
 
 returns : tie.Need-returns invariant-loop decreases-loop
 unfolding fitted
 returns c =
-    let e : c.before.loop.i ≡ c.before.before.args.k + 1 = omega arith in
-    rw e at c.before.loop.invariant.1.1
+    let e : c.before.loop-i.i ≡ c.before.before.args.k + 1 = omega arith in
+    rw e at c.before.loop-i.invariant.1.1
 
-pub put-fitted-spec : {M : Type 1} → statement M
-put-fitted-spec =
+pub put_fitted_spec : {M : Type 1} → statement M
+put_fitted_spec =
     tie.close
     (tie.spec
     invariant-loop

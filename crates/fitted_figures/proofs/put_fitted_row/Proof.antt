@@ -24,67 +24,67 @@ use Rattle.fitted_figures.proofs.put_fitted_row.Tie as tie
 abbrev one : ℕ → ℕ → List ℤ → ℕ → ℤ
 one r l xs j = pos (nat_abs (figure_at xs (r + j)) * nat_abs (figure_at xs (l + j)) / billion)
 
-abbrev invariant-loop : tie.invariant-loop
+abbrev invariant-loop : tie.invariant-loop-j
 invariant-loop out₀ at r l n j₀ out j = (j ≤ n) × (out ≡ sets out₀ at (up_to (one r l out₀) j))
 
-abbrev decreases-loop : tie.decreases-loop
+abbrev decreases-loop : tie.decreases-loop-j
 decreases-loop out₀ at r l n j₀ out j = n - j
 
-loop-holds : tie.Need-loop-init invariant-loop decreases-loop
+loop-holds : tie.Need-loop-j-init invariant-loop decreases-loop
 unfolding up_to
 loop-holds c = (omega arith, refl)
 
 -- a figure before the place is read as it was
-read : (l : tie.At-loop invariant-loop decreases-loop) (p : ℕ) → p < l.before.args.at → nat_abs (figure_at l.before.args.out.now p) ≤ billion
-    → held (figure_at l.loop.out p) ≡ figure_at l.before.args.out.now p
+read : (l : tie.At-loop-j invariant-loop decreases-loop) (p : ℕ) → p < l.before.args.at → nat_abs (figure_at l.before.args.out.now p) ≤ billion
+    → held (figure_at l.loop-j.out p) ≡ figure_at l.before.args.out.now p
 read l p h small =
     let s = l.before in
-    figure_read s.args.out.now l.loop.out s.args.at (up_to (one s.args.r s.args.l s.args.out.now) l.loop.j) l.loop.invariant.1 p h (omega arith)
+    figure_read s.args.out.now l.loop-j.out s.args.at (up_to (one s.args.r s.args.l s.args.out.now) l.loop-j.j) l.loop-j.invariant.1 p h (omega arith)
 
 -- the share and the level of a turn, and what their product is at most
-share : (c : tie.After-size-of2 invariant-loop decreases-loop)
-    → c.before.before.type_size.result ≡ nat_abs (figure_at c.before.before.before.before.before.before.args.out.now (c.before.before.before.before.before.before.args.r + c.before.before.before.before.before.loop.j))
+share : (c : tie.After-size_of-in-loop-j invariant-loop decreases-loop)
+    → c.before.before.type_size.result ≡ nat_abs (figure_at c.before.before.before.before.before.before.args.out.now (c.before.before.before.before.before.before.args.r + c.before.before.before.before.before.loop-j.j))
 share c =
     let l = c.before.before.before.before.before in
     let s = l.before in
-    c.before.before.type_size.ensures ∙ ap nat_abs (read l (s.args.r + l.loop.j) (omega arith) (s.requires.1.1.1.0 l.loop.j (omega arith)))
+    c.before.before.type_size.ensures ∙ ap nat_abs (read l (s.args.r + l.loop-j.j) (omega arith) (s.requires.1.1.1.0 l.loop-j.j (omega arith)))
 
-level : (c : tie.After-size-of2 invariant-loop decreases-loop)
-    → c.size-of2.result ≡ nat_abs (figure_at c.before.before.before.before.before.before.args.out.now (c.before.before.before.before.before.before.args.l + c.before.before.before.before.before.loop.j))
+level : (c : tie.After-size_of-in-loop-j invariant-loop decreases-loop)
+    → c.size_of-in-loop-j.result ≡ nat_abs (figure_at c.before.before.before.before.before.before.args.out.now (c.before.before.before.before.before.before.args.l + c.before.before.before.before.before.loop-j.j))
 level c =
     let l = c.before.before.before.before.before in
     let s = l.before in
-    c.size-of2.ensures ∙ ap nat_abs (read l (s.args.l + l.loop.j) (omega arith) (s.requires.1.1.1.1 l.loop.j (omega arith)))
+    c.size_of-in-loop-j.ensures ∙ ap nat_abs (read l (s.args.l + l.loop-j.j) (omega arith) (s.requires.1.1.1.1 l.loop-j.j (omega arith)))
 
-most : (c : tie.After-size-of2 invariant-loop decreases-loop) → c.before.before.type_size.result * c.size-of2.result ≤ billion * billion
+most : (c : tie.After-size_of-in-loop-j invariant-loop decreases-loop) → c.before.before.type_size.result * c.size_of-in-loop-j.result ≤ billion * billion
 most c =
     let l = c.before.before.before.before.before in
     let s = l.before in
-    rw (share c, level c) (mul-le-mul (s.requires.1.1.1.0 l.loop.j (omega arith)) (s.requires.1.1.1.1 l.loop.j (omega arith)))
+    rw (share c, level c) (mul-le-mul (s.requires.1.1.1.0 l.loop-j.j (omega arith)) (s.requires.1.1.1.1 l.loop-j.j (omega arith)))
 
-mul-out : tie.Need-overflow-mul-out invariant-loop decreases-loop
+mul-out : tie.Need-overflow_mul-out invariant-loop decreases-loop
 mul-out c = record { fits = omega (arith, most c) }
 
-cast-out : tie.Need-overflow-cast-out invariant-loop decreases-loop
-cast-out c = size_fits (pos (c.before.before.type_size.result * c.size-of2.result / billion)) (omega (arith, most c))
+cast-out : tie.Need-overflow_cast-out invariant-loop decreases-loop
+cast-out c = size_fits (pos (c.before.before.type_size.result * c.size_of-in-loop-j.result / billion)) (omega (arith, most c))
 
-loop-again : tie.Need-loop-preserved invariant-loop decreases-loop
+loop-again : tie.Need-loop-j-preserved invariant-loop decreases-loop
 loop-again c =
     let l = c.before.before.before.before.before in
     let s = l.before in
-    let product = to_z_pos w64 (c.before.before.type_size.result * c.size-of2.result / billion) (omega (arith, most c)) in (
+    let product = to_z_pos w64 (c.before.before.type_size.result * c.size_of-in-loop-j.result / billion) (omega (arith, most c)) in (
       omega arith,
-      rw (product, share c, level c, l.loop.invariant.1) (sets_more (one s.args.r s.args.l s.args.out.now) s.args.out.now s.args.at l.loop.j),
+      rw (product, share c, level c, l.loop-j.invariant.1) (sets_more (one s.args.r s.args.l s.args.out.now) s.args.out.now s.args.at l.loop-j.j),
     )
 
 returns : tie.Need-returns invariant-loop decreases-loop
 unfolding products
 returns c =
-    let e : c.before.loop.j ≡ c.before.before.args.n = omega arith in
-    rw e at c.before.loop.invariant.1
+    let e : c.before.loop-j.j ≡ c.before.before.args.n = omega arith in
+    rw e at c.before.loop-j.invariant.1
 
-pub put-fitted-row-spec : {M : Type 1} → statement M
-put-fitted-row-spec =
+pub put_fitted_row_spec : {M : Type 1} → statement M
+put_fitted_row_spec =
     tie.close
     (tie.spec
     invariant-loop

@@ -7,47 +7,47 @@ use borrow.Author.Rules.{rules}
 use Rattle.fixed_text.proofs.put_fixed.Statement.{statement}
 use Rattle.fixed_text.proofs.put_fixed.Tie as tie
 
-put-integer-requires : tie.Need-put-integer-requires
+put-integer-requires : tie.Need-put_integer-requires
 put-integer-requires c κs = search rules
 
-size-of-requires : tie.Need-size-of-requires
+size-of-requires : tie.Need-size_of-n-requires
 size-of-requires c κs = search rules
 
-put-sign-requires : tie.Need-put-sign-requires
+put-sign-requires : tie.Need-put_sign-whole-requires
 put-sign-requires c κs = search rules
 
 shortened-requires : tie.Need-shortened-requires
 shortened-requires c κs = search rules
 
-put-decimal-requires : tie.Need-put-decimal-requires
+put-decimal-requires : tie.Need-put_decimal-point-requires
 put-decimal-requires c κs = search rules
 
-put-byte-requires : tie.Need-put-byte-requires
+put-byte-requires : tie.Need-put_byte-decimals-requires
 put-byte-requires c κs = search rules
 
-put-last-requires : tie.Need-put-last-requires
+put-last-requires : tie.Need-put_last-requires
 put-last-requires c κs = search rules
 
-same_length : tie.Need-same-length
+same_length : tie.Need-shape_of-out-then-d-eq0
 same_length c = search rules
 
-returns : tie.Need-returns
+returns : tie.Need-returns-then-d-eq0
 returns c =
     let s = c.before.before.before.before.before.before in
-    put_same (sym (fixed_whole s.args.d s.args.z c.before.before.before.before.if1.true)) (rw (to_z-of_z s.ranges.z) at c.before.before.put-integer.ensures)
+    put_same (sym (fixed_whole s.args.d s.args.z c.before.before.before.before.if-d-eq0.true)) (rw (to_z-of_z s.ranges.z) at c.before.before.put_integer.ensures)
 
-same-length-2 : tie.Need-same-length-2
+same-length-2 : tie.Need-shape_of-out-else-d-eq0
 same-length-2 c = search rules
 
-returns-2 : tie.Need-returns-2
+returns-2 : tie.Need-returns-else-d-eq0
 returns-2 c =
     let s = c.before.before.before.before.before.before.before.before.before.before.before.before.before.before.before.before.before.before.before.before in
     let kept = to_z-of_z s.ranges.z in
-    put_decimals s.args.d s.args.z c.before.before.before.before.before.before.before.before.before.before.before.before.before.before.before.before.before.before.if1.false (rw kept at c.before.before.before.before.before.before.before.before.before.before.before.before.before.before.before.before.before.type_size.ensures) c.before.before.before.before.before.before.before.before.before.before.before.shortened.ensures
-    (rw kept at c.before.before.before.before.before.before.before.before.before.before.before.before.before.before.before.put-sign.ensures) c.before.before.before.before.before.before.before.before.before.before.put-decimal.ensures c.before.before.before.before.before.before.put_byte.ensures c.before.before.put_last.ensures
+    put_decimals s.args.d s.args.z c.before.before.before.before.before.before.before.before.before.before.before.before.before.before.before.before.before.before.if-d-eq0.false (rw kept at c.before.before.before.before.before.before.before.before.before.before.before.before.before.before.before.before.before.type_size.ensures) c.before.before.before.before.before.before.before.before.before.before.before.shortened.ensures
+    (rw kept at c.before.before.before.before.before.before.before.before.before.before.before.before.before.before.before.put_sign-whole.ensures) c.before.before.before.before.before.before.before.before.before.before.put_decimal-point.ensures c.before.before.before.before.before.before.put_byte-decimals.ensures c.before.before.put_last.ensures
 
-pub put-fixed-spec : {M : Type 1} → statement M
-put-fixed-spec =
+pub put_fixed_spec : {M : Type 1} → statement M
+put_fixed_spec =
     tie.close
     (tie.spec
     put-integer-requires

@@ -30,44 +30,44 @@ expected-before k y z xs at ys t h l m =
     (λ i j. sets_before xs at ys (y + (future_start (suc (t + i)) + t)) (pos 0) (omega (arith, payment_inside k (t + i) t (omega arith) (omega arith)))))
     (sets_before xs at ys (z + t) (pos 0) (omega arith))
 
-abbrev invariant-loop : tie.invariant-loop
+abbrev invariant-loop : tie.invariant-loop-t
 invariant-loop out₀ at y z k n t₀ out t = (t ≤ n) × (out ≡ sets out₀ at (up_to (expected_payments k y z out₀) t))
 
-abbrev decreases-loop : tie.decreases-loop
+abbrev decreases-loop : tie.decreases-loop-t
 decreases-loop out₀ at y z k n t₀ out t = n - t
 
-loop-holds : tie.Need-loop-init invariant-loop decreases-loop
+loop-holds : tie.Need-loop-t-init invariant-loop decreases-loop
 unfolding up_to
 loop-holds c = (omega arith, refl)
 
-expected-payments-requires : tie.Need-expected-payments-requires invariant-loop decreases-loop
+expected-payments-requires : tie.Need-expected_payments-sum-requires invariant-loop decreases-loop
 expected-payments-requires c κs =
-    let l = c.before.before in
+    let l = c.before in
     let s = l.before in
-    let done = up_to (expected_payments s.args.k s.args.y s.args.z s.args.out.now) l.loop.t in
+    let done = up_to (expected_payments s.args.k s.args.y s.args.z s.args.out.now) l.loop-t.t in
     let first = sized_before most_figure s.args.y (future_start (s.args.k + 1)) s.args.out.now s.args.at done s.requires.1.1.0 s.requires.1.1.1.1.0 in
     let second = sized_before most_figure s.args.z (s.args.k + 1) s.args.out.now s.args.at done (omega arith) s.requires.1.1.1.1.1 in
-    (s.requires.0, (omega arith, (omega arith, (omega arith, (rw l.loop.invariant.1 first, rw l.loop.invariant.1 second)))))
+    (s.requires.0, (omega arith, (omega arith, (omega arith, (rw l.loop-t.invariant.1 first, rw l.loop-t.invariant.1 second)))))
 
-loop-again : tie.Need-loop-preserved invariant-loop decreases-loop
+loop-again : tie.Need-loop-t-preserved invariant-loop decreases-loop
 loop-again c =
-    let l = c.before.before.before in
+    let l = c.before.before in
     let s = l.before in
-    let done = up_to (expected_payments s.args.k s.args.y s.args.z s.args.out.now) l.loop.t in
-    let same = expected-before s.args.k s.args.y s.args.z s.args.out.now s.args.at done l.loop.t (omega arith) s.requires.1.1.0 s.requires.1.1.1.0 in
-    let sum = to_z-of_z {w = w64} {z = c.expected-payments.result} (sfits_of c.expected-payments.type-inv) ∙ (rw (l.loop.invariant.1, same) at c.expected-payments.ensures) in (
+    let done = up_to (expected_payments s.args.k s.args.y s.args.z s.args.out.now) l.loop-t.t in
+    let same = expected-before s.args.k s.args.y s.args.z s.args.out.now s.args.at done l.loop-t.t (omega arith) s.requires.1.1.0 s.requires.1.1.1.0 in
+    let sum = to_z-of_z {w = w64} {z = c.expected_payments-sum.result} (sfits_of c.expected_payments-sum.type_inv) ∙ (rw (l.loop-t.invariant.1, same) at c.expected_payments-sum.ensures) in (
       omega arith,
-      rw (sum, l.loop.invariant.1) (sets_more (expected_payments s.args.k s.args.y s.args.z s.args.out.now) s.args.out.now s.args.at l.loop.t),
+      rw (sum, l.loop-t.invariant.1) (sets_more (expected_payments s.args.k s.args.y s.args.z s.args.out.now) s.args.out.now s.args.at l.loop-t.t),
     )
 
 returns : tie.Need-returns invariant-loop decreases-loop
 unfolding expected
 returns c =
-    let e : c.before.loop.t ≡ c.before.before.args.k + 1 = omega arith in
-    rw e at c.before.loop.invariant.1
+    let e : c.before.loop-t.t ≡ c.before.before.args.k + 1 = omega arith in
+    rw e at c.before.loop-t.invariant.1
 
-pub put-expected-spec : {M : Type 1} → statement M
-put-expected-spec =
+pub put_expected_spec : {M : Type 1} → statement M
+put_expected_spec =
     tie.close
     (tie.spec
     invariant-loop

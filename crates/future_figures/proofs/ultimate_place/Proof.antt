@@ -9,7 +9,7 @@ use borrow.Author.Rules.{rules}
 use Rattle.future_figures.proofs.ultimate_place.Statement.{statement}
 use Rattle.future_figures.proofs.ultimate_place.Tie as tie
 
-returns : tie.Need-returns
+returns : tie.Need-returns-then-i-eq0
 unfolding ultimate_place
 returns c =
     let e : c.before.args.i ≡ 0 = omega arith in
@@ -22,8 +22,8 @@ later p c (suc j) h =
     let e : suc j - 1 ≡ j = omega arith in
     rw (e, payment_place j)
 
-pub ultimate-place-spec : {M : Type 1} → statement M
-ultimate-place-spec =
+pub ultimate_place_spec : {M : Type 1} → statement M
+ultimate_place_spec =
     tie.close
     (tie.spec
     returns

@@ -8,5 +8,5 @@ returns : tie.Need-returns
 unfolding corrects
 returns c = search rules
 
-pub corrects-spec : {M : Type 1} → statement M
-corrects-spec = tie.close (tie.spec returns)
+pub corrects_spec : {M : Type 1} → statement M
+corrects_spec = tie.close (tie.spec returns)

@@ -5,16 +5,16 @@ use borrow.Author.Rules.{rules}
 use Rattle.hexadecimal.proofs.digit_of.Statement.{statement}
 use Rattle.hexadecimal.proofs.digit_of.Tie as tie
 
-returns : tie.Need-returns
+returns : tie.Need-returns-then-n-lt10
 unfolding hex_digit
-returns c = rw (lt-ltb c.before.args.n 10 c.if1.true)
+returns c = rw (lt-ltb c.before.args.n 10 c.if-n-lt10.true)
 
-returns-2 : tie.Need-returns-2
+returns-2 : tie.Need-returns-else-n-lt10
 unfolding hex_digit
-returns-2 c = rw (le-ltb c.before.args.n 10 c.if1.false)
+returns-2 c = rw (le-ltb c.before.args.n 10 c.if-n-lt10.false)
 
-pub digit-of-spec : {M : Type 1} → statement M
-digit-of-spec =
+pub digit_of_spec : {M : Type 1} → statement M
+digit_of_spec =
     tie.close
     (tie.spec
     (λ c. search rules)

@@ -12,31 +12,31 @@ use borrow.Author.Rules.{rules}
 use Rattle.hexadecimal.proofs.put_hex.Statement.{statement}
 use Rattle.hexadecimal.proofs.put_hex.Tie as tie
 
-abbrev invariant-loop : tie.invariant-loop
+abbrev invariant-loop : tie.invariant-loop-i
 invariant-loop out₀ at bytes end₀ n i₀ out end i = (i ≤ n) × ((n ≡ length bytes) × Put out₀ out at end (hex_of (take i bytes)))
 
-abbrev decreases-loop : tie.decreases-loop
+abbrev decreases-loop : tie.decreases-loop-i
 decreases-loop out₀ at bytes end₀ n i₀ out end i = n - i
 
-loop-holds : tie.Need-loop-init invariant-loop decreases-loop
+loop-holds : tie.Need-loop-i-init invariant-loop decreases-loop
 loop-holds c = (omega arith, (refl, put_hex_first _ _ c.before.before.args.bytes.now))
 
-loop-again : tie.Need-loop-preserved invariant-loop decreases-loop
+loop-again : tie.Need-loop-i-preserved invariant-loop decreases-loop
 loop-again c =
-    let l = c.before.before.before.before.before.before.loop in
-    (omega arith, (refl, put_hex_more c.before.before.before.before.before.before.before.before.before.args.bytes.now l.i (omega arith) l.invariant.1.1 c.before.before.put_two.ensures))
+    let l = c.before.before.before.before.before.before.loop-i in
+    (omega arith, (refl, put_hex_more c.before.before.before.before.before.before.before.before.before.args.bytes.now l.i (omega arith) l.invariant.1.1 c.before.before.put_two-end.ensures))
 
-same_length : tie.Need-same-length invariant-loop decreases-loop
-same_length c = put_length c.before.loop.invariant.1.1
+same_length : tie.Need-shape_of-out invariant-loop decreases-loop
+same_length c = put_length c.before.loop-i.invariant.1.1
 
 returns : tie.Need-returns invariant-loop decreases-loop
 returns c =
     let bytes = c.before.before.before.before.args.bytes.now in
-    let e : c.before.loop.i ≡ length bytes = omega arith in
-    rw (e, take-length bytes) at c.before.loop.invariant.1.1
+    let e : c.before.loop-i.i ≡ length bytes = omega arith in
+    rw (e, take-length bytes) at c.before.loop-i.invariant.1.1
 
-pub put-hex-spec : {M : Type 1} → statement M
-put-hex-spec =
+pub put_hex_spec : {M : Type 1} → statement M
+put_hex_spec =
     tie.close
     (tie.spec
     invariant-loop

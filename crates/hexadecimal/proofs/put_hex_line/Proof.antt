@@ -13,11 +13,11 @@ returns : tie.Need-returns
 unfolding hex_line
 returns c =
     let s = c.before.before.before.before.before.before.before.before.before.before.before.before in
-    let part = line_part s.args.bytes.now (32 * s.args.m) c.before.before.before.before.before.before.before.before.before.line-stop.result (omega (arith, s.requires)) c.before.before.before.before.before.before.before.before.before.line-stop.ensures in
-    put_append (put_same (ap hex_of part) c.before.before.before.before.before.before.put-hex.ensures) c.before.before.put_byte.ensures
+    let part = line_part s.args.bytes.now (32 * s.args.m) c.before.before.before.before.before.before.before.before.before.line_stop-stop.result (omega (arith, s.requires)) c.before.before.before.before.before.before.before.before.before.line_stop-stop.ensures in
+    put_append (put_same (ap hex_of part) c.before.before.before.before.before.before.put_hex-end.ensures) c.before.before.put_byte.ensures
 
-pub put-hex-line-spec : {M : Type 1} → statement M
-put-hex-line-spec =
+pub put_hex_line_spec : {M : Type 1} → statement M
+put_hex_line_spec =
     tie.close
     (tie.spec
     (λ c. search rules)

@@ -11,31 +11,31 @@ use borrow.Author.Rules.{rules}
 use Rattle.hexadecimal.proofs.put_hex_lines.Statement.{statement}
 use Rattle.hexadecimal.proofs.put_hex_lines.Tie as tie
 
-abbrev invariant-loop : tie.invariant-loop
+abbrev invariant-loop : tie.invariant-loop-m
 invariant-loop out₀ at bytes end₀ lines m₀ out end m = (m ≤ lines) × ((lines ≡ (length bytes + 31) / 32) × Put out₀ out at end (joined (up_to (hex_line bytes) m)))
 
-abbrev decreases-loop : tie.decreases-loop
+abbrev decreases-loop : tie.decreases-loop-m
 decreases-loop out₀ at bytes end₀ lines m₀ out end m = lines - m
 
-loop-holds : tie.Need-loop-init invariant-loop decreases-loop
+loop-holds : tie.Need-loop-m-init invariant-loop decreases-loop
 loop-holds c = (omega arith, (refl, put_first _ _ _))
 
-loop-again : tie.Need-loop-preserved invariant-loop decreases-loop
+loop-again : tie.Need-loop-m-preserved invariant-loop decreases-loop
 loop-again c =
-    let l = c.before.before.before.before.before.loop in
-    (omega arith, (refl, put_more (hex_line c.before.before.before.before.before.before.before.before.args.bytes.now) l.m l.invariant.1.1 c.before.before.put-hex-line.ensures))
+    let l = c.before.before.before.before.before.loop-m in
+    (omega arith, (refl, put_more (hex_line c.before.before.before.before.before.before.before.before.args.bytes.now) l.m l.invariant.1.1 c.before.before.put_hex_line-end.ensures))
 
-same_length : tie.Need-same-length invariant-loop decreases-loop
-same_length c = put_length c.before.loop.invariant.1.1
+same_length : tie.Need-shape_of-out invariant-loop decreases-loop
+same_length c = put_length c.before.loop-m.invariant.1.1
 
 returns : tie.Need-returns invariant-loop decreases-loop
 unfolding hex_lines
 returns c =
-    let e : c.before.loop.m ≡ (length c.before.before.before.before.args.bytes.now + 31) / 32 = omega arith in
-    rw e at c.before.loop.invariant.1.1
+    let e : c.before.loop-m.m ≡ (length c.before.before.before.before.args.bytes.now + 31) / 32 = omega arith in
+    rw e at c.before.loop-m.invariant.1.1
 
-pub put-hex-lines-spec : {M : Type 1} → statement M
-put-hex-lines-spec =
+pub put_hex_lines_spec : {M : Type 1} → statement M
+put_hex_lines_spec =
     tie.close
     (tie.spec
     invariant-loop

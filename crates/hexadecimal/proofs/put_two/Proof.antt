@@ -7,10 +7,10 @@ use Rattle.hexadecimal.proofs.put_two.Tie as tie
 
 returns : tie.Need-returns
 unfolding hex_byte
-returns c = put_append (rw c.before.before.before.before.before.before.before.before.digit-of.ensures at c.before.before.before.before.before.before.before.put_byte.ensures) (rw c.before.before.before.digit-of2.ensures at c.before.before.put-byte2.ensures)
+returns c = put_append (rw c.before.before.before.before.before.before.before.before.digit_of.ensures at c.before.before.before.before.before.before.before.put_byte-end.ensures) (rw c.before.before.before.digit_of-2.ensures at c.before.before.put_byte.ensures)
 
-pub put-two-spec : {M : Type 1} → statement M
-put-two-spec =
+pub put_two_spec : {M : Type 1} → statement M
+put_two_spec =
     tie.close
     (tie.spec
     (λ c κs. search rules)

@@ -7,19 +7,15 @@ use Rattle.hindsight_best.proofs.put_best_name.Tie as tie
 
 returns : tie.Need-returns
 unfolding best_name
-returns c = put_four c.before.before.before.before.before.before.before.before.before.before.before.before.before.before.before.before.before.put-either.ensures c.before.before.before.before.before.before.before.before.before.before.before.before.before.put-decimal.ensures c.before.before.before.before.before.before.before.put-either2.ensures c.before.before.put-shown-number.ensures
+returns c = put_four c.before.before.before.before.before.before.before.before.before.before.before.before.before.before.before.before.before.before.before.before.put_either-b.ensures c.before.before.before.before.before.before.before.before.before.before.before.before.before.before.before.before.put_decimal-c.ensures c.before.before.before.before.before.before.before.before.put_either-d.ensures c.before.before.put_shown_number.ensures
 
-pub put-best-name-spec : {M : Type 1} → statement M
-put-best-name-spec =
+pub put_best_name_spec : {M : Type 1} → statement M
+put_best_name_spec =
     tie.close
     (tie.spec
-    (λ c. search rules)
-    (λ c. search rules)
     (λ c κs. search rules)
     (λ c. search rules)
     (λ c κs. search rules)
-    (λ c. search rules)
-    (λ c. search rules)
     (λ c κs. search rules)
     (λ c. search rules)
     (λ c. search rules)

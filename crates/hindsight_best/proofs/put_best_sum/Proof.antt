@@ -7,26 +7,22 @@ use borrow.Author.Rules.{rules}
 use Rattle.hindsight_best.proofs.put_best_sum.Statement.{statement}
 use Rattle.hindsight_best.proofs.put_best_sum.Tie as tie
 
-put-shown-number-requires : tie.Need-put-shown-number-requires
+put-shown-number-requires : tie.Need-put_shown_number-c-requires
 put-shown-number-requires c κs =
-    let s = c.before.before.before.before.before.before.before.before.before in
-    omega (arith, c.before.before.before.before.before.before.before.sum_of.ensures, sum_small s.args.list.now s.requires.1 s.args.k s.args.a)
+    let s = c.before.before.before.before.before.before.before.before.before.before.before in
+    omega (arith, c.before.before.before.before.before.before.before.before.before.sum_of-sum.ensures, sum_small s.args.list.now s.requires.1 s.args.k s.args.a)
 
 returns : tie.Need-returns
 unfolding best_sum
-returns c = put_three c.before.before.before.before.before.before.before.before.before.before.before.before.put-either.ensures (rw c.before.before.before.before.before.before.before.before.before.before.before.before.before.before.before.before.sum_of.ensures at c.before.before.before.before.before.before.before.before.put-shown-number.ensures) c.before.before.put-either2.ensures
+returns c = put_three c.before.before.before.before.before.before.before.before.before.before.before.before.before.before.put_either-b.ensures (rw c.before.before.before.before.before.before.before.before.before.before.before.before.before.before.before.before.before.before.before.before.sum_of-sum.ensures at c.before.before.before.before.before.before.before.before.before.before.put_shown_number-c.ensures) c.before.before.put_either.ensures
 
-pub put-best-sum-spec : {M : Type 1} → statement M
-put-best-sum-spec =
+pub put_best_sum_spec : {M : Type 1} → statement M
+put_best_sum_spec =
     tie.close
     (tie.spec
     (λ c κs. search rules)
-    (λ c. search rules)
-    (λ c. search rules)
     (λ c κs. search rules)
     put-shown-number-requires
-    (λ c. search rules)
-    (λ c. search rules)
     (λ c κs. search rules)
     (λ c. search rules)
     returns)

@@ -7,10 +7,10 @@ use Rattle.hindsight_best.proofs.put_best_text.Tie as tie
 
 returns : tie.Need-returns
 unfolding best_text
-returns c = put_append c.before.before.before.before.before.before.put-best-name.ensures c.before.before.put-best-sum.ensures
+returns c = put_append c.before.before.before.before.before.before.put_best_name-b.ensures c.before.before.put_best_sum.ensures
 
-pub put-best-text-spec : {M : Type 1} → statement M
-put-best-text-spec =
+pub put_best_text_spec : {M : Type 1} → statement M
+put_best_text_spec =
     tie.close
     (tie.spec
     (λ c κs. search rules)

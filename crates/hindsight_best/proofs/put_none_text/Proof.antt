@@ -6,14 +6,12 @@ use Rattle.hindsight_best.proofs.put_none_text.Tie as tie
 
 returns : tie.Need-returns
 unfolding none_text
-returns c = c.before.before.put-either.ensures
+returns c = c.before.before.put_either.ensures
 
-pub put-none-text-spec : {M : Type 1} → statement M
-put-none-text-spec =
+pub put_none_text_spec : {M : Type 1} → statement M
+put_none_text_spec =
     tie.close
     (tie.spec
-    (λ c. search rules)
-    (λ c. search rules)
     (λ c κs. search rules)
     (λ c. search rules)
     returns)

@@ -7,20 +7,20 @@ use borrow.Author.Rules.{rules}
 use Rattle.hindsight_best.proofs.put_shown_number.Statement.{statement}
 use Rattle.hindsight_best.proofs.put_shown_number.Tie as tie
 
-returns : tie.Need-returns
+returns : tie.Need-returns-then-html
 unfolding shown_number either
 returns c =
     let s = c.before.before.before.before.before.before in
-    rw c.before.before.before.before.if1.true (rw (to_z_pos w64 s.args.x s.requires) at c.before.before.put-number.ensures)
+    rw c.before.before.before.before.if-html.true (rw (to_z_pos w64 s.args.x s.requires) at c.before.before.put_number.ensures)
 
-returns-2 : tie.Need-returns-2
+returns-2 : tie.Need-returns-else-html
 unfolding shown_number either
 returns-2 c =
     let s = c.before.before.before.before.before.before in
-    rw c.before.before.before.before.if1.false (rw (to_z_pos w64 s.args.x s.requires) at c.before.before.put-fixed.ensures)
+    rw c.before.before.before.before.if-html.false (rw (to_z_pos w64 s.args.x s.requires) at c.before.before.put_fixed.ensures)
 
-pub put-shown-number-spec : {M : Type 1} → statement M
-put-shown-number-spec =
+pub put_shown_number_spec : {M : Type 1} → statement M
+put_shown_number_spec =
     tie.close
     (tie.spec
     (λ c. search rules)

@@ -16,10 +16,10 @@ loop-holds c = omega arith
 case-requires : tie.Need-case-requires invariant-loop decreases-loop
 case-requires c κs = tt
 
-returns : tie.Need-returns invariant-loop decreases-loop
+returns : tie.Need-returns-then-not-case invariant-loop decreases-loop
 returns c = tt
 
-add-counter : tie.Need-overflow-add-counter invariant-loop decreases-loop
+add-counter : tie.Need-overflow_step invariant-loop decreases-loop
 add-counter c = omega arith
 
 loop-less : tie.Need-loop-smaller invariant-loop decreases-loop
@@ -28,7 +28,7 @@ loop-less c = omega arith
 loop-again : tie.Need-loop-preserved invariant-loop decreases-loop
 loop-again c = omega arith
 
-returns-2 : tie.Need-returns-2 invariant-loop decreases-loop
+returns-2 : tie.Need-returns invariant-loop decreases-loop
 returns-2 c = tt
 
 pub main_spec : {M : Type 1} → statement M

@@ -7,14 +7,14 @@ use borrow.Author.Rules.{rules}
 use Rattle.hindsight_cases.proofs.read_settings.Statement.{statement}
 use Rattle.hindsight_cases.proofs.read_settings.Tie as tie
 
-abbrev invariant-loop : tie.invariant-loop
+abbrev invariant-loop : tie.invariant-loop-i
 invariant-loop list₀ n i₀ list i = (i ≤ n) × ((n ≡ length list₀) × (length list ≡ n))
 
-abbrev decreases-loop : tie.decreases-loop
+abbrev decreases-loop : tie.decreases-loop-i
 decreases-loop list₀ n i₀ list i = n - i
 
-pub read-settings-spec : {M : Type 1} → statement M
-read-settings-spec =
+pub read_settings_spec : {M : Type 1} → statement M
+read_settings_spec =
     tie.close
     (tie.spec
     invariant-loop

@@ -5,20 +5,20 @@ use borrow.Author.Rules.{rules}
 use Rattle.hindsight_cells.proofs.columns_of.Statement.{statement}
 use Rattle.hindsight_cells.proofs.columns_of.Tie as tie
 
-returns : tie.Need-returns
+returns : tie.Need-returns-then-t-eq-SETTINGS_TABLE
 unfolding columns_of
-returns c = rw (eq-eqb _ _ c.if1.true)
+returns c = rw (eq-eqb _ _ c.if-t-eq-SETTINGS_TABLE.true)
 
-returns-2 : tie.Need-returns-2
+returns-2 : tie.Need-returns-then-t-eq-STEPS_TABLE
 unfolding columns_of
-returns-2 c = rw (ne_eqb _ _ c.before.if1.false, eq-eqb _ _ c.if2.true)
+returns-2 c = rw (ne_eqb _ _ c.before.if-t-eq-SETTINGS_TABLE.false, eq-eqb _ _ c.if-t-eq-STEPS_TABLE.true)
 
-returns-3 : tie.Need-returns-3
+returns-3 : tie.Need-returns-else-t-eq-STEPS_TABLE
 unfolding columns_of
-returns-3 c = rw (ne_eqb _ _ c.before.if1.false, ne_eqb _ _ c.if2.false)
+returns-3 c = rw (ne_eqb _ _ c.before.if-t-eq-SETTINGS_TABLE.false, ne_eqb _ _ c.if-t-eq-STEPS_TABLE.false)
 
-pub columns-of-spec : {M : Type 1} → statement M
-columns-of-spec =
+pub columns_of_spec : {M : Type 1} → statement M
+columns_of_spec =
     tie.close
     (tie.spec
     (λ c. search rules)

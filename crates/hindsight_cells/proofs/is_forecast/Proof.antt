@@ -5,16 +5,16 @@ use borrow.Author.Rules.{rules}
 use Rattle.hindsight_cells.proofs.is_forecast.Statement.{statement}
 use Rattle.hindsight_cells.proofs.is_forecast.Tie as tie
 
-returns : tie.Need-returns
+returns : tie.Need-returns-then-j-eq0
 unfolding forecast_at
-returns c = rw (eq-eqb _ _ c.if1.true)
+returns c = rw (eq-eqb _ _ c.if-j-eq0.true)
 
-returns-2 : tie.Need-returns-2
+returns-2 : tie.Need-returns-else-j-eq0
 unfolding forecast_at
-returns-2 c = rw (ne_eqb _ _ c.if1.false)
+returns-2 c = rw (ne_eqb _ _ c.if-j-eq0.false)
 
-pub is-forecast-spec : {M : Type 1} → statement M
-is-forecast-spec =
+pub is_forecast_spec : {M : Type 1} → statement M
+is_forecast_spec =
     tie.close
     (tie.spec
     (λ c. search rules)

@@ -5,16 +5,16 @@ use borrow.Author.Rules.{rules}
 use Rattle.hindsight_cells.proofs.rows_of.Statement.{statement}
 use Rattle.hindsight_cells.proofs.rows_of.Tie as tie
 
-returns : tie.Need-returns
+returns : tie.Need-returns-then-t-eq-SETTINGS_TABLE
 unfolding rows_of
-returns c = rw (eq-eqb _ _ c.if1.true)
+returns c = rw (eq-eqb _ _ c.if-t-eq-SETTINGS_TABLE.true)
 
-returns-2 : tie.Need-returns-2
+returns-2 : tie.Need-returns-else-t-eq-SETTINGS_TABLE
 unfolding rows_of
-returns-2 c = rw (ne_eqb _ _ c.if1.false)
+returns-2 c = rw (ne_eqb _ _ c.if-t-eq-SETTINGS_TABLE.false)
 
-pub rows-of-spec : {M : Type 1} → statement M
-rows-of-spec =
+pub rows_of_spec : {M : Type 1} → statement M
+rows_of_spec =
     tie.close
     (tie.spec
     (λ c. search rules)

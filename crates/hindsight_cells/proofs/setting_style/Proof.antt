@@ -5,16 +5,16 @@ use borrow.Author.Rules.{rules}
 use Rattle.hindsight_cells.proofs.setting_style.Statement.{statement}
 use Rattle.hindsight_cells.proofs.setting_style.Tie as tie
 
-returns : tie.Need-returns
+returns : tie.Need-returns-then-j-eq0
 unfolding setting_style
-returns c = rw (eq-eqb _ _ c.before.if1.true) c.styled.ensures
+returns c = rw (eq-eqb _ _ c.before.if-j-eq0.true) c.styled.ensures
 
-returns-2 : tie.Need-returns-2
+returns-2 : tie.Need-returns-else-j-eq0
 unfolding setting_style
-returns-2 c = rw (ne_eqb _ _ c.before.if1.false) c.styled2.ensures
+returns-2 c = rw (ne_eqb _ _ c.before.if-j-eq0.false) c.styled-else-j-eq0.ensures
 
-pub setting-style-spec : {M : Type 1} → statement M
-setting-style-spec =
+pub setting_style_spec : {M : Type 1} → statement M
+setting_style_spec =
     tie.close
     (tie.spec
     (λ c κs. search rules)

@@ -8,14 +8,13 @@ use Rattle.hindsight_csv.proofs.put_hindsight_csv.Tie as tie
 returns : tie.Need-returns
 unfolding hindsight_csv
 returns c =
-    put_four c.before.before.before.before.before.before.before.before.before.before.before.before.before.before.put-bytes.ensures c.before.before.before.before.before.before.before.before.before.before.put-index-lines.ensures
-    c.before.before.before.before.before.before.put-settings.ensures c.before.before.put-best-line.ensures
+    put_four c.before.before.before.before.before.before.before.before.before.before.before.before.before.before.put_bytes-heading.ensures c.before.before.before.before.before.before.before.before.before.before.put_index_lines-reported.ensures
+    c.before.before.before.before.before.before.put_settings-best.ensures c.before.before.put_best_line.ensures
 
-pub put-hindsight-csv-spec : {M : Type 1} → statement M
-put-hindsight-csv-spec =
+pub put_hindsight_csv_spec : {M : Type 1} → statement M
+put_hindsight_csv_spec =
     tie.close
     (tie.spec
-    (λ c. search rules)
     (λ c κs. search rules)
     (λ c κs. search rules)
     (λ c κs. search rules)

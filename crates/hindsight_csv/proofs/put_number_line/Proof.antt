@@ -9,7 +9,7 @@ use Rattle.hindsight_csv.proofs.put_number_line.Tie as tie
 returns : tie.Need-returns
 returns c =
     let s = c.before.before.before.before.before.before.before in
-    rw (to_z_pos w64 s.args.n (omega (arith, s.requires))) at c.before.before.put-setting-line.ensures
+    rw (to_z_pos w64 s.args.n (omega (arith, s.requires))) at c.before.before.put_setting_line.ensures
 
-pub put-number-line-spec : {M : Type 1} → statement M
-put-number-line-spec = tie.close (tie.spec (λ c. search rules) (λ c κs. search rules) (λ c. search rules) returns)
+pub put_number_line_spec : {M : Type 1} → statement M
+put_number_line_spec = tie.close (tie.spec (λ c. search rules) (λ c κs. search rules) (λ c. search rules) returns)

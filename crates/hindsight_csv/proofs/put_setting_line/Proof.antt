@@ -9,17 +9,16 @@ use Rattle.hindsight_csv.proofs.put_setting_line.Tie as tie
 returns : tie.Need-returns
 unfolding setting_line
 returns c =
-    put_four c.before.before.before.before.before.before.before.before.before.before.before.before.before.before.before.put-bytes.ensures c.before.before.before.before.before.before.before.before.before.before.before.put_byte.ensures c.before.before.before.before.before.before.before.put-decimal.ensures
-    (rw (to_z-of_z c.before.before.before.before.before.before.before.before.before.before.before.before.before.before.before.before.before.before.before.before.ranges.z) at c.before.before.put-line.ensures)
+    put_four c.before.before.before.before.before.before.before.before.before.before.before.before.before.before.before.before.put_bytes-comma.ensures c.before.before.before.before.before.before.before.before.before.before.before.before.put_byte-number.ensures c.before.before.before.before.before.before.before.before.put_decimal-rest.ensures
+    (rw (to_z-of_z c.before.before.before.before.before.before.before.before.before.before.before.before.before.before.before.before.before.before.before.before.before.ranges.z) at c.before.before.put_line.ensures)
 
-pub put-setting-line-spec : {M : Type 1} → statement M
-put-setting-line-spec =
+pub put_setting_line_spec : {M : Type 1} → statement M
+put_setting_line_spec =
     tie.close
     (tie.spec
     (λ c κs. search rules)
     (λ c κs. search rules)
     (λ c κs. search rules)
-    (λ c. search rules)
     (λ c κs. search rules)
     (λ c. search rules)
     returns)

@@ -7,22 +7,20 @@ use borrow.Author.Rules.{rules}
 use Rattle.hindsight_csv.proofs.put_step_lines.Statement.{statement}
 use Rattle.hindsight_csv.proofs.put_step_lines.Tie as tie
 
-put-number-line-requires : tie.Need-put-number-line-requires
+put-number-line-requires : tie.Need-put_number_line-gaps-requires
 put-number-line-requires c κs =
-    let s = c.before.before.before.before.before in
-    omega (arith, c.before.before.before.mark_of.ensures, mark_small s.args.list.now s.requires.1.1 s.args.k s.args.h)
+    let s = c.before.before.before.before.before.before.before in
+    omega (arith, c.before.before.before.before.before.mark_of-mark.ensures, mark_small s.args.list.now s.requires.1.1 s.args.k s.args.h)
 
 returns : tie.Need-returns
 unfolding step_lines mark_line
-returns c = put_append (rw c.before.before.before.before.before.before.before.before.before.before.mark_of.ensures at c.before.before.before.before.before.before.put-number-line.ensures) c.before.before.put-gap-lines.ensures
+returns c = put_append (rw c.before.before.before.before.before.before.before.before.before.before.before.before.mark_of-mark.ensures at c.before.before.before.before.before.before.put_number_line-gaps.ensures) c.before.before.put_gap_lines.ensures
 
-pub put-step-lines-spec : {M : Type 1} → statement M
-put-step-lines-spec =
+pub put_step_lines_spec : {M : Type 1} → statement M
+put_step_lines_spec =
     tie.close
     (tie.spec
     (λ c κs. search rules)
-    (λ c. search rules)
-    (λ c. search rules)
     (λ c. search rules)
     (λ c. search rules)
     (λ c. search rules)

@@ -11,14 +11,14 @@ returns : tie.Need-returns
 returns c =
     let s = c.before.before in
     let a = s.args in
-    let room = c.before.put-hindsight-csv-arg.given.0.1 in
+    let room = c.before.put_hindsight_csv-arg-1.given.1 in
     let most = csv_most a.first a.k a.n a.settings.now a.list.now s.requires.0.0 in (
-      (omega (arith, most, c.put-hindsight-csv.ensures.ended), put_back c.put-hindsight-csv.ensures (omega (arith, most, room))),
-      put_length c.put-hindsight-csv.ensures ∙ room,
+      (omega (arith, most, c.put_hindsight_csv.ensures.ended), put_back c.put_hindsight_csv.ensures (omega (arith, most, room))),
+      put_length c.put_hindsight_csv.ensures ∙ room,
     )
 
-pub hindsight-csv-of-spec : {M : Type 1} → statement M
-hindsight-csv-of-spec =
+pub hindsight_csv_of_spec : {M : Type 1} → statement M
+hindsight_csv_of_spec =
     tie.close
     (tie.spec
     (λ c κs. search rules)

@@ -7,17 +7,15 @@ use Rattle.hindsight_heads.proofs.put_setting_head.Tie as tie
 
 returns : tie.Need-returns
 unfolding setting_head
-returns c = put_three c.before.before.before.before.before.before.before.before.before.before.before.put-bytes.ensures c.before.before.before.before.before.before.before.put-decimal.ensures c.before.before.put-bytes2.ensures
+returns c = put_three c.before.before.before.before.before.before.before.before.before.before.before.before.put_bytes-b.ensures c.before.before.before.before.before.before.before.before.put_decimal-c.ensures c.before.before.put_bytes.ensures
 
-pub put-setting-head-spec : {M : Type 1} → statement M
-put-setting-head-spec =
+pub put_setting_head_spec : {M : Type 1} → statement M
+put_setting_head_spec =
     tie.close
     (tie.spec
-    (λ c. search rules)
     (λ c κs. search rules)
     (λ c. search rules)
     (λ c κs. search rules)
-    (λ c. search rules)
     (λ c κs. search rules)
     (λ c. search rules)
     returns)

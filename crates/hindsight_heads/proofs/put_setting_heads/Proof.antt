@@ -10,30 +10,30 @@ use borrow.Author.Rules.{rules}
 use Rattle.hindsight_heads.proofs.put_setting_heads.Statement.{statement}
 use Rattle.hindsight_heads.proofs.put_setting_heads.Tie as tie
 
-abbrev invariant-loop : tie.invariant-loop
+abbrev invariant-loop : tie.invariant-loop-a
 invariant-loop out₀ at n end₀ a₀ out end a = (a ≤ n) × Put out₀ out at end (joined (up_to setting_head a))
 
-abbrev decreases-loop : tie.decreases-loop
+abbrev decreases-loop : tie.decreases-loop-a
 decreases-loop out₀ at n end₀ a₀ out end a = n - a
 
-loop-holds : tie.Need-loop-init invariant-loop decreases-loop
+loop-holds : tie.Need-loop-a-init invariant-loop decreases-loop
 loop-holds c = (omega arith, put_first _ _ _)
 
-loop-again : tie.Need-loop-preserved invariant-loop decreases-loop
+loop-again : tie.Need-loop-a-preserved invariant-loop decreases-loop
 loop-again c =
-    let l = c.before.before.before.before.before.loop in
-    (omega arith, put_more setting_head l.a l.invariant.1 c.before.before.put-setting-head.ensures)
+    let l = c.before.before.before.before.before.loop-a in
+    (omega arith, put_more setting_head l.a l.invariant.1 c.before.before.put_setting_head-end.ensures)
 
-same_length : tie.Need-same-length invariant-loop decreases-loop
-same_length c = put_length c.before.loop.invariant.1
+same_length : tie.Need-shape_of-out invariant-loop decreases-loop
+same_length c = put_length c.before.loop-a.invariant.1
 
 returns : tie.Need-returns invariant-loop decreases-loop
 returns c =
-    let e : c.before.loop.a ≡ c.before.before.before.args.n = omega arith in
-    rw e at c.before.loop.invariant.1
+    let e : c.before.loop-a.a ≡ c.before.before.before.args.n = omega arith in
+    rw e at c.before.loop-a.invariant.1
 
-pub put-setting-heads-spec : {M : Type 1} → statement M
-put-setting-heads-spec =
+pub put_setting_heads_spec : {M : Type 1} → statement M
+put_setting_heads_spec =
     tie.close
     (tie.spec
     invariant-loop

@@ -7,16 +7,14 @@ use Rattle.hindsight_heads.proofs.put_steps_words.Tie as tie
 
 returns : tie.Need-returns
 unfolding steps_words
-returns c = put_three c.before.before.before.before.before.before.before.before.before.before.before.put-bytes.ensures c.before.before.before.before.before.before.before.put-setting-heads.ensures c.before.before.put-bytes2.ensures
+returns c = put_three c.before.before.before.before.before.before.before.before.before.before.before.before.put_bytes-a.ensures c.before.before.before.before.before.before.before.before.put_setting_heads-b.ensures c.before.before.put_bytes.ensures
 
-pub put-steps-words-spec : {M : Type 1} → statement M
-put-steps-words-spec =
+pub put_steps_words_spec : {M : Type 1} → statement M
+put_steps_words_spec =
     tie.close
     (tie.spec
-    (λ c. search rules)
     (λ c κs. search rules)
     (λ c κs. search rules)
-    (λ c. search rules)
     (λ c κs. search rules)
     (λ c. search rules)
     returns)

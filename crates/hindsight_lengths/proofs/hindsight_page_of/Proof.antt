@@ -11,14 +11,14 @@ returns : tie.Need-returns
 returns c =
     let s = c.before.before.before in
     let a = s.args in
-    let room = c.before.put-hindsight-page-arg.given.0.1 in
+    let room = c.before.put_hindsight_page-arg-1.given.1 in
     let most = page_most a.html a.title.now a.first a.k a.n a.settings.now a.list.now s.requires.0 s.requires.1 in (
-      (omega (arith, most, c.put-hindsight-page.ensures.ended), put_back c.put-hindsight-page.ensures (omega (arith, most, room))),
-      put_length c.put-hindsight-page.ensures ∙ room,
+      (omega (arith, most, c.put_hindsight_page.ensures.ended), put_back c.put_hindsight_page.ensures (omega (arith, most, room))),
+      put_length c.put_hindsight_page.ensures ∙ room,
     )
 
-pub hindsight-page-of-spec : {M : Type 1} → statement M
-hindsight-page-of-spec =
+pub hindsight_page_of_spec : {M : Type 1} → statement M
+hindsight_page_of_spec =
     tie.close
     (tie.spec
     (λ c κs. search rules)

@@ -20,7 +20,7 @@ room : (k c m size : ℕ) → size ≡ setting_count k → hindsight_count k c �
 unfolding hindsight_count
 room k c m size e h = rw e (omega arith)
 
-fill-settings-requires : tie.Need-fill-settings-requires
+fill-settings-requires : tie.Need-fill_settings-requires
 fill-settings-requires c κs = search rules
 
 -- the sums of the settings
@@ -30,54 +30,54 @@ sums s = map (gap_sum s.args.k s.args.exposures.now s.args.increments.now) s.arg
 sums_length : (s : tie.Start) → length (sums s) ≡ length s.args.settings.now
 sums_length s = length-map s.args.settings.now (gap_sum s.args.k s.args.exposures.now s.args.increments.now)
 
-held : (c : tie.After-fill-settings) → length c.fill-settings.new.1.1.1.1.1.1.1.1.0 ≡ 8
-held c = ap length c.fill-settings.ensures.1.0 ∙ simp length-sets
+held : (c : tie.After-fill_settings) → length c.fill_settings.new.diagonals.1.1.1.1.1.1.1.0 ≡ 8
+held c = ap length c.fill_settings.ensures.1.0 ∙ simp length-sets
 
-taken : (c : tie.After-fill-settings) →
+taken : (c : tie.After-fill_settings) →
     let s = c.before.before.before.before.before.before in
-    take (length s.args.settings.now) c.fill-settings.new.1.1.1.1.1.1.1.1.0 ≡ sums s
+    take (length s.args.settings.now) c.fill_settings.new.diagonals.1.1.1.1.1.1.1.0 ≡ sums s
 taken c =
     let s = c.before.before.before.before.before.before in
-    rw c.fill-settings.ensures.1.0 (take_sets (replicate 8 0) (sums s) (length s.args.settings.now) (sums_length s) s.requires.few)
+    rw c.fill_settings.ensures.1.0 (take_sets (replicate 8 0) (sums s) (length s.args.settings.now) (sums_length s) s.requires.few)
 
-array-share-prefix-sums : tie.Need-array-share-prefix-sums
+array-share-prefix-sums : tie.Need-slice_bounds-sums-end
 array-share-prefix-sums c = omega (arith, held c.before, c.before.before.before.before.before.before.before.requires.few)
 
-slice-aggregate-best-of : tie.Need-slice-aggregate-best-of
+slice-aggregate-best-of : tie.Need-slice_bounds-best_of-end
 slice-aggregate-best-of c = sym (ap length (taken c.before.before) ∙ sums_length c.before.before.before.before.before.before.before.before)
 
-best-of-requires : tie.Need-best-of-requires
+best-of-requires : tie.Need-best_of-best-requires
 best-of-requires c κs =
     let s = c.before.before.before.before.before.before.before.before in
     omega (arith, ap length (taken c.before.before), sums_length s, s.requires.tried)
 
-setting-count-requires : tie.Need-setting-count-requires
+setting-count-requires : tie.Need-setting_count-requires
 setting-count-requires c κs =
     let s = c.before.before.before.before.before.before.before.before.before.before in
     (s.requires.some, s.requires.given.few)
 
-mul-put-natural : tie.Need-overflow-mul-put-natural
+mul-put-natural : tie.Need-overflow_mul-n
 mul-put-natural c =
     let s = c.before.before.before.before.before.before.before.before.before.before.before in
-    omega (arith, mul-le-mul s.requires.few c.setting-count.ensures.1)
+    omega (arith, mul-le-mul s.requires.few c.setting_count.ensures.1)
 
-put-natural-requires : tie.Need-put-natural-requires
+put-natural-requires : tie.Need-put_natural-requires
 put-natural-requires c κs =
     let s = c.before.before.before.before.before.before.before.before.before.before.before in
-    let best = c.before.before.best_of in
+    let best = c.before.before.best_of-best in
     let filled = c.before.before.before.before.before in
-    let long : length filled.fill-settings.new.1.1.1.1.1.1.1.0 ≡ length s.args.report.now = ap length filled.fill-settings.ensures.0 ∙ simp length-sets in
-    let place = room s.args.k (length s.args.settings.now) (length s.args.report.now) c.setting-count.result c.setting-count.ensures.0 s.requires.room in
+    let long : length filled.fill_settings.new.diagonals.1.1.1.1.1.1.0 ≡ length s.args.report.now = ap length filled.fill_settings.ensures.0 ∙ simp length-sets in
+    let place = room s.args.k (length s.args.settings.now) (length s.args.report.now) c.setting_count.result c.setting_count.ensures.0 s.requires.room in
     (omega (arith, place, long), omega (arith, best.ensures.1, ap length (taken filled), sums_length s, s.requires.few))
 
-same_length : tie.Need-same-length
+same_length : tie.Need-shape_of-report
 same_length c = search rules
 
 returns : tie.Need-returns
 unfolding hindsight_list
 returns c =
-    let size = c.before.before.setting-count in
-    let best = c.before.before.before.before.best_of in
+    let size = c.before.before.setting_count in
+    let best = c.before.before.before.before.best_of-best in
     let filled = c.before.before.before.before.before.before.before in
     let s = filled.before.before.before.before.before.before in
     let k = s.args.k in
@@ -85,13 +85,13 @@ returns c =
     let p = s.args.increments.now in
     let settings = s.args.settings.now in
     let is : best.result ≡ best_place (sums s) = rw (taken filled) at best.ensures.0 in (
-      rw (c.before.put-natural.ensures.1, filled.fill-settings.ensures.0, is)
+      rw (c.before.put_natural.ensures.1, filled.fill_settings.ensures.0, is)
           (sets_append (joined (map (setting_entries k n p) settings)) (pos (best_place (sums s)) ∷ []) s.args.report.now 0 (length settings * size.result) (omega (arith, settings_length k n p settings s.requires.some, ap (λ (x : ℕ). length settings * x) size.ensures.0))),
-      filled.fill-settings.ensures.1.1,
+      filled.fill_settings.ensures.1.1,
     )
 
-pub fill-report-spec : {M : Type 1} → statement M
-fill-report-spec =
+pub fill_report_spec : {M : Type 1} → statement M
+fill_report_spec =
     tie.close
     (tie.spec
     fill-settings-requires

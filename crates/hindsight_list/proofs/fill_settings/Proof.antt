@@ -24,10 +24,10 @@ room : (k c m : ℕ) → hindsight_count k c ≤ m → c * setting_count k ≤ m
 unfolding hindsight_count
 room k c m h = omega arith
 
-sub-fill-fits : tie.Need-overflow-sub-fill-fits
+sub-fill-fits : tie.Need-overflow_sub-k
 sub-fill-fits c = omega (arith, c.before.before.requires.some)
 
-fill-fits-requires : tie.Need-fill-fits-requires
+fill-fits-requires : tie.Need-fill_fits-requires
 fill-fits-requires c κs =
     let s = c.before.before.before.before.before.before.before in
     let known = s.requires.given in
@@ -41,9 +41,9 @@ fill-fits-requires c κs =
       rw (last, s.requires.averages, cut_whole k n p known.few) s.requires.totals,
     )
 
-put-settings-requires : tie.Need-put-settings-requires
+put-settings-requires : tie.Need-put_settings-requires
 put-settings-requires c κs =
-    let fits = c.before.before.before.before.before.fill-fits in
+    let fits = c.before.before.before.before.before.fill_fits in
     let s = c.before.before.before.before.before.before.before.before.before.before.before.before.before in
     let k = s.args.k in
     let n = s.args.exposures.now in
@@ -53,13 +53,13 @@ put-settings-requires c κs =
       (s.requires.indices, all_fitted k n p s.requires.given.few _ _ _ (rw same at fits.ensures.0) (rw same at fits.ensures.1.0) (rw same at fits.ensures.1.1.0)),
     )
 
-same_length : tie.Need-same-length
+same_length : tie.Need-shape_of-report
 same_length c = search rules
 
 returns : tie.Need-returns
 returns c =
-    let put = c.before.put-settings.ensures in
-    (put.0, (put.1, c.before.before.before.before.before.before.before.fill-fits.ensures.1.1.1))
+    let put = c.before.put_settings.ensures in
+    (put.0, (put.1, c.before.before.before.before.before.before.before.fill_fits.ensures.1.1.1))
 
-pub fill-settings-spec : {M : Type 1} → statement M
-fill-settings-spec = tie.close (tie.spec sub-fill-fits fill-fits-requires put-settings-requires same_length returns)
+pub fill_settings_spec : {M : Type 1} → statement M
+fill_settings_spec = tie.close (tie.spec sub-fill-fits fill-fits-requires put-settings-requires same_length returns)

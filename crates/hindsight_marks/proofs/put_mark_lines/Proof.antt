@@ -5,10 +5,10 @@ use Rattle.hindsight_marks.proofs.put_mark_lines.Statement.{statement}
 use Rattle.hindsight_marks.proofs.put_mark_lines.Tie as tie
 
 returns : tie.Need-returns
-returns c = put_four c.before.before.before.before.before.before.before.before.before.before.before.before.before.before.put-mark-line.ensures c.before.before.before.before.before.before.before.before.before.before.put-mark-line2.ensures c.before.before.before.before.before.before.put-mark-line3.ensures c.before.before.put-mark-line4.ensures
+returns c = put_four c.before.before.before.before.before.before.before.before.before.before.before.before.before.before.put_mark_line-a.ensures c.before.before.before.before.before.before.before.before.before.before.put_mark_line-b.ensures c.before.before.before.before.before.before.put_mark_line-c.ensures c.before.before.put_mark_line.ensures
 
-pub put-mark-lines-spec : {M : Type 1} → statement M
-put-mark-lines-spec =
+pub put_mark_lines_spec : {M : Type 1} → statement M
+put_mark_lines_spec =
     tie.close
     (tie.spec
     (λ c κs. search rules)

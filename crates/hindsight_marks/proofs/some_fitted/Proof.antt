@@ -6,10 +6,10 @@ use Rattle.hindsight_marks.proofs.some_fitted.Tie as tie
 
 returns : tie.Need-returns
 unfolding some_fitted
-returns c = c.some-mark.ensures
+returns c = c.some_mark.ensures
 
-pub some-fitted-spec : {M : Type 1} → statement M
-some-fitted-spec =
+pub some_fitted_spec : {M : Type 1} → statement M
+some_fitted_spec =
     tie.close
     (tie.spec
     (λ c. search rules)

@@ -8,32 +8,32 @@ use borrow.Author.Rules.{rules}
 use Rattle.hindsight_marks.proofs.some_mark.Statement.{statement}
 use Rattle.hindsight_marks.proofs.some_mark.Tie as tie
 
-abbrev invariant-loop : tie.invariant-loop
+abbrev invariant-loop : tie.invariant-loop-i
 invariant-loop list k least most m found₀ i₀ found i = (i ≤ m) × (found ≡ some_mark list k least most i)
 
-abbrev decreases-loop : tie.decreases-loop
+abbrev decreases-loop : tie.decreases-loop-i
 decreases-loop list k least most m found₀ i₀ found i = m - i
 
-loop-holds : tie.Need-loop-init invariant-loop decreases-loop
+loop-holds : tie.Need-loop-i-init invariant-loop decreases-loop
 unfolding some_mark
 loop-holds c = (omega arith, refl)
 
-mark-of-requires : tie.Need-mark-of-requires invariant-loop decreases-loop
+mark-of-requires : tie.Need-mark_of-requires invariant-loop decreases-loop
 mark-of-requires c κs = (c.before.before.requires.0, (omega arith, omega (arith, c.before.before.requires.1)))
 
-loop-again : tie.Need-loop-preserved invariant-loop decreases-loop
+loop-again : tie.Need-loop-i-preserved invariant-loop decreases-loop
 unfolding some_mark
 loop-again c =
-    let l = c.before.before.before.loop in
-    (omega arith, rw (c.found-or.ensures, c.before.mark_of.ensures, l.invariant.1, add-one l.i))
+    let l = c.before.before.before.loop-i in
+    (omega arith, rw (c.found_or-found.ensures, c.before.mark_of.ensures, l.invariant.1, add-one l.i))
 
 returns : tie.Need-returns invariant-loop decreases-loop
 returns c =
-    let e : c.before.loop.i ≡ c.before.before.args.m = omega arith in
-    rw e at c.before.loop.invariant.1
+    let e : c.before.loop-i.i ≡ c.before.before.args.m = omega arith in
+    rw e at c.before.loop-i.invariant.1
 
-pub some-mark-spec : {M : Type 1} → statement M
-some-mark-spec =
+pub some_mark_spec : {M : Type 1} → statement M
+some_mark_spec =
     tie.close
     (tie.spec
     invariant-loop

@@ -7,10 +7,10 @@ use Rattle.hindsight_page.proofs.put_figure_sections.Tie as tie
 
 returns : tie.Need-returns
 unfolding figure_sections
-returns c = put_three c.before.before.before.before.before.before.before.before.before.before.put-settings-section.ensures c.before.before.before.before.before.before.put-steps-section.ensures c.before.before.put-gaps-section.ensures
+returns c = put_three c.before.before.before.before.before.before.before.before.before.before.put_settings_section-b.ensures c.before.before.before.before.before.before.put_steps_section-c.ensures c.before.before.put_gaps_section.ensures
 
-pub put-figure-sections-spec : {M : Type 1} → statement M
-put-figure-sections-spec =
+pub put_figure_sections_spec : {M : Type 1} → statement M
+put_figure_sections_spec =
     tie.close
     (tie.spec
     (λ c κs. search rules)

@@ -7,15 +7,13 @@ use Rattle.hindsight_page.proofs.put_gaps.Tie as tie
 
 returns : tie.Need-returns
 unfolding gaps gaps_paragraph
-returns c = put_four c.before.before.before.before.before.before.before.before.before.before.before.before.before.before.before.put-section-start.ensures c.before.before.before.before.before.before.before.before.before.before.put-Only.ensures c.before.before.before.before.before.before.put-gaps-rows.ensures c.before.before.put-section-end.ensures
+returns c = put_four c.before.before.before.before.before.before.before.before.before.before.before.before.before.before.before.before.put_section_start-b.ensures c.before.before.before.before.before.before.before.before.before.before.put_only-c.ensures c.before.before.before.before.before.before.put_gaps_rows-d.ensures c.before.before.put_section_end.ensures
 
-pub put-gaps-spec : {M : Type 1} → statement M
-put-gaps-spec =
+pub put_gaps_spec : {M : Type 1} → statement M
+put_gaps_spec =
     tie.close
     (tie.spec
-    (λ c. search rules)
     (λ c κs. search rules)
-    (λ c. search rules)
     (λ c κs. search rules)
     (λ c κs. search rules)
     (λ c κs. search rules)

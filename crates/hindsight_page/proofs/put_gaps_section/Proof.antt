@@ -6,16 +6,16 @@ use borrow.Author.Rules.{rules}
 use Rattle.hindsight_page.proofs.put_gaps_section.Statement.{statement}
 use Rattle.hindsight_page.proofs.put_gaps_section.Tie as tie
 
-returns : tie.Need-returns
+returns : tie.Need-returns-then-some_fitted
 unfolding gaps_section
-returns c = rw (sym c.before.before.before.before.before.some-fitted.ensures ∙ c.before.before.before.before.if1.true) c.before.before.put-gaps.ensures
+returns c = rw (sym c.before.before.before.before.before.some_fitted.ensures ∙ c.before.before.before.before.if-some_fitted.true) c.before.before.put_gaps.ensures
 
-returns-2 : tie.Need-returns-2
+returns-2 : tie.Need-returns-else-some_fitted
 unfolding gaps_section
-returns-2 c = rw (sym c.before.some-fitted.ensures ∙ c.if1.false) (put_none _ _)
+returns-2 c = rw (sym c.before.some_fitted.ensures ∙ c.if-some_fitted.false) (put_none _ _)
 
-pub put-gaps-section-spec : {M : Type 1} → statement M
-put-gaps-section-spec =
+pub put_gaps_section_spec : {M : Type 1} → statement M
+put_gaps_section_spec =
     tie.close
     (tie.spec
     (λ c κs. search rules)

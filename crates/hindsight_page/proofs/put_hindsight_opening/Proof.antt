@@ -7,10 +7,10 @@ use Rattle.hindsight_page.proofs.put_hindsight_opening.Tie as tie
 
 returns : tie.Need-returns
 unfolding hindsight_opening
-returns c = put_append c.before.before.before.before.before.before.put-hindsight-years.ensures c.before.before.put-settings-tried.ensures
+returns c = put_append c.before.before.before.before.before.before.put_hindsight_years-a.ensures c.before.before.put_settings_tried.ensures
 
-pub put-hindsight-opening-spec : {M : Type 1} → statement M
-put-hindsight-opening-spec =
+pub put_hindsight_opening_spec : {M : Type 1} → statement M
+put_hindsight_opening_spec =
     tie.close
     (tie.spec
     (λ c κs. search rules)

@@ -5,22 +5,19 @@ use borrow.Author.Rules.{rules}
 use Rattle.hindsight_page.proofs.put_hindsight_start.Statement.{statement}
 use Rattle.hindsight_page.proofs.put_hindsight_start.Tie as tie
 
-returns : tie.Need-returns
+returns : tie.Need-returns-then-title-eq0
 unfolding hindsight_start
-returns c = rw (eq-eqb _ 0 c.before.before.before.before.before.before.if1.true) c.before.before.put-start-with.ensures
+returns c = rw (eq-eqb _ 0 c.before.before.before.before.before.before.before.before.if-title-eq0.true) c.before.before.put_start_with.ensures
 
-returns-2 : tie.Need-returns-2
+returns-2 : tie.Need-returns-else-title-eq0
 unfolding hindsight_start
-returns-2 c = rw (ne_eqb _ 0 c.before.before.before.before.before.if1.false) c.before.before.put-start-with2.ensures
+returns-2 c = rw (ne_eqb _ 0 c.before.before.before.before.before.before.if-title-eq0.false) c.before.before.put_start_with-else-title-eq0.ensures
 
-pub put-hindsight-start-spec : {M : Type 1} → statement M
-put-hindsight-start-spec =
+pub put_hindsight_start_spec : {M : Type 1} → statement M
+put_hindsight_start_spec =
     tie.close
     (tie.spec
-    (λ c. search rules)
-    (λ c. search rules)
     (λ c κs. search rules)
-    (λ c. search rules)
     (λ c κs. search rules)
     (λ c. search rules)
     returns

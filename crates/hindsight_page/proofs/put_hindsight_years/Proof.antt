@@ -7,17 +7,14 @@ use Rattle.hindsight_page.proofs.put_hindsight_years.Tie as tie
 
 returns : tie.Need-returns
 unfolding hindsight_years
-returns c = put_four c.before.before.before.before.before.before.before.before.before.before.before.before.before.before.before.put-either.ensures c.before.before.before.before.before.before.before.before.before.before.before.put-decimal.ensures c.before.before.before.before.before.before.put-bytes.ensures c.before.before.put-decimal2.ensures
+returns c = put_four c.before.before.before.before.before.before.before.before.before.before.before.before.before.before.before.before.put_either-a.ensures c.before.before.before.before.before.before.before.before.before.before.before.before.put_decimal-b.ensures c.before.before.before.before.before.before.put_bytes-c.ensures c.before.before.put_decimal.ensures
 
-pub put-hindsight-years-spec : {M : Type 1} → statement M
-put-hindsight-years-spec =
+pub put_hindsight_years_spec : {M : Type 1} → statement M
+put_hindsight_years_spec =
     tie.close
     (tie.spec
-    (λ c. search rules)
-    (λ c. search rules)
     (λ c κs. search rules)
     (λ c κs. search rules)
-    (λ c. search rules)
     (λ c κs. search rules)
     (λ c. search rules)
     (λ c κs. search rules)

@@ -7,10 +7,10 @@ use Rattle.hindsight_page.proofs.put_settings_figures.Tie as tie
 
 returns : tie.Need-returns
 unfolding settings_figures
-returns c = put_four c.before.before.before.before.before.before.before.before.before.before.before.before.before.before.put-beside-start.ensures c.before.before.before.before.before.before.before.before.before.before.put-settings-rows.ensures c.before.before.before.before.before.before.put-sums-plot.ensures c.before.before.put-beside-end.ensures
+returns c = put_four c.before.before.before.before.before.before.before.before.before.before.before.before.before.before.put_beside_start-a.ensures c.before.before.before.before.before.before.before.before.before.before.put_settings_rows-b.ensures c.before.before.before.before.before.before.put_sums_plot-c.ensures c.before.before.put_beside_end.ensures
 
-pub put-settings-figures-spec : {M : Type 1} → statement M
-put-settings-figures-spec =
+pub put_settings_figures_spec : {M : Type 1} → statement M
+put_settings_figures_spec =
     tie.close
     (tie.spec
     (λ c κs. search rules)

@@ -5,23 +5,21 @@ use borrow.Author.Rules.{rules}
 use Rattle.hindsight_page.proofs.put_settings_section.Statement.{statement}
 use Rattle.hindsight_page.proofs.put_settings_section.Tie as tie
 
-put-best-requires : tie.Need-put-best-requires
+put-best-requires : tie.Need-put_best-d-requires
 put-best-requires c κs =
-    let s = c.before.before.before.before.before.before.before.before.before.before.before.before in
+    let s = c.before.before.before.before.before.before.before.before.before.before.before.before.before.before in
     let shown = s.requires.1.1 in
     ((shown.known, shown.one), (shown.indices s.args.a s.requires.0, shown.small))
 
 returns : tie.Need-returns
 unfolding settings_section settings_paragraph
-returns c = put_five c.before.before.before.before.before.before.before.before.before.before.before.before.before.before.before.before.before.before.before.put-section-start.ensures c.before.before.before.before.before.before.before.before.before.before.before.before.before.before.put-Only.ensures c.before.before.before.before.before.before.before.before.before.before.put-best.ensures c.before.before.before.before.before.before.put-settings-figures.ensures c.before.before.put-section-end.ensures
+returns c = put_five c.before.before.before.before.before.before.before.before.before.before.before.before.before.before.before.before.before.before.before.before.put_section_start-b.ensures c.before.before.before.before.before.before.before.before.before.before.before.before.before.before.put_only-c.ensures c.before.before.before.before.before.before.before.before.before.before.put_best-d.ensures c.before.before.before.before.before.before.put_settings_figures-e.ensures c.before.before.put_section_end.ensures
 
-pub put-settings-section-spec : {M : Type 1} → statement M
-put-settings-section-spec =
+pub put_settings_section_spec : {M : Type 1} → statement M
+put_settings_section_spec =
     tie.close
     (tie.spec
-    (λ c. search rules)
     (λ c κs. search rules)
-    (λ c. search rules)
     (λ c κs. search rules)
     put-best-requires
     (λ c κs. search rules)

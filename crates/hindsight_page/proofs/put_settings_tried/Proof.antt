@@ -7,18 +7,14 @@ use Rattle.hindsight_page.proofs.put_settings_tried.Tie as tie
 
 returns : tie.Need-returns
 unfolding settings_tried
-returns c = put_three c.before.before.before.before.before.before.before.before.before.before.before.before.put-either.ensures c.before.before.before.before.before.before.before.before.put-decimal.ensures c.before.before.put-either2.ensures
+returns c = put_three c.before.before.before.before.before.before.before.before.before.before.before.before.before.before.put_either-a.ensures c.before.before.before.before.before.before.before.before.before.before.put_decimal-b.ensures c.before.before.put_either.ensures
 
-pub put-settings-tried-spec : {M : Type 1} → statement M
-put-settings-tried-spec =
+pub put_settings_tried_spec : {M : Type 1} → statement M
+put_settings_tried_spec =
     tie.close
     (tie.spec
-    (λ c. search rules)
-    (λ c. search rules)
     (λ c κs. search rules)
     (λ c κs. search rules)
-    (λ c. search rules)
-    (λ c. search rules)
     (λ c κs. search rules)
     (λ c. search rules)
     returns)

@@ -7,15 +7,13 @@ use Rattle.hindsight_page.proofs.put_steps_section.Tie as tie
 
 returns : tie.Need-returns
 unfolding steps_section steps_paragraph
-returns c = put_four c.before.before.before.before.before.before.before.before.before.before.before.before.before.before.before.put-section-start.ensures c.before.before.before.before.before.before.before.before.before.before.put-Only.ensures c.before.before.before.before.before.before.put-steps-rows.ensures c.before.before.put-section-end.ensures
+returns c = put_four c.before.before.before.before.before.before.before.before.before.before.before.before.before.before.before.before.put_section_start-a.ensures c.before.before.before.before.before.before.before.before.before.before.put_only-b.ensures c.before.before.before.before.before.before.put_steps_rows-c.ensures c.before.before.put_section_end.ensures
 
-pub put-steps-section-spec : {M : Type 1} → statement M
-put-steps-section-spec =
+pub put_steps_section_spec : {M : Type 1} → statement M
+put_steps_section_spec =
     tie.close
     (tie.spec
-    (λ c. search rules)
     (λ c κs. search rules)
-    (λ c. search rules)
     (λ c κs. search rules)
     (λ c κs. search rules)
     (λ c κs. search rules)

@@ -8,15 +8,15 @@ use Rattle.hindsight_places.proofs.Inside.{last_inside}
 use Rattle.hindsight_places.proofs.best_of.Statement.{statement}
 use Rattle.hindsight_places.proofs.best_of.Tie as tie
 
-entry-of-requires : tie.Need-entry-of-requires
+entry-of-requires : tie.Need-entry_of-requires
 entry-of-requires c κs = (c.requires.0, last_inside c.args.k c.args.n c.requires.0 c.requires.1)
 
 returns : tie.Need-returns
 unfolding best_at
-returns c = c.type_size.ensures ∙ ap nat_abs (to_z-of_z (sfits_of c.before.entry_of.type-inv) ∙ c.before.entry_of.ensures)
+returns c = c.type_size.ensures ∙ ap nat_abs (to_z-of_z (sfits_of c.before.entry_of.type_inv) ∙ c.before.entry_of.ensures)
 
-pub best-of-spec : {M : Type 1} → statement M
-best-of-spec =
+pub best_of_spec : {M : Type 1} → statement M
+best_of_spec =
     tie.close
     (tie.spec
     entry-of-requires

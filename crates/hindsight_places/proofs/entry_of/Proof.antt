@@ -8,32 +8,32 @@ use Rattle.hindsight_places.specs.Places.{entry_at}
 use Rattle.hindsight_places.proofs.entry_of.Statement.{statement}
 use Rattle.hindsight_places.proofs.entry_of.Tie as tie
 
-mul-result : tie.Need-overflow-mul-result
+mul-result : tie.Need-overflow_mul-result
 mul-result c =
     let a = c.before.args.a in
-    record { fits = omega (arith, ap (λ (z : ℕ). a * z) c.setting-count.ensures) }
+    record { fits = omega (arith, ap (λ (z : ℕ). a * z) c.setting_count.ensures) }
 
-add-result : tie.Need-overflow-add-result
+add-result : tie.Need-overflow_add-result
 add-result c =
     let a = c.before.args.a in
-    record { fits = omega (arith, ap (λ (z : ℕ). a * z) c.setting-count.ensures) }
+    record { fits = omega (arith, ap (λ (z : ℕ). a * z) c.setting_count.ensures) }
 
-mul-result-2 : tie.Need-overflow-mul-result-2
+mul-result-2 : tie.Need-offset_bounds-list-a
 mul-result-2 c =
     let a = c.before.args.a in
-    record { fits = omega (arith, ap (λ (z : ℕ). a * z) c.setting-count.ensures) }
+    record { fits = omega (arith, ap (λ (z : ℕ). a * z) c.setting_count.ensures) }
 
-element-copy-out-result : tie.Need-element-copy-out-result
+element-copy-out-result : tie.Need-bounds-list-a
 element-copy-out-result c =
     let a = c.before.args.a in
-    omega (arith, ap (λ (z : ℕ). a * z) c.setting-count.ensures)
+    omega (arith, ap (λ (z : ℕ). a * z) c.setting_count.ensures)
 
 returns : tie.Need-returns
 unfolding entry_at
-returns c = rw (← c.before.setting-count.ensures) (to_z-of_z (sfits_of c.result.given))
+returns c = rw (← c.before.setting_count.ensures) (to_z-of_z (sfits_of c.result-1.given))
 
-pub entry-of-spec : {M : Type 1} → statement M
-entry-of-spec =
+pub entry_of_spec : {M : Type 1} → statement M
+entry_of_spec =
     tie.close
     (tie.spec
     (λ c κs. search rules)

@@ -8,10 +8,10 @@ use Rattle.hindsight_places.proofs.gap_of.Tie as tie
 
 returns : tie.Need-returns
 unfolding gap_at
-returns c = to_z-of_z (sfits_of c.step-entry.type-inv) ∙ c.step-entry.ensures
+returns c = to_z-of_z (sfits_of c.step_entry.type_inv) ∙ c.step_entry.ensures
 
-pub gap-of-spec : {M : Type 1} → statement M
-gap-of-spec =
+pub gap_of_spec : {M : Type 1} → statement M
+gap_of_spec =
     tie.close
     (tie.spec
     (λ c κs. search rules)

@@ -6,16 +6,16 @@ use Rattle.hindsight_places.specs.Places.{marked}
 use Rattle.hindsight_places.proofs.is_marked.Statement.{statement}
 use Rattle.hindsight_places.proofs.is_marked.Tie as tie
 
-returns : tie.Need-returns
+returns : tie.Need-returns-then-mark_of-eq0
 unfolding marked
-returns c = rw (eq-eqb _ 0 (sym c.before.mark_of.ensures ∙ c.if1.true))
+returns c = rw (eq-eqb _ 0 (sym c.before.mark_of.ensures ∙ c.if-mark_of-eq0.true))
 
-returns-2 : tie.Need-returns-2
+returns-2 : tie.Need-returns-else-mark_of-eq0
 unfolding marked
-returns-2 c = rw (ne_eqb _ 0 (λ e. c.if1.false (c.before.mark_of.ensures ∙ e)))
+returns-2 c = rw (ne_eqb _ 0 (λ e. c.if-mark_of-eq0.false (c.before.mark_of.ensures ∙ e)))
 
-pub is-marked-spec : {M : Type 1} → statement M
-is-marked-spec =
+pub is_marked_spec : {M : Type 1} → statement M
+is_marked_spec =
     tie.close
     (tie.spec
     (λ c κs. search rules)

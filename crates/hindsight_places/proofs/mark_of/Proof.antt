@@ -9,10 +9,10 @@ use Rattle.hindsight_places.proofs.mark_of.Tie as tie
 
 returns : tie.Need-returns
 unfolding mark_at
-returns c = c.type_size.ensures ∙ ap nat_abs (to_z-of_z (sfits_of c.before.step-entry.type-inv) ∙ c.before.step-entry.ensures)
+returns c = c.type_size.ensures ∙ ap nat_abs (to_z-of_z (sfits_of c.before.step_entry.type_inv) ∙ c.before.step_entry.ensures)
 
-pub mark-of-spec : {M : Type 1} → statement M
-mark-of-spec =
+pub mark_of_spec : {M : Type 1} → statement M
+mark_of_spec =
     tie.close
     (tie.spec
     (λ c κs. search rules)

@@ -7,7 +7,7 @@ use borrow.Author.Rules.{rules}
 use Rattle.hindsight_places.proofs.step_start.Statement.{statement}
 use Rattle.hindsight_places.proofs.step_start.Tie as tie
 
-mul-result : tie.Need-overflow-mul-result
+mul-result : tie.Need-overflow_mul-result
 mul-result c =
     let k = c.args.k in
     let h = c.args.h in
@@ -17,8 +17,8 @@ mul-result c =
 returns : tie.Need-returns
 returns c = start_half c.args.k c.args.h (omega arith)
 
-pub step-start-spec : {M : Type 1} → statement M
-step-start-spec =
+pub step_start_spec : {M : Type 1} → statement M
+step_start_spec =
     tie.close
     (tie.spec
     (λ c. search rules)

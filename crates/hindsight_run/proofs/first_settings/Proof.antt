@@ -9,8 +9,8 @@ returns : tie.Need-returns
 unfolding up_to
 returns c = refl
 
-pub first-settings-spec : {M : Type 1} → statement M
-first-settings-spec =
+pub first_settings_spec : {M : Type 1} → statement M
+first_settings_spec =
     tie.close
     (tie.spec
     (λ c. search rules)

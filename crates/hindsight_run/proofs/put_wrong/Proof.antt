@@ -8,17 +8,15 @@ use Rattle.hindsight_run.proofs.put_wrong.Tie as tie
 returns : tie.Need-returns
 unfolding wrong_text
 returns c =
-    put_three c.before.before.before.before.before.before.before.before.before.before.before.put-bytes.ensures c.before.before.before.before.before.before.before.put-decimal.ensures
-    c.before.before.put-bytes2.ensures
+    put_three c.before.before.before.before.before.before.before.before.before.before.before.before.put_bytes-number.ensures c.before.before.before.before.before.before.before.before.put_decimal-end.ensures
+    c.before.before.put_bytes.ensures
 
-pub put-wrong-spec : {M : Type 1} → statement M
-put-wrong-spec =
+pub put_wrong_spec : {M : Type 1} → statement M
+put_wrong_spec =
     tie.close
     (tie.spec
-    (λ c. search rules)
     (λ c κs. search rules)
     (λ c κs. search rules)
-    (λ c. search rules)
     (λ c κs. search rules)
     (λ c. search rules)
     returns)

@@ -18,7 +18,7 @@ use Rattle.hindsight_settings.proofs.Counts.{step_at, step_sum, steps_are, sum_i
 use Rattle.hindsight_settings.proofs.put_steps.Statement.{statement}
 use Rattle.hindsight_settings.proofs.put_steps.Tie as tie
 
-abbrev invariant-loop : tie.invariant-loop
+abbrev invariant-loop : tie.invariant-loop-m
 invariant-loop out₀ at k index exposures increments marks levels shares sum₀ next₀ n m₀ out sum next m =
     (m ≤ n)
     × (next ≡ at + length (joined (up_to (step_at k exposures increments index) m)))
@@ -27,45 +27,45 @@ invariant-loop out₀ at k index exposures increments marks levels shares sum₀
     × (out ≡ sets out₀ at (joined (up_to (step_at k exposures increments index) m)))
     × (length out ≡ length out₀)
 
-abbrev decreases-loop : tie.decreases-loop
+abbrev decreases-loop : tie.decreases-loop-m
 decreases-loop out₀ at k index exposures increments marks levels shares sum₀ next₀ n m₀ out sum next m = n - m
 
-sub-n : tie.Need-overflow-sub-n invariant-loop decreases-loop
+sub-n : tie.Need-overflow_sub-n invariant-loop decreases-loop
 sub-n c = search rules
 
-loop-holds : tie.Need-loop-init invariant-loop decreases-loop
+loop-holds : tie.Need-loop-m-init invariant-loop decreases-loop
 unfolding up_to total joined
 loop-holds c = (omega arith, omega arith, omega arith, refl, refl, refl)
 
-sub-h : tie.Need-overflow-sub-h invariant-loop decreases-loop
+sub-h : tie.Need-overflow_sub-h invariant-loop decreases-loop
 sub-h c = search rules
 
-mul-put-step : tie.Need-overflow-mul-put-step invariant-loop decreases-loop
+mul-put-step : tie.Need-offset_bounds-marks-m invariant-loop decreases-loop
 mul-put-step c = search rules
 
-element-copy-out-put-step : tie.Need-element-copy-out-put-step invariant-loop decreases-loop
-element-copy-out-put-step c = omega (arith, c.before.before.before.requires.0.0.few)
+element-copy-out-put-step : tie.Need-bounds-marks-m invariant-loop decreases-loop
+element-copy-out-put-step c = omega (arith, c.before.before.before.before.requires.0.0.few)
 
-mul-put-step-2 : tie.Need-overflow-mul-put-step-2 invariant-loop decreases-loop
+mul-put-step-2 : tie.Need-offset_bounds-levels-m invariant-loop decreases-loop
 mul-put-step-2 c = search rules
 
-element-copy-out-put-step-2 : tie.Need-element-copy-out-put-step-2 invariant-loop decreases-loop
-element-copy-out-put-step-2 c = omega (arith, c.before.before.before.before.requires.0.0.few)
+element-copy-out-put-step-2 : tie.Need-bounds-levels-m invariant-loop decreases-loop
+element-copy-out-put-step-2 c = omega (arith, c.before.before.before.before.before.before.requires.0.0.few)
 
-mul-put-step-3 : tie.Need-overflow-mul-put-step-3 invariant-loop decreases-loop
-mul-put-step-3 c = omega (arith, c.before.before.before.before.before.requires.0.0.few)
+mul-put-step-3 : tie.Need-offset_bounds-shares-m invariant-loop decreases-loop
+mul-put-step-3 c = omega (arith, c.before.before.before.before.before.before.before.requires.0.0.few)
 
-index-1-put-step : tie.Need-bounds-1-put-step invariant-loop decreases-loop
-index-1-put-step c = omega (arith, c.before.before.before.before.before.requires.0.0.few)
+index-1-put-step : tie.Need-bounds-shares-m invariant-loop decreases-loop
+index-1-put-step c = omega (arith, c.before.before.before.before.before.before.before.requires.0.0.few)
 
 -- the entries of step m end before those of the setting do
-room : (c : tie.In-loop invariant-loop decreases-loop) →
+room : (c : tie.In-loop-m invariant-loop decreases-loop) →
     let s = c.before.before in
-    let l = c.before.loop in
+    let l = c.before.loop-m in
     l.next + (1 + (s.args.k - 1 - l.m)) < s.args.at + setting_count s.args.k
 room c =
     let s = c.before.before in
-    let l = c.before.loop in
+    let l = c.before.loop-m in
     let k = s.args.k in
     let n = s.args.exposures.now in
     let p = s.args.increments.now in
@@ -77,53 +77,53 @@ room c =
       row_inside (step_at k n p s.args.index) (k - 1) l.m (omega arith),
     )
 
-put-step-requires : tie.Need-put-step-requires invariant-loop decreases-loop
+put-step-requires : tie.Need-put_step-sum-requires invariant-loop decreases-loop
 put-step-requires c κs =
-    let s = c.before.before.before.before.before.before in
-    let l = c.before.before.before.before.before.loop in
-    ((s.requires.0.0, (omega (arith, s.requires.0.1.0), omega (arith, room c.before.before.before.before, l.invariant.5, s.requires.0.1.1))), (s.requires.1.0, s.requires.1.1 l.m (omega arith)))
+    let s = c.before.before.before.before.before.before.before in
+    let l = c.before.before.before.before.before.before.loop-m in
+    ((s.requires.0.0, (omega (arith, s.requires.0.1.0), omega (arith, room c.before.before.before.before.before, l.invariant.5, s.requires.0.1.1))), (s.requires.1.0, s.requires.1.1 l.m (omega arith)))
 
 -- the sum with that of step m
-more : (c : tie.After-out invariant-loop decreases-loop) →
-    let s = c.before.before.before.before.before.before.before.before in
-    let l = c.before.before.before.before.before.before.before.loop in
-    l.sum + c.before.put_step.result ≤ gaps_to s.args.k (l.m + 1) * most_gap
+more : (c : tie.After-out-1 invariant-loop decreases-loop) →
+    let s = c.before.before.before.before.before.before.before.before.before in
+    let l = c.before.before.before.before.before.before.before.before.loop-m in
+    l.sum + c.before.put_step-sum.result ≤ gaps_to s.args.k (l.m + 1) * most_gap
 more c =
-    let s = c.before.before.before.before.before.before.before.before in
-    let l = c.before.before.before.before.before.before.before.loop in
-    rw (gaps_more s.args.k l.m) (omega (arith, l.invariant.2, c.before.put_step.ensures.1.0))
+    let s = c.before.before.before.before.before.before.before.before.before in
+    let l = c.before.before.before.before.before.before.before.before.loop-m in
+    rw (gaps_more s.args.k l.m) (omega (arith, l.invariant.2, c.before.put_step-sum.ensures.1.0))
 
-add-sum : tie.Need-overflow-add-sum invariant-loop decreases-loop
+add-sum : tie.Need-overflow_add-sum invariant-loop decreases-loop
 add-sum c =
-    let s = c.before.before.before.before.before.before.before.before in
-    let l = c.before.before.before.before.before.before.before.loop in
+    let s = c.before.before.before.before.before.before.before.before.before in
+    let l = c.before.before.before.before.before.before.before.before.loop-m in
     omega (arith, more c, gaps_most s.args.k (l.m + 1) s.requires.0.0.few (omega arith))
 
-add-next : tie.Need-overflow-add-next invariant-loop decreases-loop
+add-next : tie.Need-overflow_add-next invariant-loop decreases-loop
 add-next c = search rules
 
-add-next-2 : tie.Need-overflow-add-next-2 invariant-loop decreases-loop
+add-next-2 : tie.Need-overflow_add-next-in-loop-m invariant-loop decreases-loop
 add-next-2 c =
-    let s = c.before.before.before.before.before.before.before.before in
-    omega (arith, room c.before.before.before.before.before.before, s.requires.0.1.1)
+    let s = c.before.before.before.before.before.before.before.before.before in
+    omega (arith, room c.before.before.before.before.before.before.before, s.requires.0.1.1)
 
-add-m : tie.Need-overflow-add-m invariant-loop decreases-loop
+add-m : tie.Need-overflow_step-m invariant-loop decreases-loop
 add-m c = search rules
 
-loop-less : tie.Need-loop-smaller invariant-loop decreases-loop
+loop-less : tie.Need-loop-m-smaller invariant-loop decreases-loop
 loop-less c = search rules
 
-loop-again : tie.Need-loop-preserved invariant-loop decreases-loop
+loop-again : tie.Need-loop-m-preserved invariant-loop decreases-loop
 loop-again c =
-    let s = c.before.before.before.before.before.before.before.before in
-    let l = c.before.before.before.before.before.before.before.loop in
-    let put = c.before.put_step in
+    let s = c.before.before.before.before.before.before.before.before.before in
+    let l = c.before.before.before.before.before.before.before.before.loop-m in
+    let put = c.before.put_step-sum in
     let k = s.args.k in
     let n = s.args.exposures.now in
     let p = s.args.increments.now in
     let f = step_at k n p s.args.index in
     let more-entries : joined (up_to f (l.m + 1)) ≡ joined (up_to f l.m) ++ f l.m = rw (add-one l.m) (joined_more f l.m) in
-    let stored : put.new.0 ≡ sets s.args.out.now s.args.at (joined (up_to f (l.m + 1)))
+    let stored : put.new.out ≡ sets s.args.out.now s.args.at (joined (up_to f (l.m + 1)))
     = put.ensures.1.1 ∙ rw (l.invariant.4, more-entries) (sets_append (joined (up_to f l.m)) (f l.m) s.args.out.now s.args.at l.next l.invariant.1) in (
       omega arith,
       rw more-entries (omega (arith, l.invariant.1, step_length k n p s.args.index (k - 1 - l.m), length-append (joined (up_to f l.m)) (f l.m))),
@@ -133,13 +133,13 @@ loop-again c =
       ap length stored ∙ simp length-sets,
     )
 
-same_length : tie.Need-same-length invariant-loop decreases-loop
+same_length : tie.Need-shape_of-out invariant-loop decreases-loop
 same_length c = search rules
 
 returns : tie.Need-returns invariant-loop decreases-loop
 returns c =
     let s = c.before.before in
-    let l = c.before.loop in
+    let l = c.before.loop-m in
     let k = s.args.k in
     let n = s.args.exposures.now in
     let p = s.args.increments.now in
@@ -148,8 +148,8 @@ returns c =
       (omega (arith, l.invariant.2, gaps_most k l.m s.requires.0.0.few (omega arith)), rw e at l.invariant.4 ∙ ap (sets s.args.out.now s.args.at) (sym (steps_are k n p s.args.index))),
     )
 
-pub put-steps-spec : {M : Type 1} → statement M
-put-steps-spec =
+pub put_steps_spec : {M : Type 1} → statement M
+put_steps_spec =
     tie.close
     (tie.spec
     invariant-loop

@@ -8,16 +8,16 @@ use Rattle.rules.specs.Hindsight.{setting_count}
 use Rattle.hindsight_settings.proofs.setting_count.Statement.{statement}
 use Rattle.hindsight_settings.proofs.setting_count.Tie as tie
 
-sub-result : tie.Need-overflow-sub-result
+sub-result : tie.Need-overflow_sub-result
 sub-result c = search rules
 
-mul-result : tie.Need-overflow-mul-result
+mul-result : tie.Need-overflow_mul-result
 mul-result c =
     let few : c.args.k ≤ 15 = omega arith in
     let below : c.args.k - 1 ≤ 14 = omega arith in
     omega (arith, mul-le-mul few below)
 
-add-result : tie.Need-overflow-add-result
+add-result : tie.Need-overflow_add-result
 add-result c =
     let few : c.args.k ≤ 15 = omega arith in
     let below : c.args.k - 1 ≤ 14 = omega arith in
@@ -30,5 +30,5 @@ returns c =
     let below : c.args.k - 1 ≤ 14 = omega arith in
     (refl, omega (arith, mul-le-mul few below))
 
-pub setting-count-spec : {M : Type 1} → statement M
-setting-count-spec = tie.close (tie.spec sub-result mul-result add-result returns)
+pub setting_count_spec : {M : Type 1} → statement M
+setting_count_spec = tie.close (tie.spec sub-result mul-result add-result returns)

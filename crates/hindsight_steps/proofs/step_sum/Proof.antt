@@ -20,43 +20,43 @@ use Rattle.hindsight_steps.proofs.step_sum.Tie as tie
 abbrev size_at : List ℤ → ℕ → ℕ → ℕ → ℕ → ℕ
 size_at list k a h m = nat_abs (gap_at list k a h (m + 1))
 
-abbrev invariant-loop : tie.invariant-loop
+abbrev invariant-loop : tie.invariant-loop-m
 invariant-loop list k a h sum₀ m₀ sum m = (m ≤ h) × (sum ≡ total (up_to (size_at list k a h) m))
 
-abbrev decreases-loop : tie.decreases-loop
+abbrev decreases-loop : tie.decreases-loop-m
 decreases-loop list k a h sum₀ m₀ sum m = h - m
 
-loop-holds : tie.Need-loop-init invariant-loop decreases-loop
+loop-holds : tie.Need-loop-m-init invariant-loop decreases-loop
 loop-holds c = (omega arith, sym (total_none (size_at c.args.list.now c.args.k c.args.a c.args.h)))
 
-gap-of-requires : tie.Need-gap-of-requires invariant-loop decreases-loop
+gap-of-requires : tie.Need-gap_of-requires invariant-loop decreases-loop
 gap-of-requires c κs =
     let s = c.before.before in
     (s.requires.0, (s.requires.1.0, (omega arith, omega arith)))
 
-add-sum : tie.Need-overflow-add-sum invariant-loop decreases-loop
+add-sum : tie.Need-overflow_add-sum invariant-loop decreases-loop
 add-sum c =
     let s = c.before.before.before.before in
-    let l = c.before.before.before.loop in
-    let x : c.type_size.result ≡ size_at s.args.list.now s.args.k s.args.a s.args.h l.m = c.type_size.ensures ∙ ap nat_abs (to_z-of_z (sfits_of c.before.gap_of.type-inv) ∙ c.before.gap_of.ensures) in
+    let l = c.before.before.before.loop-m in
+    let x : c.type_size.result ≡ size_at s.args.list.now s.args.k s.args.a s.args.h l.m = c.type_size.ensures ∙ ap nat_abs (to_z-of_z (sfits_of c.before.gap_of.type_inv) ∙ c.before.gap_of.ensures) in
     record { fits = omega (arith, x, l.invariant.1, gaps_small s.args.list.now s.requires.1.1 s.args.k s.args.a s.args.h l.m, gap_small s.args.list.now s.requires.1.1 s.args.k s.args.a s.args.h (l.m + 1)) }
 
-loop-again : tie.Need-loop-preserved invariant-loop decreases-loop
+loop-again : tie.Need-loop-m-preserved invariant-loop decreases-loop
 loop-again c =
     let s = c.before.before.before.before in
-    let l = c.before.before.before.loop in
+    let l = c.before.before.before.loop-m in
     let f = size_at s.args.list.now s.args.k s.args.a s.args.h in
-    let x : c.type_size.result ≡ f l.m = c.type_size.ensures ∙ ap nat_abs (to_z-of_z (sfits_of c.before.gap_of.type-inv) ∙ c.before.gap_of.ensures) in
+    let x : c.type_size.result ≡ f l.m = c.type_size.ensures ∙ ap nat_abs (to_z-of_z (sfits_of c.before.gap_of.type_inv) ∙ c.before.gap_of.ensures) in
     (omega arith, rw (x, l.invariant.1) (sym (total_more f l.m) ∙ ap (λ (z : ℕ). total (up_to f z)) (sym (add-one l.m))))
 
 returns : tie.Need-returns invariant-loop decreases-loop
 unfolding step_sum
 returns c =
-    let e : c.before.loop.m ≡ c.before.before.args.h = omega arith in
-    rw e at c.before.loop.invariant.1
+    let e : c.before.loop-m.m ≡ c.before.before.args.h = omega arith in
+    rw e at c.before.loop-m.invariant.1
 
-pub step-sum-spec : {M : Type 1} → statement M
-step-sum-spec =
+pub step_sum_spec : {M : Type 1} → statement M
+step_sum_spec =
     tie.close
     (tie.spec
     invariant-loop

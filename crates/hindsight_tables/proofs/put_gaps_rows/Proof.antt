@@ -6,13 +6,12 @@ use Rattle.hindsight_tables.proofs.put_gaps_rows.Tie as tie
 
 returns : tie.Need-returns
 unfolding gaps_rows gaps_words
-returns c = c.before.before.put-grid.ensures
+returns c = c.before.before.put_grid.ensures
 
-pub put-gaps-rows-spec : {M : Type 1} → statement M
-put-gaps-rows-spec =
+pub put_gaps_rows_spec : {M : Type 1} → statement M
+put_gaps_rows_spec =
     tie.close
     (tie.spec
-    (λ c. search rules)
     (λ c. search rules)
     (λ c κs. search rules)
     (λ c. search rules)

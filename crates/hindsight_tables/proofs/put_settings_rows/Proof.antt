@@ -6,13 +6,12 @@ use Rattle.hindsight_tables.proofs.put_settings_rows.Tie as tie
 
 returns : tie.Need-returns
 unfolding settings_rows settings_words
-returns c = c.before.before.put-grid.ensures
+returns c = c.before.before.put_grid.ensures
 
-pub put-settings-rows-spec : {M : Type 1} → statement M
-put-settings-rows-spec =
+pub put_settings_rows_spec : {M : Type 1} → statement M
+put_settings_rows_spec =
     tie.close
     (tie.spec
-    (λ c. search rules)
     (λ c κs. search rules)
     (λ c. search rules)
     returns)

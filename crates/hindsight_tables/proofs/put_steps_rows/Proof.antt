@@ -9,17 +9,17 @@ use borrow.Author.Rules.{rules}
 use Rattle.hindsight_tables.proofs.put_steps_rows.Statement.{statement}
 use Rattle.hindsight_tables.proofs.put_steps_rows.Tie as tie
 
-slice-aggregate-put-grid : tie.Need-slice-aggregate-put-grid
-slice-aggregate-put-grid c = sym (length-take-le _ _ (omega (arith, c.before.before.before.put-steps-words.ensures.ended, put_length c.before.before.before.put-steps-words.ensures)))
+slice-aggregate-put-grid : tie.Need-slice_bounds-put_grid-end
+slice-aggregate-put-grid c = sym (length-take-le _ _ (omega (arith, c.before.before.before.put_steps_words-end.ensures.ended, put_length c.before.before.before.put_steps_words-end.ensures)))
 
 returns : tie.Need-returns
 unfolding steps_rows
 returns c =
-    let words = put_back c.before.before.before.before.before.before.put-steps-words.ensures (omega (arith, words_most c.before.before.before.before.before.before.before.before.before.args.n c.before.before.before.before.before.before.before.before.before.requires.0.few)) in
-    rw words at c.before.before.put-grid.ensures
+    let words = put_back c.before.before.before.before.before.before.put_steps_words-end.ensures (omega (arith, words_most c.before.before.before.before.before.before.before.before.before.args.n c.before.before.before.before.before.before.before.before.before.requires.0.few)) in
+    rw words at c.before.before.put_grid.ensures
 
-pub put-steps-rows-spec : {M : Type 1} → statement M
-put-steps-rows-spec =
+pub put_steps_rows_spec : {M : Type 1} → statement M
+put_steps_rows_spec =
     tie.close
     (tie.spec
     (λ c. search rules)

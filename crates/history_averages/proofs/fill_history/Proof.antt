@@ -32,75 +32,75 @@ more-years years width n p i at h start q r e f =
     let row : r ≡ history_row years width n p i = rw (was, filled, start) at f in
     rw (row, e) (filled_more most_history no_year (history_row years width n p) i h)
 
-abbrev invariant-loop : tie.invariant-loop
+abbrev invariant-loop : tie.invariant-loop-i
 invariant-loop years width exposures cells rows₀ at₀ i₀ rows at i = (i ≤ years) × (at ≡ history_start years i) × (rows ≡ history_rows years width exposures cells i)
 
-abbrev decreases-loop : tie.decreases-loop
+abbrev decreases-loop : tie.decreases-loop-i
 decreases-loop years width exposures cells rows₀ at₀ i₀ rows at i = years - i
 
-loop-holds : tie.Need-loop-init invariant-loop decreases-loop
+loop-holds : tie.Need-loop-i-init invariant-loop decreases-loop
 unfolding history_start history_rows
 loop-holds c =
     let s = c.before in
     (omega arith, refl, s.requires.1.1.1 ∙ filled_none most_history no_year (history_row s.args.years s.args.width s.args.exposures.now s.args.cells.now))
 
-development-years-requires : tie.Need-development-years-requires invariant-loop decreases-loop
+development-years-requires : tie.Need-development_years-paid-requires invariant-loop decreases-loop
 development-years-requires c κs = omega arith
 
-lesser-requires : tie.Need-lesser-requires invariant-loop decreases-loop
+lesser-requires : tie.Need-lesser-count-requires invariant-loop decreases-loop
 lesser-requires c κs = tt
 
-mul-fill-year : tie.Need-overflow-mul-fill-year invariant-loop decreases-loop
+mul-fill-year : tie.Need-offset_bounds-rows-i invariant-loop decreases-loop
 mul-fill-year c = omega arith
 
-index-1-fill-year : tie.Need-bounds-1-fill-year invariant-loop decreases-loop
+index-1-fill-year : tie.Need-bounds-rows-i invariant-loop decreases-loop
 index-1-fill-year c = omega arith
 
-mul-fill-year-2 : tie.Need-overflow-mul-fill-year-2 invariant-loop decreases-loop
+mul-fill-year-2 : tie.Need-offset_bounds-exposures-i invariant-loop decreases-loop
 mul-fill-year-2 c = omega arith
 
-shared-slice-read-fill-year : tie.Need-shared-slice-read-fill-year invariant-loop decreases-loop
+shared-slice-read-fill-year : tie.Need-bounds-exposures-i invariant-loop decreases-loop
 shared-slice-read-fill-year c = omega (arith, c.before.before.before.before.before.before.before.requires.1.0.0)
 
-fill-year-requires : tie.Need-fill-year-requires invariant-loop decreases-loop
+fill-year-requires : tie.Need-fill_year-requires invariant-loop decreases-loop
 fill-year-requires c κs =
-    let d = c.before.before.before.development-years in
-    let l = c.before.before.before.before.before.loop in
+    let d = c.before.before.before.development_years-paid in
+    let l = c.before.before.before.before.before.loop-i in
     let s = c.before.before.before.before.before.before.before in
-    let e = c.before.before.lesser.ensures in
+    let e = c.before.before.lesser-count.ensures in
     let inside = year_within s.args.years l.i (omega arith) in
     (omega (arith, e, d.ensures.1), (omega (arith, e, l.invariant.1, d.ensures.0, s.requires.1.0.1, inside), (s.requires.1.1.0.1, s.requires.1.1.0.0 _ (omega arith))))
 
-add_at : tie.Need-overflow-add-at invariant-loop decreases-loop
+add_at : tie.Need-overflow_add-at invariant-loop decreases-loop
 add_at c =
-    let l = c.before.before.before.before.before.before.loop in
+    let l = c.before.before.before.before.before.before.loop-i in
     let s = c.before.before.before.before.before.before.before.before in
-    omega (arith, l.invariant.1, start_most s.args.years l.i, c.before.before.before.before.development-years.ensures.1)
+    omega (arith, l.invariant.1, start_most s.args.years l.i, c.before.before.before.before.development_years-paid.ensures.1)
 
-add-i : tie.Need-overflow-add-i invariant-loop decreases-loop
+add-i : tie.Need-overflow_step-i invariant-loop decreases-loop
 add-i c = omega arith
 
-loop-less : tie.Need-loop-smaller invariant-loop decreases-loop
+loop-less : tie.Need-loop-i-smaller invariant-loop decreases-loop
 loop-less c = omega arith
 
-loop-again : tie.Need-loop-preserved invariant-loop decreases-loop
+loop-again : tie.Need-loop-i-preserved invariant-loop decreases-loop
 loop-again c =
-    let d = c.before.before.before.before.development-years in
-    let l = c.before.before.before.before.before.before.loop in
+    let d = c.before.before.before.before.development_years-paid in
+    let l = c.before.before.before.before.before.before.loop-i in
     let s = c.before.before.before.before.before.before.before.before in
     let years = s.args.years in (
       omega arith,
       rw (l.invariant.1, d.ensures.0) (sym (start_more years l.i)),
-      more-years years s.args.width s.args.exposures.now s.args.cells.now l.i l.at (omega arith) l.invariant.1 l.rows _ l.invariant.2 (rw (c.before.before.before.lesser.ensures, d.ensures.0) at c.fill-year.ensures),
+      more-years years s.args.width s.args.exposures.now s.args.cells.now l.i l.at (omega arith) l.invariant.1 l.rows _ l.invariant.2 (rw (c.before.before.before.lesser-count.ensures, d.ensures.0) at c.fill_year.ensures),
     )
 
 returns : tie.Need-returns invariant-loop decreases-loop
 returns c =
-    let e : c.before.loop.i ≡ c.before.before.before.args.years = omega arith in
-    rw e at c.before.loop.invariant.2
+    let e : c.before.loop-i.i ≡ c.before.before.before.args.years = omega arith in
+    rw e at c.before.loop-i.invariant.2
 
-pub fill-history-spec : {M : Type 1} → statement M
-fill-history-spec =
+pub fill_history_spec : {M : Type 1} → statement M
+fill_history_spec =
     tie.close
     (tie.spec
     invariant-loop

@@ -15,23 +15,23 @@ use Rattle.laws.proofs.Signed.{held, size_fits}
 use Rattle.history_averages.proofs.fill_year.Statement.{statement}
 use Rattle.history_averages.proofs.fill_year.Tie as tie
 
-abbrev invariant-loop : tie.invariant-loop
+abbrev invariant-loop : tie.invariant-loop-j
 invariant-loop row₀ cells at count claims j₀ row j = (j ≤ count) × (row ≡ sets row₀ 0 (up_to (λ c. average_of (get_or cells (at + c) (pos 0)) claims) j))
 
-abbrev decreases-loop : tie.decreases-loop
+abbrev decreases-loop : tie.decreases-loop-j
 decreases-loop row₀ cells at count claims j₀ row j = count - j
 
-loop-holds : tie.Need-loop-init invariant-loop decreases-loop
+loop-holds : tie.Need-loop-j-init invariant-loop decreases-loop
 unfolding up_to
 loop-holds c = (omega arith, refl)
 
-add-average : tie.Need-overflow-add-average invariant-loop decreases-loop
+add-average : tie.Need-overflow_add-at invariant-loop decreases-loop
 add-average c = search rules
 
-mul-average : tie.Need-overflow-mul-average invariant-loop decreases-loop
+mul-average : tie.Need-offset_bounds-cells-at invariant-loop decreases-loop
 mul-average c = search rules
 
-shared-slice-copy-out-average : tie.Need-shared-slice-copy-out-average invariant-loop decreases-loop
+shared-slice-copy-out-average : tie.Need-bounds-cells-at invariant-loop decreases-loop
 shared-slice-copy-out-average c = search rules
 
 -- an increment as it is read
@@ -41,37 +41,37 @@ read s place = to_z-of_z (size_fits (get_or s.args.cells.now place (pos 0)) (ome
 average-requires : tie.Need-average-requires invariant-loop decreases-loop
 average-requires c κs =
     let s = c.before.before.before in
-    let place = s.args.at + c.before.before.loop.j in
+    let place = s.args.at + c.before.before.loop-j.j in
     (rw (read s place) (s.requires.1.1.0 place), s.requires.1.1.1)
 
-mul-t13 : tie.Need-overflow-mul-t13 invariant-loop decreases-loop
+mul-t13 : tie.Need-offset_bounds-row-j invariant-loop decreases-loop
 mul-t13 c = search rules
 
-element-set-from-row : tie.Need-element-set-from-row invariant-loop decreases-loop
+element-set-from-row : tie.Need-bounds-row-j invariant-loop decreases-loop
 element-set-from-row c = search rules
 
-add-j : tie.Need-overflow-add-j invariant-loop decreases-loop
+add-j : tie.Need-overflow_step-j invariant-loop decreases-loop
 add-j c = search rules
 
-loop-less : tie.Need-loop-smaller invariant-loop decreases-loop
+loop-less : tie.Need-loop-j-smaller invariant-loop decreases-loop
 loop-less c = search rules
 
-loop-again : tie.Need-loop-preserved invariant-loop decreases-loop
+loop-again : tie.Need-loop-j-preserved invariant-loop decreases-loop
 loop-again c =
     let s = c.before.before.before.before in
-    let l = c.before.before.before.loop in
-    let kept = to_z-of_z {w = w64} {z = c.average.result} (sfits_of c.average.type-inv) in (
+    let l = c.before.before.before.loop-j in
+    let kept = to_z-of_z {w = w64} {z = c.average.result} (sfits_of c.average.type_inv) in (
       omega arith,
       rw (kept, c.average.ensures.0, read s (s.args.at + l.j), l.invariant.1) (first_more (λ r. average_of (get_or s.args.cells.now (s.args.at + r) (pos 0)) s.args.claims) s.args.row.now l.j),
     )
 
 returns : tie.Need-returns invariant-loop decreases-loop
 returns c =
-    let e : c.before.loop.j ≡ c.before.before.args.count = omega arith in
-    rw e at c.before.loop.invariant.1
+    let e : c.before.loop-j.j ≡ c.before.before.args.count = omega arith in
+    rw e at c.before.loop-j.invariant.1
 
-pub fill-year-spec : {M : Type 1} → statement M
-fill-year-spec =
+pub fill_year_spec : {M : Type 1} → statement M
+fill_year_spec =
     tie.close
     (tie.spec
     invariant-loop

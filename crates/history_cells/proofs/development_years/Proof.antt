@@ -5,16 +5,16 @@ use Rattle.rules.specs.History.{development_years}
 use Rattle.history_cells.proofs.development_years.Statement.{statement}
 use Rattle.history_cells.proofs.development_years.Tie as tie
 
-sub-paid : tie.Need-overflow-sub-paid
+sub-paid : tie.Need-overflow_sub-paid
 sub-paid c = search rules
 
-returns : tie.Need-returns
+returns : tie.Need-returns-then-paid-lt-MOST_WIDTH
 unfolding development_years
 returns c = search rules
 
-returns-2 : tie.Need-returns-2
+returns-2 : tie.Need-returns-else-paid-lt-MOST_WIDTH
 unfolding development_years
 returns-2 c = search rules
 
-pub development-years-spec : {M : Type 1} → statement M
-development-years-spec = tie.close (tie.spec sub-paid returns returns-2)
+pub development_years_spec : {M : Type 1} → statement M
+development_years_spec = tie.close (tie.spec sub-paid returns returns-2)

@@ -22,37 +22,37 @@ use Rattle.history_csv.proofs.put_entry_lines.Tie as tie
 abbrev line_at : List ℕ → List ℕ → ℕ → List ℤ → ℕ → ℕ → ℕ → ℕ → List ℕ
 line_at name unit first list width a e j = csv_line name unit true true (first + a) j (position_entry list width a (e + j))
 
-abbrev invariant-loop : tie.invariant-loop
+abbrev invariant-loop : tie.invariant-loop-j
 invariant-loop out₀ at name unit first list width a e n end₀ j₀ out end j =
     (j ≤ n) × Put out₀ out at end (joined (up_to (line_at name unit first list width a e) j))
 
-abbrev decreases-loop : tie.decreases-loop
+abbrev decreases-loop : tie.decreases-loop-j
 decreases-loop out₀ at name unit first list width a e n end₀ j₀ out end j = n - j
 
-loop-holds : tie.Need-loop-init invariant-loop decreases-loop
+loop-holds : tie.Need-loop-j-init invariant-loop decreases-loop
 loop-holds c = (omega arith, put_first _ _ _)
 
-entry-of-requires : tie.Need-entry-of-requires invariant-loop decreases-loop
+entry-of-requires : tie.Need-entry_of-z-requires invariant-loop decreases-loop
 entry-of-requires c κs = (c.before.before.before.before.before.requires.0, omega (arith, c.before.before.before.before.before.requires.1.1))
 
-loop-again : tie.Need-loop-preserved invariant-loop decreases-loop
+loop-again : tie.Need-loop-j-preserved invariant-loop decreases-loop
 loop-again c =
     let s = c.before.before.before.before.before.before.before.before.before.before.args in
-    let l = c.before.before.before.before.before.before.loop in
-    let kept : to_z w64 (of_z w64 c.before.before.before.before.entry_of.result) ≡ position_entry s.list.now s.width s.a (s.e + l.j) = to_z-of_z (sfits_of c.before.before.before.before.entry_of.type-inv) ∙ c.before.before.before.before.entry_of.ensures in
-    (omega arith, put_more (line_at s.name.now s.unit.now s.first s.list.now s.width s.a s.e) l.j l.invariant.1 (rw kept at c.before.before.put-line.ensures))
+    let l = c.before.before.before.before.before.before.loop-j in
+    let kept : to_z w64 (of_z w64 c.before.before.before.before.entry_of-z.result) ≡ position_entry s.list.now s.width s.a (s.e + l.j) = to_z-of_z (sfits_of c.before.before.before.before.entry_of-z.type_inv) ∙ c.before.before.before.before.entry_of-z.ensures in
+    (omega arith, put_more (line_at s.name.now s.unit.now s.first s.list.now s.width s.a s.e) l.j l.invariant.1 (rw kept at c.before.before.put_line-end.ensures))
 
-same_length : tie.Need-same-length invariant-loop decreases-loop
-same_length c = put_length c.before.loop.invariant.1
+same_length : tie.Need-shape_of-out invariant-loop decreases-loop
+same_length c = put_length c.before.loop-j.invariant.1
 
 returns : tie.Need-returns invariant-loop decreases-loop
 unfolding entry_lines
 returns c =
-    let e : c.before.loop.j ≡ c.before.before.before.before.before.args.n = omega arith in
-    rw e at c.before.loop.invariant.1
+    let e : c.before.loop-j.j ≡ c.before.before.before.before.before.args.n = omega arith in
+    rw e at c.before.loop-j.invariant.1
 
-pub put-entry-lines-spec : {M : Type 1} → statement M
-put-entry-lines-spec =
+pub put_entry_lines_spec : {M : Type 1} → statement M
+put_entry_lines_spec =
     tie.close
     (tie.spec
     invariant-loop

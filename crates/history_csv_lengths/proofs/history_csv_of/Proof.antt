@@ -11,14 +11,14 @@ returns : tie.Need-returns
 returns c =
     let s = c.before.before in
     let a = s.args in
-    let room = c.before.put-history-csv-arg.given.0.1 in
+    let room = c.before.put_history_csv-arg-1.given.1 in
     let most = csv_most a.first a.years a.width a.list.now s.requires in (
-      (omega (arith, most, c.put-history-csv.ensures.ended), put_back c.put-history-csv.ensures (omega (arith, most, room))),
-      put_length c.put-history-csv.ensures ∙ room,
+      (omega (arith, most, c.put_history_csv.ensures.ended), put_back c.put_history_csv.ensures (omega (arith, most, room))),
+      put_length c.put_history_csv.ensures ∙ room,
     )
 
-pub history-csv-of-spec : {M : Type 1} → statement M
-history-csv-of-spec =
+pub history_csv_of_spec : {M : Type 1} → statement M
+history_csv_of_spec =
     tie.close
     (tie.spec
     (λ c κs. search rules)

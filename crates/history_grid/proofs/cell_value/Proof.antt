@@ -7,16 +7,16 @@ use Rattle.history_grid.specs.Grid.{cell_value}
 use Rattle.history_grid.proofs.cell_value.Statement.{statement}
 use Rattle.history_grid.proofs.cell_value.Tie as tie
 
-returns : tie.Need-returns
+returns : tie.Need-returns-then-j-width
 unfolding cell_value
-returns c = rw (eq-eqb _ _ c.before.if1.true) (to_z-of_z (sfits_of c.entry_of.type-inv) ∙ c.entry_of.ensures)
+returns c = rw (eq-eqb _ _ c.before.if-j-width.true) (to_z-of_z (sfits_of c.entry_of.type_inv) ∙ c.entry_of.ensures)
 
-returns-2 : tie.Need-returns-2
+returns-2 : tie.Need-returns-else-j-width
 unfolding cell_value
-returns-2 c = rw (ne_eqb _ _ c.before.if1.false) (to_z-of_z (sfits_of c.entry-of2.type-inv) ∙ c.entry-of2.ensures)
+returns-2 c = rw (ne_eqb _ _ c.before.if-j-width.false) (to_z-of_z (sfits_of c.entry_of-else-j-width.type_inv) ∙ c.entry_of-else-j-width.ensures)
 
-pub cell-value-spec : {M : Type 1} → statement M
-cell-value-spec =
+pub cell_value_spec : {M : Type 1} → statement M
+cell_value_spec =
     tie.close
     (tie.spec
     (λ c κs. search rules)

@@ -20,66 +20,66 @@ use Rattle.history_grid.proofs.grid_values.Tie as tie
 abbrev at_place : List ℤ → ℕ → ℕ → ℕ → ℕ → ℤ
 at_place list width offset from p = cell_value list width offset (from + p / (width + 1)) (p % (width + 1))
 
-abbrev invariant-loop : tie.invariant-loop
+abbrev invariant-loop : tie.invariant-loop-p
 invariant-loop list width offset from n columns places values₀ p₀ values p =
     (p ≤ n * (width + 1)) × (values ≡ padded most_places (pos 0) (up_to (at_place list width offset from) p))
 
-abbrev decreases-loop : tie.decreases-loop
+abbrev decreases-loop : tie.decreases-loop-p
 decreases-loop list width offset from n columns places values₀ p₀ values p = places - p
 
-mul-places : tie.Need-overflow-mul-places invariant-loop decreases-loop
+mul-places : tie.Need-overflow_mul-places invariant-loop decreases-loop
 mul-places c = record { fits = omega (arith, places_most c.args.width c.args.from c.args.n c.requires.0) }
 
-loop-holds : tie.Need-loop-init invariant-loop decreases-loop
+loop-holds : tie.Need-loop-p-init invariant-loop decreases-loop
 loop-holds c = (omega arith, filled_none most_places (pos 0) _)
 
-add-cell-value : tie.Need-overflow-add-cell-value invariant-loop decreases-loop
+add-cell-value : tie.Need-overflow_add-from invariant-loop decreases-loop
 add-cell-value c =
     let s = c.before.before in
-    let l = c.before.loop in
+    let l = c.before.loop-p in
     record { fits = omega (arith, row_few s.args.width s.args.from s.args.n s.requires.0 l.p (omega arith), s.requires.0.inside) }
 
-cell-value-requires : tie.Need-cell-value-requires invariant-loop decreases-loop
+cell-value-requires : tie.Need-cell_value-requires invariant-loop decreases-loop
 cell-value-requires c κs =
     let s = c.before.before in
-    let l = c.before.loop in
+    let l = c.before.loop-p in
     (row_inside s.args.width s.args.from s.args.n s.requires.0 l.p (omega arith), (s.requires.1, column_few s.args.width s.args.from s.args.n s.requires.0 l.p (omega arith)))
 
-mul-values : tie.Need-overflow-mul-values invariant-loop decreases-loop
+mul-values : tie.Need-offset_bounds-values-p invariant-loop decreases-loop
 mul-values c =
     let s = c.before.before.before in
-    let l = c.before.before.loop in
+    let l = c.before.before.loop-p in
     record { fits = omega (arith, places_most s.args.width s.args.from s.args.n s.requires.0) }
 
-array-set-from-values : tie.Need-array-set-from-values invariant-loop decreases-loop
+array-set-from-values : tie.Need-bounds-values-p invariant-loop decreases-loop
 array-set-from-values c =
     let s = c.before.before.before in
-    let l = c.before.before.loop in
+    let l = c.before.before.loop-p in
     omega (arith, places_most s.args.width s.args.from s.args.n s.requires.0)
 
-add-p : tie.Need-overflow-add-p invariant-loop decreases-loop
+add-p : tie.Need-overflow_step-p invariant-loop decreases-loop
 add-p c =
     let s = c.before.before.before in
-    let l = c.before.before.loop in
+    let l = c.before.before.loop-p in
     record { fits = omega (arith, places_most s.args.width s.args.from s.args.n s.requires.0) }
 
-loop-again : tie.Need-loop-preserved invariant-loop decreases-loop
+loop-again : tie.Need-loop-p-preserved invariant-loop decreases-loop
 loop-again c =
     let s = c.before.before.before in
-    let l = c.before.before.loop in
+    let l = c.before.before.loop-p in
     let f = at_place s.args.list.now s.args.width s.args.offset s.args.from in
-    let value : to_z w64 (of_z w64 c.cell-value.result) ≡ f l.p = to_z-of_z (sfits_of c.cell-value.type-inv) ∙ c.cell-value.ensures in
+    let value : to_z w64 (of_z w64 c.cell_value.result) ≡ f l.p = to_z-of_z (sfits_of c.cell_value.type_inv) ∙ c.cell_value.ensures in
     (omega arith, rw (value, l.invariant.1) (filled_more most_places (pos 0) f l.p (omega (arith, places_most s.args.width s.args.from s.args.n s.requires.0))))
 
 returns : tie.Need-returns invariant-loop decreases-loop
 unfolding grid_values
 returns c =
     let s = c.before.before in
-    let e : c.before.loop.p ≡ s.args.n * (s.args.width + 1) = omega arith in
-    rw e at c.before.loop.invariant.1
+    let e : c.before.loop-p.p ≡ s.args.n * (s.args.width + 1) = omega arith in
+    rw e at c.before.loop-p.invariant.1
 
-pub grid-values-spec : {M : Type 1} → statement M
-grid-values-spec =
+pub grid_values_spec : {M : Type 1} → statement M
+grid_values_spec =
     tie.close
     (tie.spec
     invariant-loop

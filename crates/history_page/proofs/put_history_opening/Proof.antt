@@ -7,10 +7,10 @@ use Rattle.history_page.proofs.put_history_opening.Tie as tie
 
 returns : tie.Need-returns
 unfolding history_opening
-returns c = put_append c.before.before.before.before.before.before.put-history-years.ensures c.before.before.put-history-width.ensures
+returns c = put_append c.before.before.before.before.before.before.put_history_years-end.ensures c.before.before.put_history_width.ensures
 
-pub put-history-opening-spec : {M : Type 1} → statement M
-put-history-opening-spec =
+pub put_history_opening_spec : {M : Type 1} → statement M
+put_history_opening_spec =
     tie.close
     (tie.spec
     (λ c κs. search rules)

@@ -7,12 +7,12 @@ use borrow.Author.Rules.{rules}
 use Rattle.history_page.proofs.put_history_page.Statement.{statement}
 use Rattle.history_page.proofs.put_history_page.Tie as tie
 
-put-history-opening-requires : tie.Need-put-history-opening-requires
+put-history-opening-requires : tie.Need-put_history_opening-b-requires
 put-history-opening-requires c κs =
     let w = c.before.before.before.before.before.before.before.requires.0 in
     (omega (arith, w.width_least, w.width_fits), (w.years_most, w.first_most))
 
-put-refusal-section-requires : tie.Need-put-refusal-section-requires
+put-refusal-section-requires : tie.Need-put_refusal_section-e-requires
 put-refusal-section-requires c κs =
     let w = c.before.before.before.before.before.before.before.before.before.before.before.before.before.before.before.before.before.before.before.requires.0 in
     (omega (arith, w.years_most, w.width_fits), w.width_most_lem)
@@ -20,11 +20,11 @@ put-refusal-section-requires c κs =
 returns : tie.Need-returns
 unfolding history_page position_count
 returns c =
-    put_append c.before.before.before.before.before.before.before.before.before.before.before.before.before.before.before.before.before.before.before.before.before.before.put-history-start.ensures
-    (put_five c.before.before.before.before.before.before.before.before.before.before.before.before.before.before.before.before.before.before.put-history-opening.ensures c.before.before.before.before.before.before.before.before.before.before.before.before.before.before.put-share-section.ensures c.before.before.before.before.before.before.before.before.before.before.put-level-section.ensures c.before.before.before.before.before.before.put-refusal-section.ensures c.before.before.put-page-end.ensures)
+    put_append c.before.before.before.before.before.before.before.before.before.before.before.before.before.before.before.before.before.before.before.before.before.before.put_history_start-a.ensures
+    (put_five c.before.before.before.before.before.before.before.before.before.before.before.before.before.before.before.before.before.before.put_history_opening-b.ensures c.before.before.before.before.before.before.before.before.before.before.before.before.before.before.put_share_section-c.ensures c.before.before.before.before.before.before.before.before.before.before.put_level_section-d.ensures c.before.before.before.before.before.before.put_refusal_section-e.ensures c.before.before.put_page_end.ensures)
 
-pub put-history-page-spec : {M : Type 1} → statement M
-put-history-page-spec =
+pub put_history_page_spec : {M : Type 1} → statement M
+put_history_page_spec =
     tie.close
     (tie.spec
     (λ c κs. search rules)

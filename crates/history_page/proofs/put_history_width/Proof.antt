@@ -7,18 +7,14 @@ use Rattle.history_page.proofs.put_history_width.Tie as tie
 
 returns : tie.Need-returns
 unfolding history_width
-returns c = put_three c.before.before.before.before.before.before.before.before.before.before.before.before.put-either.ensures c.before.before.before.before.before.before.before.before.put-decimal.ensures c.before.before.put-either2.ensures
+returns c = put_three c.before.before.before.before.before.before.before.before.before.before.before.before.before.before.put_either-a.ensures c.before.before.before.before.before.before.before.before.before.before.put_decimal-b.ensures c.before.before.put_either.ensures
 
-pub put-history-width-spec : {M : Type 1} → statement M
-put-history-width-spec =
+pub put_history_width_spec : {M : Type 1} → statement M
+put_history_width_spec =
     tie.close
     (tie.spec
-    (λ c. search rules)
-    (λ c. search rules)
     (λ c κs. search rules)
     (λ c κs. search rules)
-    (λ c. search rules)
-    (λ c. search rules)
     (λ c κs. search rules)
     (λ c. search rules)
     returns)

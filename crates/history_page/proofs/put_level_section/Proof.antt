@@ -8,15 +8,13 @@ use Rattle.history_page.proofs.put_level_section.Tie as tie
 returns : tie.Need-returns
 unfolding level_section level_paragraph
 returns c =
-    put_four c.before.before.before.before.before.before.before.before.before.before.before.before.before.before.before.put-section-start.ensures c.before.before.before.before.before.before.before.before.before.before.put-Only.ensures c.before.before.before.before.before.before.put-level-tables.ensures c.before.before.put-section-end.ensures
+    put_four c.before.before.before.before.before.before.before.before.before.before.before.before.before.before.before.before.put_section_start-a.ensures c.before.before.before.before.before.before.before.before.before.before.put_only-b.ensures c.before.before.before.before.before.before.put_level_tables-c.ensures c.before.before.put_section_end.ensures
 
-pub put-level-section-spec : {M : Type 1} → statement M
-put-level-section-spec =
+pub put_level_section_spec : {M : Type 1} → statement M
+put_level_section_spec =
     tie.close
     (tie.spec
-    (λ c. search rules)
     (λ c κs. search rules)
-    (λ c. search rules)
     (λ c κs. search rules)
     (λ c κs. search rules)
     (λ c κs. search rules)

@@ -8,15 +8,13 @@ use Rattle.history_page.proofs.put_share_section.Tie as tie
 returns : tie.Need-returns
 unfolding share_section share_paragraph
 returns c =
-    put_five c.before.before.before.before.before.before.before.before.before.before.before.before.before.before.before.before.before.before.before.put-section-start.ensures c.before.before.before.before.before.before.before.before.before.before.before.before.before.before.put-Only.ensures c.before.before.before.before.before.before.before.before.before.before.put-share-tables.ensures c.before.before.before.before.before.before.put-drift.ensures c.before.before.put-section-end.ensures
+    put_five c.before.before.before.before.before.before.before.before.before.before.before.before.before.before.before.before.before.before.before.before.put_section_start-a.ensures c.before.before.before.before.before.before.before.before.before.before.before.before.before.before.put_only-b.ensures c.before.before.before.before.before.before.before.before.before.before.put_share_tables-c.ensures c.before.before.before.before.before.before.put_drift-d.ensures c.before.before.put_section_end.ensures
 
-pub put-share-section-spec : {M : Type 1} → statement M
-put-share-section-spec =
+pub put_share_section_spec : {M : Type 1} → statement M
+put_share_section_spec =
     tie.close
     (tie.spec
-    (λ c. search rules)
     (λ c κs. search rules)
-    (λ c. search rules)
     (λ c κs. search rules)
     (λ c κs. search rules)
     (λ c κs. search rules)

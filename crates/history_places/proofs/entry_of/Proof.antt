@@ -7,24 +7,24 @@ use Rattle.history_places.proofs.Inside.{entry_inside}
 use Rattle.history_places.proofs.entry_of.Statement.{statement}
 use Rattle.history_places.proofs.entry_of.Tie as tie
 
-mul-result-2 : tie.Need-overflow-mul-result-2
+mul-result-2 : tie.Need-overflow_mul-result-2
 mul-result-2 c = record { fits = omega (arith, entry_inside c.args.width c.args.a c.args.e c.requires.0 c.requires.1) }
 
-add-result-2 : tie.Need-overflow-add-result-2
+add-result-2 : tie.Need-overflow_add-result-2
 add-result-2 c = record { fits = omega (arith, entry_inside c.args.width c.args.a c.args.e c.requires.0 c.requires.1) }
 
-mul-result-3 : tie.Need-overflow-mul-result-3
+mul-result-3 : tie.Need-offset_bounds-list-a
 mul-result-3 c = record { fits = omega (arith, entry_inside c.args.width c.args.a c.args.e c.requires.0 c.requires.1) }
 
-element-copy-out-result : tie.Need-element-copy-out-result
+element-copy-out-result : tie.Need-bounds-list-a
 element-copy-out-result c = entry_inside c.args.width c.args.a c.args.e c.requires.0 c.requires.1
 
 returns : tie.Need-returns
 unfolding position_entry
-returns c = to_z-of_z (sfits_of c.result.given)
+returns c = to_z-of_z (sfits_of c.result-1.given)
 
-pub entry-of-spec : {M : Type 1} → statement M
-entry-of-spec =
+pub entry_of_spec : {M : Type 1} → statement M
+entry_of_spec =
     tie.close
     (tie.spec
     (λ c. search rules)

@@ -6,16 +6,16 @@ use Rattle.history_places.specs.Places.{refused}
 use Rattle.history_places.proofs.is_refused.Statement.{statement}
 use Rattle.history_places.proofs.is_refused.Tie as tie
 
-returns : tie.Need-returns
+returns : tie.Need-returns-then-number_of-eq0
 unfolding refused
-returns c = rw (eq-eqb _ 0 (sym c.before.number_of_lem.ensures ∙ c.if1.true))
+returns c = rw (eq-eqb _ 0 (sym c.before.number_of_lem.ensures ∙ c.if-number_of-eq0.true))
 
-returns-2 : tie.Need-returns-2
+returns-2 : tie.Need-returns-else-number_of-eq0
 unfolding refused
-returns-2 c = rw (ne_eqb _ 0 (λ e. c.if1.false (c.before.number_of_lem.ensures ∙ e)))
+returns-2 c = rw (ne_eqb _ 0 (λ e. c.if-number_of-eq0.false (c.before.number_of_lem.ensures ∙ e)))
 
-pub is-refused-spec : {M : Type 1} → statement M
-is-refused-spec =
+pub is_refused_spec : {M : Type 1} → statement M
+is_refused_spec =
     tie.close
     (tie.spec
     (λ c κs. search rules)

@@ -9,10 +9,10 @@ use Rattle.history_places.proofs.number_of.Tie as tie
 
 returns : tie.Need-returns
 unfolding number_of
-returns c = c.type_size.ensures ∙ ap nat_abs (to_z-of_z (sfits_of c.before.entry_of.type-inv) ∙ c.before.entry_of.ensures)
+returns c = c.type_size.ensures ∙ ap nat_abs (to_z-of_z (sfits_of c.before.entry_of.type_inv) ∙ c.before.entry_of.ensures)
 
-pub number-of-spec : {M : Type 1} → statement M
-number-of-spec =
+pub number_of_spec : {M : Type 1} → statement M
+number_of_spec =
     tie.close
     (tie.spec
     (λ c κs. search rules)

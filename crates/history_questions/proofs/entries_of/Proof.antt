@@ -12,19 +12,19 @@ use Rattle.history_questions.proofs.entries_of.Tie as tie
 known : (s : tie.Start) → Widths s.args.years s.args.width
 known s = widths_known s.args.years s.args.width s.requires
 
-sub-result : tie.Need-overflow-sub-result
+sub-result : tie.Need-overflow_sub-result
 sub-result c = omega (arith, (known c).within)
 
-add-result : tie.Need-overflow-add-result
+add-result : tie.Need-overflow_add-result
 add-result c = omega (arith, (known c).few)
 
-mul-result : tie.Need-overflow-mul-result
+mul-result : tie.Need-overflow_mul-result
 mul-result c = omega (arith, (known c).narrow)
 
-add-result-2 : tie.Need-overflow-add-result-2
+add-result-2 : tie.Need-overflow_add-result-2
 add-result-2 c = omega (arith, (known c).narrow)
 
-mul-result-2 : tie.Need-overflow-mul-result-2
+mul-result-2 : tie.Need-overflow_mul-result-2
 mul-result-2 c =
     let k = known c in
     let most : (c.args.years - c.args.width + 1) * (1 + 2 * c.args.width) ≤ 65 * 33 = mul-le-mul {n₂ = 65} {m₂ = 33} (omega (arith, k.few)) (omega (arith, k.narrow)) in
@@ -34,5 +34,5 @@ returns : tie.Need-returns
 unfolding history_count position_count
 returns c = refl
 
-pub entries-of-spec : {M : Type 1} → statement M
-entries-of-spec = tie.close (tie.spec sub-result add-result mul-result add-result-2 mul-result-2 returns)
+pub entries_of_spec : {M : Type 1} → statement M
+entries_of_spec = tie.close (tie.spec sub-result add-result mul-result add-result-2 mul-result-2 returns)

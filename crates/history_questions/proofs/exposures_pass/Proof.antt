@@ -16,5 +16,5 @@ returns : tie.Need-returns
 unfolding in_range
 returns c = c.within.ensures ∙ ap (every (between 1 million)) (take_all (length c.before.before.args.exposures.now) c.before.before.args.exposures.now (omega arith))
 
-pub exposures-pass-spec : {M : Type 1} → statement M
-exposures-pass-spec = tie.close (tie.spec within-requires returns)
+pub exposures_pass_spec : {M : Type 1} → statement M
+exposures_pass_spec = tie.close (tie.spec within-requires returns)

@@ -17,56 +17,56 @@ use Rattle.history_questions.proofs.Passed.{increment_range}
 use Rattle.history_questions.proofs.increments_pass.Statement.{statement}
 use Rattle.history_questions.proofs.increments_pass.Tie as tie
 
-abbrev invariant-loop : tie.invariant-loop
+abbrev invariant-loop : tie.invariant-loop-i
 invariant-loop cells n i₀ i = (i ≤ n) × (every (in_range increment) (take i cells) ≡ true)
 
-abbrev decreases-loop : tie.decreases-loop
+abbrev decreases-loop : tie.decreases-loop-i
 decreases-loop cells n i₀ i = n - i
 
-loop-holds : tie.Need-loop-init invariant-loop decreases-loop
+loop-holds : tie.Need-loop-i-init invariant-loop decreases-loop
 unfolding every
 loop-holds c = (omega arith, refl)
 
-mul-size-of : tie.Need-overflow-mul-size-of invariant-loop decreases-loop
+mul-size-of : tie.Need-offset_bounds-cells-i invariant-loop decreases-loop
 mul-size-of c = search rules
 
-shared-slice-copy-out-size-of : tie.Need-shared-slice-copy-out-size-of invariant-loop decreases-loop
+shared-slice-copy-out-size-of : tie.Need-bounds-cells-i invariant-loop decreases-loop
 shared-slice-copy-out-size-of c = search rules
 
-size-of-requires : tie.Need-size-of-requires invariant-loop decreases-loop
+size-of-requires : tie.Need-size_of-requires invariant-loop decreases-loop
 size-of-requires c κs = tt
 
 -- the size as it was read
-size-read : (c : tie.After-size-of invariant-loop decreases-loop) → c.type_size.result ≡ nat_abs (get_or c.before.before.before.before.args.cells.now c.before.before.before.loop.i (pos 0))
-size-read c = c.type_size.ensures ∙ rw (to_z-of_z {w = w64} (sfits_of c.before.size-of-arg.given))
+size-read : (c : tie.After-size_of invariant-loop decreases-loop) → c.type_size.result ≡ nat_abs (get_or c.before.before.before.before.args.cells.now c.before.before.before.loop-i.i (pos 0))
+size-read c = c.type_size.ensures ∙ rw (to_z-of_z {w = w64} (sfits_of c.before.size_of-arg-1.given))
 
-returns : tie.Need-returns invariant-loop decreases-loop
+returns : tie.Need-returns-then-size_of-gt-MOST_AMOUNT invariant-loop decreases-loop
 returns c =
-    let t = c.before in
-    let s = t.before.before.before.before in
-    let i = t.before.before.before.loop.i in
+    let t = c.before.before.before.before in
+    let s = t.before in
+    let i = t.loop-i.i in
     let z = get_or s.args.cells.now i (pos 0) in
     sym (every_fails (in_range increment) s.args.cells.now i (pos 0) (omega arith) (increment_range z ∙ lt-leb (nat_abs z) most_amount (omega (arith, size-read t))))
 
-add-i : tie.Need-overflow-add-i invariant-loop decreases-loop
+add-i : tie.Need-overflow_step-i invariant-loop decreases-loop
 add-i c = search rules
 
-loop-less : tie.Need-loop-smaller invariant-loop decreases-loop
+loop-less : tie.Need-loop-i-smaller invariant-loop decreases-loop
 loop-less c = search rules
 
-loop-again : tie.Need-loop-preserved invariant-loop decreases-loop
+loop-again : tie.Need-loop-i-preserved invariant-loop decreases-loop
 loop-again c =
-    let t = c.before in
-    let s = t.before.before.before.before in
-    let l = t.before.before.before.loop in
+    let t = c.before.before.before.before in
+    let s = t.before in
+    let l = t.loop-i in
     let z = get_or s.args.cells.now l.i (pos 0) in
     (omega arith, every_more (in_range increment) s.args.cells.now l.i (pos 0) (omega arith) l.invariant.1 (increment_range z ∙ le-leb (nat_abs z) most_amount (omega (arith, size-read t))))
 
-returns-2 : tie.Need-returns-2 invariant-loop decreases-loop
+returns-2 : tie.Need-returns invariant-loop decreases-loop
 returns-2 c =
     let s = c.before.before in
-    let e : take c.before.loop.i s.args.cells.now ≡ s.args.cells.now = take_all c.before.loop.i s.args.cells.now (omega arith) in
-    sym (rw e at c.before.loop.invariant.1)
+    let e : take c.before.loop-i.i s.args.cells.now ≡ s.args.cells.now = take_all c.before.loop-i.i s.args.cells.now (omega arith) in
+    sym (rw e at c.before.loop-i.invariant.1)
 
-pub increments-pass-spec : {M : Type 1} → statement M
-increments-pass-spec = tie.close (tie.spec invariant-loop decreases-loop loop-holds mul-size-of shared-slice-copy-out-size-of size-of-requires returns add-i loop-less loop-again returns-2)
+pub increments_pass_spec : {M : Type 1} → statement M
+increments_pass_spec = tie.close (tie.spec invariant-loop decreases-loop loop-holds mul-size-of shared-slice-copy-out-size-of size-of-requires returns add-i loop-less loop-again returns-2)

@@ -15,46 +15,46 @@ use Rattle.history_reading.proofs.Outcomes.{wrong_taken, right_few, right_years,
 use Rattle.history_reading.proofs.take_history.Statement.{statement}
 use Rattle.history_reading.proofs.take_history.Tie as tie
 
-abbrev start : tie.After-read-text → tie.Start
+abbrev start : tie.After-read_text-f → tie.Start
 start r = r.before.before.before.before.before
 
 -- the lent list is as long as its type says
-long : (r : tie.After-read-text) → length (start r).args.list.now ≡ most_numbers
+long : (r : tie.After-read_text-f) → length (start r).args.list.now ≡ most_numbers
 long r = search rules
 
-put-wrong-requires : tie.Need-put-wrong-requires
+put-wrong-requires : tie.Need-put_wrong-said-requires
 put-wrong-requires c κs =
     let r = c.before.before.before.before.before.before.before in
-    told_asked true (start r).args.text.now _ _ _ _ (long r) r.read-text.ensures
+    told_asked true (start r).args.text.now _ _ _ _ (long r) r.read_text-f.ensures
 
-returns : tie.Need-returns
+returns : tie.Need-returns-then-f-ne0
 returns c =
     let p = c.before.before in
     let t = p.before.before.before.before.before in
     let r = t.before.before.before in
     let text = (start r).args.text.now in
-    let reads = r.read-text.ensures in
-    let w = wrong_taken text (λ e. t.if1.true (told_problem true text _ _ _ _ (long r) reads ∙ e)) in
-    (told_problem true text _ _ _ _ (long r) reads, (w.0, (w.1.0, (reads.stored, (put_same (told_wrong true text _ _ _ _ (long r) reads ∙ w.1.1) p.put_wrong.ensures, (omega arith, omega arith))))))
+    let reads = r.read_text-f.ensures in
+    let w = wrong_taken text (λ e. t.if-f-ne0.true (told_problem true text _ _ _ _ (long r) reads ∙ e)) in
+    (told_problem true text _ _ _ _ (long r) reads, (w.0, (w.1.0, (reads.stored, (put_same (told_wrong true text _ _ _ _ (long r) reads ∙ w.1.1) p.put_wrong-said.ensures, (omega arith, omega arith))))))
 
-returns-2 : tie.Need-returns-2
+returns-2 : tie.Need-returns
 returns-2 c =
     let e = c.before.before.before.before in
     let r = e.before.before.before in
     let text = (start r).args.text.now in
-    let reads = r.read-text.ensures in
+    let reads = r.read_text-f.ensures in
     let problem = told_problem true text _ _ _ _ (long r) reads in
-    let right = sym problem ∙ e.if1.false in
-    let list : List ℤ = r.read-text.new.1.1.0 in
-    let first = to_z-of_z {w = w64} {z = get_or list 0 (pos 0)} (sfits_of c.before.before.before.size-of-arg.given) in
-    let second = to_z-of_z {w = w64} {z = get_or list 1 (pos 0)} (sfits_of c.before.size-of-arg2.given) in
+    let right = sym problem ∙ e.if-f-ne0.false in
+    let list : List ℤ = r.read_text-f.new.word.1.0 in
+    let first = to_z-of_z {w = w64} {z = get_or list 0 (pos 0)} (sfits_of c.before.before.before.size_of-arg-1.given) in
+    let second = to_z-of_z {w = w64} {z = get_or list 1 (pos 0)} (sfits_of c.before.size_of-arg-2-1.given) in
     let years = c.before.before.type_size.ensures ∙ ap nat_abs first ∙ right_years text right _ list (long r) reads.stored in
-    let width = c.size-of2.ensures ∙ ap nat_abs second ∙ right_width text right _ list (long r) reads.stored in
+    let width = c.size_of-2.ensures ∙ ap nat_abs second ∙ right_width text right _ list (long r) reads.stored in
     let few = right_few text right in
     (sym right, (years, (width, (reads.stored, (put_same (right_said text right) (put_none _ 0), (omega (arith, years, few.0), omega (arith, width, few.1)))))))
 
-pub take-history-spec : {M : Type 1} → statement M
-take-history-spec =
+pub take_history_spec : {M : Type 1} → statement M
+take_history_spec =
     tie.close
     (tie.spec
     (λ c. search rules)

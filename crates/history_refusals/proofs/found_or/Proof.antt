@@ -4,14 +4,14 @@ use borrow.Author.Rules.{rules}
 use Rattle.history_refusals.proofs.found_or.Statement.{statement}
 use Rattle.history_refusals.proofs.found_or.Tie as tie
 
-returns-2 : tie.Need-returns-2
-returns-2 c = rw (c.before.if1.false, lt-leb _ _ c.if2.true)
+returns-2 : tie.Need-returns-then-x-least
+returns-2 c = rw (c.before.if-found.false, lt-leb _ _ c.if-x-least.true)
 
-returns-3 : tie.Need-returns-3
-returns-3 c = rw (c.before.if1.false, le-leb _ _ c.if2.false)
+returns-3 : tie.Need-returns-else-x-least
+returns-3 c = rw (c.before.if-found.false, le-leb _ _ c.if-x-least.false)
 
-pub found-or-spec : {M : Type 1} → statement M
-found-or-spec =
+pub found_or_spec : {M : Type 1} → statement M
+found_or_spec =
     tie.close
     (tie.spec
     (λ c. search rules)

@@ -6,16 +6,16 @@ use borrow.Author.Rules.{rules}
 use Rattle.history_refusals.proofs.put_number_line.Statement.{statement}
 use Rattle.history_refusals.proofs.put_number_line.Tie as tie
 
-returns : tie.Need-returns
+returns : tie.Need-returns-then-some_number
 unfolding number_line
-returns c = rw (sym c.before.before.before.before.before.Some-number.ensures ∙ c.before.before.before.before.if1.true) c.before.before.put-number-text.ensures
+returns c = rw (sym c.before.before.before.before.before.some_number.ensures ∙ c.before.before.before.before.if-some_number.true) c.before.before.put_number_text.ensures
 
-returns-2 : tie.Need-returns-2
+returns-2 : tie.Need-returns-else-some_number
 unfolding number_line
-returns-2 c = rw (sym c.before.Some-number.ensures ∙ c.if1.false) (put_none _ _)
+returns-2 c = rw (sym c.before.some_number.ensures ∙ c.if-some_number.false) (put_none _ _)
 
-pub put-number-line-spec : {M : Type 1} → statement M
-put-number-line-spec =
+pub put_number_line_spec : {M : Type 1} → statement M
+put_number_line_spec =
     tie.close
     (tie.spec
     (λ c κs. search rules)

@@ -5,10 +5,10 @@ use Rattle.history_refusals.proofs.put_number_lines.Statement.{statement}
 use Rattle.history_refusals.proofs.put_number_lines.Tie as tie
 
 returns : tie.Need-returns
-returns c = put_four c.before.before.before.before.before.before.before.before.before.before.before.before.before.before.put-number-line.ensures c.before.before.before.before.before.before.before.before.before.before.put-number-line2.ensures c.before.before.before.before.before.before.put-number-line3.ensures c.before.before.put-number-line4.ensures
+returns c = put_four c.before.before.before.before.before.before.before.before.before.before.before.before.before.before.put_number_line-a.ensures c.before.before.before.before.before.before.before.before.before.before.put_number_line-b.ensures c.before.before.before.before.before.before.put_number_line-c.ensures c.before.before.put_number_line.ensures
 
-pub put-number-lines-spec : {M : Type 1} → statement M
-put-number-lines-spec =
+pub put_number_lines_spec : {M : Type 1} → statement M
+put_number_lines_spec =
     tie.close
     (tie.spec
     (λ c κs. search rules)

@@ -8,22 +8,17 @@ use Rattle.history_refusals.proofs.put_number_text.Tie as tie
 returns : tie.Need-returns
 unfolding number_text
 returns c =
-    put_append c.before.before.before.before.before.before.before.before.before.before.before.before.before.before.before.before.before.before.before.before.before.before.before.before.before.before.put-Only.ensures (put_five c.before.before.before.before.before.before.before.before.before.before.before.before.before.before.before.before.before.before.before.before.before.put-bytes.ensures c.before.before.before.before.before.before.before.before.before.before.before.before.before.before.before.before.before.put-decimal.ensures c.before.before.before.before.before.before.before.before.before.before.before.before.put-bytes2.ensures c.before.before.before.before.before.before.before.before.put-question.ensures c.before.before.put-either.ensures)
+    put_append c.before.before.before.before.before.before.before.before.before.before.before.before.before.before.before.before.before.before.before.before.before.before.before.before.before.before.before.before.before.before.put_only-a.ensures (put_five c.before.before.before.before.before.before.before.before.before.before.before.before.before.before.before.before.before.before.before.before.before.before.before.before.put_bytes-b.ensures c.before.before.before.before.before.before.before.before.before.before.before.before.before.before.before.before.before.before.before.before.put_decimal-c.ensures c.before.before.before.before.before.before.before.before.before.before.before.before.before.before.put_bytes-d.ensures c.before.before.before.before.before.before.before.before.before.before.put_question-e.ensures c.before.before.put_either.ensures)
 
-pub put-number-text-spec : {M : Type 1} → statement M
-put-number-text-spec =
+pub put_number_text_spec : {M : Type 1} → statement M
+put_number_text_spec =
     tie.close
     (tie.spec
-    (λ c. search rules)
-    (λ c κs. search rules)
-    (λ c. search rules)
     (λ c κs. search rules)
     (λ c κs. search rules)
-    (λ c. search rules)
     (λ c κs. search rules)
     (λ c κs. search rules)
-    (λ c. search rules)
-    (λ c. search rules)
+    (λ c κs. search rules)
     (λ c κs. search rules)
     (λ c. search rules)
     returns)

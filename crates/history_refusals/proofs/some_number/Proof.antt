@@ -8,33 +8,33 @@ use borrow.Author.Rules.{rules}
 use Rattle.history_refusals.proofs.some_number.Statement.{statement}
 use Rattle.history_refusals.proofs.some_number.Tie as tie
 
-abbrev invariant-loop : tie.invariant-loop
+abbrev invariant-loop : tie.invariant-loop-a
 invariant-loop list width least most n found₀ a₀ found a =
     (a ≤ n) × (found ≡ some_number list width least most a)
 
-abbrev decreases-loop : tie.decreases-loop
+abbrev decreases-loop : tie.decreases-loop-a
 decreases-loop list width least most n found₀ a₀ found a = n - a
 
-loop-holds : tie.Need-loop-init invariant-loop decreases-loop
+loop-holds : tie.Need-loop-a-init invariant-loop decreases-loop
 unfolding some_number
 loop-holds c = (omega arith, refl)
 
-number-of-requires : tie.Need-number-of-requires invariant-loop decreases-loop
+number-of-requires : tie.Need-number_of-requires invariant-loop decreases-loop
 number-of-requires c κs = (omega (arith, c.before.before.requires.0), c.before.before.requires.1)
 
-loop-again : tie.Need-loop-preserved invariant-loop decreases-loop
+loop-again : tie.Need-loop-a-preserved invariant-loop decreases-loop
 unfolding some_number
 loop-again c =
-    let l = c.before.before.before.loop in
-    (omega arith, rw (c.found-or.ensures, c.before.number_of_lem.ensures, l.invariant.1, add-one l.a))
+    let l = c.before.before.before.loop-a in
+    (omega arith, rw (c.found_or-found.ensures, c.before.number_of_lem.ensures, l.invariant.1, add-one l.a))
 
 returns : tie.Need-returns invariant-loop decreases-loop
 returns c =
-    let e : c.before.loop.a ≡ c.before.before.args.n = omega arith in
-    rw e at c.before.loop.invariant.1
+    let e : c.before.loop-a.a ≡ c.before.before.args.n = omega arith in
+    rw e at c.before.loop-a.invariant.1
 
-pub some-number-spec : {M : Type 1} → statement M
-some-number-spec =
+pub some_number_spec : {M : Type 1} → statement M
+some_number_spec =
     tie.close
     (tie.spec
     invariant-loop

@@ -51,51 +51,51 @@ counted : (years width : ℕ) → (years - width + 1) * (1 + 2 * width) ≡ hist
 unfolding history_count position_count
 counted years width = refl
 
-exposures-of-requires : tie.Need-exposures-of-requires
-exposures-of-requires c κs = (c.exposures-of-arg.given.0, (known c.before).0.few)
+exposures-of-requires : tie.Need-exposures_of-exposures-requires
+exposures-of-requires c κs = (c.exposures_of-arg-1.given, (known c.before).0.few)
 
-increments-of-requires : tie.Need-increments-of-requires
-increments-of-requires c κs = (c.increments-of-arg.given.0, (known c.before.before.before).0.few)
+increments-of-requires : tie.Need-increments_of-cells-requires
+increments-of-requires c κs = (c.increments_of-arg-1.given, (known c.before.before.before).0.few)
 
-sub-m : tie.Need-overflow-sub-m
+sub-m : tie.Need-overflow_sub-m
 sub-m c = (known c.before.before.before.before).0.within
 
-add-m : tie.Need-overflow-add-m
+add-m : tie.Need-overflow_add-m
 add-m c = omega (arith, (known c.before.before.before.before).0.few)
 
-mul-m : tie.Need-overflow-mul-m
+mul-m : tie.Need-overflow_mul-m
 mul-m c = omega (arith, (known c.before.before.before.before).0.narrow)
 
-add-m-2 : tie.Need-overflow-add-m-2
+add-m-2 : tie.Need-overflow_add-m-2
 add-m-2 c = omega (arith, (known c.before.before.before.before).0.narrow)
 
-mul-m-2 : tie.Need-overflow-mul-m-2
+mul-m-2 : tie.Need-overflow_mul-m-2
 mul-m-2 c = let s = c.before.before.before.before in omega (arith, room s.args.years s.args.width (known s).0)
 
-array-share-prefix-exposures : tie.Need-array-share-prefix-exposures
+array-share-prefix-exposures : tie.Need-slice_bounds-exposures-end
 array-share-prefix-exposures c =
     let s = c.before.before.before.before in
-    let e = exposures_long s.args.years s.args.numbers.now c.before.before.exposures-of.result (known s).0.few c.before.before.exposures-of.ensures in
+    let e = exposures_long s.args.years s.args.numbers.now c.before.before.exposures_of-exposures.result (known s).0.few c.before.before.exposures_of-exposures.ensures in
     omega (arith, e.0, (known s).0.few)
 
-slice-aggregate-doonamurk-history : tie.Need-slice-aggregate-doonamurk-history
+slice-aggregate-doonamurk-history : tie.Need-slice_bounds-doonamurk_history-end
 slice-aggregate-doonamurk-history c =
     let s = c.before.before.before.before.before in
-    let e = exposures_long s.args.years s.args.numbers.now c.before.before.before.exposures-of.result (known s).0.few c.before.before.before.exposures-of.ensures in
-    sym (length-take-le s.args.years c.before.before.before.exposures-of.result (omega (arith, e.0, (known s).0.few)))
+    let e = exposures_long s.args.years s.args.numbers.now c.before.before.before.exposures_of-exposures.result (known s).0.few c.before.before.before.exposures_of-exposures.ensures in
+    sym (length-take-le s.args.years c.before.before.before.exposures_of-exposures.result (omega (arith, e.0, (known s).0.few)))
 
-slice-relend-prefix-doonamurk-history : tie.Need-slice-relend-prefix-doonamurk-history
+slice-relend-prefix-doonamurk-history : tie.Need-slice_bounds-doonamurk_history-end-2
 slice-relend-prefix-doonamurk-history c = let s = c.before.before.before.before.before in omega (arith, s.requires.0, room s.args.years s.args.width (known s).0)
 
-slice-aggregate-doonamurk-history-2 : tie.Need-slice-aggregate-doonamurk-history-2
+slice-aggregate-doonamurk-history-2 : tie.Need-slice_bounds-doonamurk_history-end-3
 slice-aggregate-doonamurk-history-2 c =
     let s = c.before.before.before.before.before.before in
     sym (length-take-le ((s.args.years - s.args.width + 1) * (1 + 2 * s.args.width)) s.args.list.now (omega (arith, s.requires.0, room s.args.years s.args.width (known s).0)))
 
-doonamurk-history-requires : tie.Need-doonamurk-history-requires
+doonamurk-history-requires : tie.Need-doonamurk_history-requires
 doonamurk-history-requires c κs = search rules
 
-same_length : tie.Need-same-length
+same_length : tie.Need-shape_of-list
 same_length c = search rules
 
 returns : tie.Need-returns
@@ -107,12 +107,12 @@ returns c =
     let n = exposures_after years vs in
     let p = increments_after years vs in
     let m = (years - width + 1) * (1 + 2 * width) in
-    let e = exposures_long years vs _ (known s).0.few c.before.before.before.before.before.before.exposures-of.ensures in
+    let e = exposures_long years vs _ (known s).0.few c.before.before.before.before.before.before.exposures_of-exposures.ensures in
     filled years width n p s.args.list.now _ m (known s).0 s.requires.1 (counted years width) (omega (arith, s.requires.0, room years width (known s).0))
-    (rw (e.1, c.before.before.before.before.increments-of.ensures) at c.before.doonamurk-history.ensures.1)
+    (rw (e.1, c.before.before.before.before.increments_of-cells.ensures) at c.before.doonamurk_history.ensures.1)
 
-pub fill-from-spec : {M : Type 1} → statement M
-fill-from-spec =
+pub fill_from_spec : {M : Type 1} → statement M
+fill_from_spec =
     tie.close
     (tie.spec
     exposures-of-requires

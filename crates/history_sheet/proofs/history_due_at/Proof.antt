@@ -8,32 +8,32 @@ use Rattle.sheet.specs.Table.{history_due_at}
 use Rattle.history_sheet.proofs.history_due_at.Statement.{statement}
 use Rattle.history_sheet.proofs.history_due_at.Tie as tie
 
-returns : tie.Need-returns
+returns : tie.Need-returns-then-place-eq0
 unfolding history_due_at
-returns c = rw (eq-eqb c.before.args.place 0 c.if1.true)
+returns c = rw (eq-eqb c.before.args.place 0 c.if-place-eq0.true)
 
-returns-2 : tie.Need-returns-2
+returns-2 : tie.Need-returns-then-place-eq1
 unfolding history_due_at
 returns-2 c =
     let i = c.before.before.before.args.place in
-    let found = c.increments-at.ensures in
-    rw (to_z_pos w64 c.increments-at.result (omega (arith, found.1)), found.0, ne_eqb i 0 c.before.before.if1.false, eq-eqb i 1 c.before.if2.true)
+    let found = c.increments_at.ensures in
+    rw (to_z_pos w64 c.increments_at.result (omega (arith, found.1)), found.0, ne_eqb i 0 c.before.before.if-place-eq0.false, eq-eqb i 1 c.before.if-place-eq1.true)
 
-returns-3 : tie.Need-returns-3
+returns-3 : tie.Need-returns-then-place-eq2
 unfolding history_due_at
 returns-3 c =
     let i = c.before.before.before.args.place in
-    rw (ne_eqb i 0 c.before.before.if1.false, ne_eqb i 1 c.before.if2.false, eq-eqb i 2 c.if3.true)
+    rw (ne_eqb i 0 c.before.before.if-place-eq0.false, ne_eqb i 1 c.before.if-place-eq1.false, eq-eqb i 2 c.if-place-eq2.true)
 
-returns-4 : tie.Need-returns-4
+returns-4 : tie.Need-returns
 unfolding history_due_at
 returns-4 c =
     let e = c.before in
     let i = e.before.before.before.args.place in
-    rw (ne_eqb i 0 e.before.before.if1.false, ne_eqb i 1 e.before.if2.false, ne_eqb i 2 e.if3.false, c.increments-at2.ensures.0)
+    rw (ne_eqb i 0 e.before.before.if-place-eq0.false, ne_eqb i 1 e.before.if-place-eq1.false, ne_eqb i 2 e.if-place-eq2.false, c.increments_at-2.ensures.0)
 
-pub history-due-at-spec : {M : Type 1} → statement M
-history-due-at-spec =
+pub history_due_at_spec : {M : Type 1} → statement M
+history_due_at_spec =
     tie.close
     (tie.spec
     (λ c. search rules)

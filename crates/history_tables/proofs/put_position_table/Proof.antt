@@ -7,9 +7,9 @@ use borrow.Author.Rules.{rules}
 use Rattle.history_tables.proofs.put_position_table.Statement.{statement}
 use Rattle.history_tables.proofs.put_position_table.Tie as tie
 
-put-table-requires : tie.Need-put-table-requires
+put-table-requires : tie.Need-put_table-requires
 put-table-requires c κs =
-    let s = c.before.before.before.before.before.before.before.before.before in
+    let s = c.before.before.before.before.before.before.before.before.before.before.before in
     let rows = s.requires.0 in
     let places : (s.args.n + 1) * (s.args.width + 1) ≤ 17 * 17 = mul-le-mul {n₂ = 17} {m₂ = 17} (omega (arith, rows.rows_most)) (omega (arith, rows.width_most_lem)) in
     record {
@@ -21,16 +21,14 @@ put-table-requires c κs =
 
 returns : tie.Need-returns
 unfolding history_table position_rows
-returns c = rw (c.before.before.before.before.before.before.before.before.before.grid-values.ensures, c.before.before.before.before.before.before.before.before.grid-styles.ensures) at c.before.before.put-table.ensures
+returns c = rw (c.before.before.before.before.before.before.before.before.before.before.before.grid_values-values.ensures, c.before.before.before.before.before.before.before.before.before.before.grid_styles-styles.ensures) at c.before.before.put_table.ensures
 
-pub put-position-table-spec : {M : Type 1} → statement M
-put-position-table-spec =
+pub put_position_table_spec : {M : Type 1} → statement M
+put_position_table_spec =
     tie.close
     (tie.spec
     (λ c κs. search rules)
     (λ c κs. search rules)
-    (λ c. search rules)
-    (λ c. search rules)
     (λ c. search rules)
     (λ c. search rules)
     put-table-requires

@@ -19,22 +19,22 @@ abbrev table_at : Bool → List ℕ → ℕ → ℕ → ℕ → List ℤ → ℕ
 table_at html words first years width list offset d t =
     history_table html words first list width offset d (16 * t) (rows_from (years - width + 1) (16 * t))
 
-abbrev invariant-loop : tie.invariant-loop
+abbrev invariant-loop : tie.invariant-loop-t
 invariant-loop out₀ at html words first years width list offset d count tables end₀ t₀ out end t =
     (t ≤ tables) × Put out₀ out at end (joined (up_to (table_at html words first years width list offset d) t))
 
-abbrev decreases-loop : tie.decreases-loop
+abbrev decreases-loop : tie.decreases-loop-t
 decreases-loop out₀ at html words first years width list offset d count tables end₀ t₀ out end t = tables - t
 
-loop-holds : tie.Need-loop-init invariant-loop decreases-loop
+loop-holds : tie.Need-loop-t-init invariant-loop decreases-loop
 loop-holds c = (omega arith, put_first _ _ _)
 
-put-position-table-requires : tie.Need-put-position-table-requires invariant-loop decreases-loop
+put-position-table-requires : tie.Need-put_position_table-end-requires invariant-loop decreases-loop
 unfolding rows_from
 put-position-table-requires c κs =
     let s = c.before.before.before.before.before.before in
     let sound = s.requires.0 in
-    let rows = c.rows-from.ensures in (
+    let rows = c.rows_from.ensures in (
       record {
         width_most_lem = sound.width_most_lem;
         rows_most = omega (arith, rows);
@@ -43,25 +43,25 @@ put-position-table-requires c κs =
       (sound.first_most, s.requires.1),
     )
 
-loop-again : tie.Need-loop-preserved invariant-loop decreases-loop
+loop-again : tie.Need-loop-t-preserved invariant-loop decreases-loop
 loop-again c =
     let s = c.before.before.before.before.before.before.before.before.before in
-    let l = c.before.before.before.before.before.before.loop in
+    let l = c.before.before.before.before.before.before.loop-t in
     let a = s.args in
-    (omega arith, put_more (table_at a.html a.words.now a.first a.years a.width a.list.now a.offset a.d) l.t l.invariant.1 (rw c.before.before.before.rows-from.ensures at c.before.before.put-position-table.ensures))
+    (omega arith, put_more (table_at a.html a.words.now a.first a.years a.width a.list.now a.offset a.d) l.t l.invariant.1 (rw c.before.before.before.rows_from.ensures at c.before.before.put_position_table-end.ensures))
 
-same_length : tie.Need-same-length invariant-loop decreases-loop
-same_length c = put_length c.before.loop.invariant.1
+same_length : tie.Need-shape_of-out invariant-loop decreases-loop
+same_length c = put_length c.before.loop-t.invariant.1
 
 returns : tie.Need-returns invariant-loop decreases-loop
 unfolding history_tables table_count position_count
 returns c =
     let s = c.before.before.before.before in
-    let e : c.before.loop.t ≡ (s.args.years - s.args.width + 1 + 15) / 16 = omega arith in
-    rw e at c.before.loop.invariant.1
+    let e : c.before.loop-t.t ≡ (s.args.years - s.args.width + 1 + 15) / 16 = omega arith in
+    rw e at c.before.loop-t.invariant.1
 
-pub put-position-tables-spec : {M : Type 1} → statement M
-put-position-tables-spec =
+pub put_position_tables_spec : {M : Type 1} → statement M
+put_position_tables_spec =
     tie.close
     (tie.spec
     invariant-loop

@@ -6,13 +6,12 @@ use Rattle.history_tables.proofs.put_share_tables.Tie as tie
 
 returns : tie.Need-returns
 unfolding share_tables share_words
-returns c = c.before.before.put-position-tables.ensures
+returns c = c.before.before.put_position_tables.ensures
 
-pub put-share-tables-spec : {M : Type 1} → statement M
-put-share-tables-spec =
+pub put_share_tables_spec : {M : Type 1} → statement M
+put_share_tables_spec =
     tie.close
     (tie.spec
-    (λ c. search rules)
     (λ c κs. search rules)
     (λ c. search rules)
     returns)

@@ -5,16 +5,16 @@ use borrow.Author.Rules.{rules}
 use Rattle.history_tables.proofs.rows_from.Statement.{statement}
 use Rattle.history_tables.proofs.rows_from.Tie as tie
 
-returns : tie.Need-returns
+returns : tie.Need-returns-then-left-lt16
 unfolding rows_from
 returns c = omega arith
 
-returns-2 : tie.Need-returns-2
+returns-2 : tie.Need-returns-else-left-lt16
 unfolding rows_from
 returns-2 c = omega arith
 
-pub rows-from-spec : {M : Type 1} → statement M
-rows-from-spec =
+pub rows_from_spec : {M : Type 1} → statement M
+rows_from_spec =
     tie.close
     (tie.spec
     (λ c. search rules)

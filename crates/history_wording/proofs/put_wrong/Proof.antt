@@ -6,16 +6,16 @@ use borrow.Author.Rules.{rules}
 use Rattle.history_wording.proofs.put_wrong.Statement.{statement}
 use Rattle.history_wording.proofs.put_wrong.Tie as tie
 
-slice-aggregate-put-problem : tie.Need-slice-aggregate-put-problem
+slice-aggregate-put-problem : tie.Need-slice_bounds-put_problem-end
 slice-aggregate-put-problem c =
-    sym (length-take-le _ _ c.before.before.before.before.before.before.before.before.before.before.requires.1.1)
+    sym (length-take-le _ _ c.before.before.before.before.before.before.before.before.before.requires.1.1)
 
 returns : tie.Need-returns
 returns c =
-    rw (← c.before.before.before.before.before.before.before.before.before.before.last-year.ensures, ← c.before.before.before.before.before.before.before.before.before.due_in.ensures) (put_append c.before.before.before.before.before.before.before.Put-refused.ensures c.before.before.put-problem.ensures)
+    rw (← c.before.before.before.before.before.before.before.before.before.last_year-n.ensures, ← c.before.before.before.before.before.before.before.before.due_in-d.ensures) (put_append c.before.before.before.before.before.before.put_refused-at.ensures c.before.before.put_problem.ensures)
 
-pub put-wrong-spec : {M : Type 1} → statement M
-put-wrong-spec =
+pub put_wrong_spec : {M : Type 1} → statement M
+put_wrong_spec =
     tie.close
     (tie.spec
     (λ c κs. search rules)

@@ -4,21 +4,21 @@ use Rattle.history_wording.specs.Refused.{refusal_at}
 use Rattle.history_wording.proofs.refusal_at.Statement.{statement}
 use Rattle.history_wording.proofs.refusal_at.Tie as tie
 
-returns : tie.Need-returns
+returns : tie.Need-returns-then-place-lt2
 unfolding refusal_at
-returns c = rw (c.before.if1.true, lt-ltb c.before.before.args.place 2 c.if2.true)
+returns c = rw (c.before.if-history.true, lt-ltb c.before.before.args.place 2 c.if-place-lt2.true)
 
-returns-2 : tie.Need-returns-2
+returns-2 : tie.Need-returns-else-place-lt2
 unfolding refusal_at
-returns-2 c = rw (c.before.if1.true, le-ltb c.before.before.args.place 2 c.if2.false)
+returns-2 c = rw (c.before.if-history.true, le-ltb c.before.before.args.place 2 c.if-place-lt2.false)
 
-returns-3 : tie.Need-returns-3
+returns-3 : tie.Need-returns-then-place-eq0
 unfolding refusal_at
-returns-3 c = rw (c.before.if1.false, eq-eqb c.before.before.args.place 0 c.if3.true)
+returns-3 c = rw (c.before.if-history.false, eq-eqb c.before.before.args.place 0 c.if-place-eq0.true)
 
-returns-4 : tie.Need-returns-4
+returns-4 : tie.Need-returns-else-place-eq0
 unfolding refusal_at
-returns-4 c = rw (c.before.if1.false, ne_eqb c.before.before.args.place 0 c.if3.false)
+returns-4 c = rw (c.before.if-history.false, ne_eqb c.before.before.args.place 0 c.if-place-eq0.false)
 
-pub refusal-at-spec : {M : Type 1} → statement M
-refusal-at-spec = tie.close (tie.spec returns returns-2 returns-3 returns-4)
+pub refusal_at_spec : {M : Type 1} → statement M
+refusal_at_spec = tie.close (tie.spec returns returns-2 returns-3 returns-4)

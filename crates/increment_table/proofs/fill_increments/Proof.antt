@@ -14,34 +14,34 @@ use borrow.Author.Rules.{rules}
 use Rattle.increment_table.proofs.fill_increments.Statement.{statement}
 use Rattle.increment_table.proofs.fill_increments.Tie as tie
 
-place-past-as-requires : tie.Need-place-past-as-requires
+place-past-as-requires : tie.Need-place_past_as-requires
 place-past-as-requires c κs =
     let a = c.before.before.before in
     let s = a.before in
-    let n = numbers a.added-at.result (starts_of s.args.k) s.args.k s.requires.0 a.added-at.ensures refl in
+    let n = numbers a.added_at-added.result (starts_of s.args.k) s.args.k s.requires.0 a.added_at-added.ensures refl in
     (s.requires.0, (omega arith, (omega arith, rows_room s.args.k (s.args.k + 2) s.requires.0 (omega arith))))
 
-place-column-requires : tie.Need-place-column-requires
+place-column-requires : tie.Need-place_column-requires
 place-column-requires c κs =
     let a = c.before.before.before.before.before.before in
     let s = a.before in
-    let n = numbers a.added-at.result (starts_of s.args.k) s.args.k s.requires.0 a.added-at.ensures refl in
+    let n = numbers a.added_at-added.result (starts_of s.args.k) s.args.k s.requires.0 a.added_at-added.ensures refl in
     (s.requires.0, (omega arith, (omega arith, omega arith)))
 
 returns : tie.Need-returns
 unfolding increment_grid
 returns c =
     let p = c.before.before.before in
-    let style = p.before.before.before.styled.ensures in
-    let at = p.before.before.before.before.added-at.ensures in
+    let style = p.before.before.before.styled-style.ensures in
+    let at = p.before.before.before.before.added_at-added.ensures in
     let s = p.before.before.before.before.before in
     let xs = s.args.figures.now in
     let k = s.args.k in
-    let past = next (past_rows (λ m. styled plain 0) (k + 2) (added_at k).increments k (k + 1) xs) blank s.requires.1 (rw (style, at) at p.place-past-as.ensures) in
-    next (column_of (styled plain 0) (k + 1) (k + 2) (added_at k).paid k xs) (past_rows (λ m. styled plain 0) (k + 2) (added_at k).increments k (k + 1) xs blank) past (rw (style, at) at c.place-column.ensures)
+    let past = next (past_rows (λ m. styled plain 0) (k + 2) (added_at k).increments k (k + 1) xs) blank s.requires.1 (rw (style, at) at p.place_past_as.ensures) in
+    next (column_of (styled plain 0) (k + 1) (k + 2) (added_at k).paid k xs) (past_rows (λ m. styled plain 0) (k + 2) (added_at k).increments k (k + 1) xs blank) past (rw (style, at) at c.place_column.ensures)
 
-pub fill-increments-spec : {M : Type 1} → statement M
-fill-increments-spec =
+pub fill_increments_spec : {M : Type 1} → statement M
+fill_increments_spec =
     tie.close
     (tie.spec
     (λ c κs. search rules)

@@ -16,62 +16,62 @@ use Rattle.inflation.proofs.Years.{year_index, below_more}
 use Rattle.inflation.proofs.walk.Statement.{statement}
 use Rattle.inflation.proofs.walk.Tie as tie
 
-abbrev invariant-loop : tie.invariant-loop
+abbrev invariant-loop : tie.invariant-loop-n
 invariant-loop shape years values₀ path₀ n₀ values path n =
     (n ≤ years)
     × ((path ≡ state_after shape n)
     × ((every (is_index_at shape) (below n) ≡ true) × (values ≡ padded most_years 0 (up_to (index_after shape) n))))
 
-abbrev decreases-loop : tie.decreases-loop
+abbrev decreases-loop : tie.decreases-loop-n
 decreases-loop shape years values₀ path₀ n₀ values path n = years - n
 
-path-start-requires : tie.Need-path-start-requires invariant-loop decreases-loop
+path-start-requires : tie.Need-path_start-path-requires invariant-loop decreases-loop
 path-start-requires c κs = search rules
 
-loop-holds : tie.Need-loop-init invariant-loop decreases-loop
+loop-holds : tie.Need-loop-n-init invariant-loop decreases-loop
 unfolding every up_to
-loop-holds c = (omega arith, (c.path-start.ensures, (refl, c.before.requires.1 ∙ filled_none most_years 0 (index_after c.before.args.shape))))
+loop-holds c = (omega arith, (c.path_start-path.ensures, (refl, c.before.requires.1 ∙ filled_none most_years 0 (index_after c.before.args.shape))))
 
-path-next-requires : tie.Need-path-next-requires invariant-loop decreases-loop
-path-next-requires c κs = (omega arith, c.before.loop.invariant.1.0)
+path-next-requires : tie.Need-path_next-path-requires invariant-loop decreases-loop
+path-next-requires c κs = (omega arith, c.before.loop-n.invariant.1.0)
 
-index-of-requires : tie.Need-index-of-requires invariant-loop decreases-loop
+index-of-requires : tie.Need-index_of-index-requires invariant-loop decreases-loop
 index-of-requires c κs = search rules
 
 -- what the year's index says
-this-year : (c : tie.After-index-of invariant-loop decreases-loop) → c.index_of.result ≡ if_an_index (index_after c.before.before.before.before.before.before.args.shape c.before.before.before.before.loop.n)
+this-year : (c : tie.After-index_of-index invariant-loop decreases-loop) → c.index_of-index.result ≡ if_an_index (index_after c.before.before.before.before.before.before.args.shape c.before.before.before.before.loop-n.n)
 unfolding of_bits
 this-year c =
-    year_index c.before.before.before.before.before.before.args.shape c.before.before.before.before.loop.n c.before.before.path-next.result c.index_of.result c.before.before.path-next.ensures c.index_of.ensures
+    year_index c.before.before.before.before.before.before.args.shape c.before.before.before.before.loop-n.n c.before.before.path_next-path.result c.index_of-index.result c.before.before.path_next-path.ensures c.index_of-index.ensures
 
-returns : tie.Need-returns invariant-loop decreases-loop
+returns : tie.Need-returns-then-index-eq0 invariant-loop decreases-loop
 unfolding years_within
 returns c =
     let s = c.before.before.before.before.before.before.before.args in
-    let l = c.before.before.before.before.before.loop in
-    let stop = leading_stop (is_index_at s.shape) s.years l.n (omega arith) l.invariant.1.1.0 (leaves _ _ (this-year c.before) c.if1.true) in
+    let l = c.before.before.before.before.before.loop-n in
+    let stop = leading_stop (is_index_at s.shape) s.years l.n (omega arith) l.invariant.1.1.0 (leaves _ _ (this-year c.before) c.if-index-eq0.true) in
     rw stop (refl, l.invariant.1.1.1)
 
-mul-values : tie.Need-overflow-mul-values invariant-loop decreases-loop
+mul-values : tie.Need-offset_bounds-values-n invariant-loop decreases-loop
 mul-values c = omega arith
 
-element-write-values : tie.Need-element-write-values invariant-loop decreases-loop
+element-write-values : tie.Need-bounds-values-n invariant-loop decreases-loop
 element-write-values c = omega arith
 
-add-n : tie.Need-overflow-add-n invariant-loop decreases-loop
+add-n : tie.Need-overflow_step-n invariant-loop decreases-loop
 add-n c = omega arith
 
-loop-less : tie.Need-loop-smaller invariant-loop decreases-loop
+loop-less : tie.Need-loop-n-smaller invariant-loop decreases-loop
 loop-less c = omega arith
 
-loop-again : tie.Need-loop-preserved invariant-loop decreases-loop
+loop-again : tie.Need-loop-n-preserved invariant-loop decreases-loop
 loop-again c =
-    let s = c.before.before.before.before.before.before.before.args in
-    let l = c.before.before.before.before.before.loop in
-    let y = lies_in _ _ (this-year c.before) c.if1.false in (
+    let s = c.before.before.before.before.before.before.before.before.args in
+    let l = c.before.before.before.before.before.before.loop-n in
+    let y = lies_in _ _ (this-year c.before.before) c.before.if-index-eq0.false in (
       omega arith,
       (
-        c.before.before.before.path-next.ensures,
+        c.before.before.before.before.path_next-path.ensures,
         (
           below_more (is_index_at s.shape) l.n l.invariant.1.1.0 y.0,
           rw (l.invariant.1.1.1, y.1) (filled_more most_years 0 (index_after s.shape) l.n (omega arith)),
@@ -79,15 +79,15 @@ loop-again c =
       ),
     )
 
-returns-2 : tie.Need-returns-2 invariant-loop decreases-loop
+returns-2 : tie.Need-returns invariant-loop decreases-loop
 unfolding years_within
 returns-2 c =
-    let l = c.before.loop in
+    let l = c.before.loop-n in
     let e : l.n ≡ c.before.before.before.args.years = omega arith in
     rw (leading_all (is_index_at c.before.before.before.args.shape) _ (rw e at l.invariant.1.1.0)) (refl, rw e at l.invariant.1.1.1)
 
-pub walk-spec : {M : Type 1} → statement M
-walk-spec =
+pub walk_spec : {M : Type 1} → statement M
+walk_spec =
     tie.close
     (tie.spec
     invariant-loop

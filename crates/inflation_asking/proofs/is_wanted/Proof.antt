@@ -8,16 +8,16 @@ use borrow.Author.Rules.{rules}
 use Rattle.inflation_asking.proofs.is_wanted.Statement.{statement}
 use Rattle.inflation_asking.proofs.is_wanted.Tie as tie
 
-returns : tie.Need-returns
+returns : tie.Need-returns-then-inflation
 unfolding is_wanted
-returns c = rw c.before.before.if1.true (c.is-inflation.ensures ∙ ap is_inflation c.before.content-of.ensures)
+returns c = rw c.before.before.if-inflation.true (c.is_inflation.ensures ∙ ap is_inflation c.before.content_of.ensures)
 
-returns-2 : tie.Need-returns-2
+returns-2 : tie.Need-returns
 unfolding is_wanted
-returns-2 c = rw c.before.before.if1.false (ap not (c.is-bare.ensures ∙ ap is_bare c.before.content-of2.ensures))
+returns-2 c = rw c.before.before.if-inflation.false (ap not (c.is_bare.ensures ∙ ap is_bare c.before.content_of-2.ensures))
 
-pub is-wanted-spec : {M : Type 1} → statement M
-is-wanted-spec =
+pub is_wanted_spec : {M : Type 1} → statement M
+is_wanted_spec =
     tie.close
     (tie.spec
     (λ c κs. search rules)

@@ -11,22 +11,22 @@ use borrow.Author.Rules.{rules}
 use Rattle.inflation_asking.proofs.year_asked.Statement.{statement}
 use Rattle.inflation_asking.proofs.year_asked.Tie as tie
 
-read-line-requires : tie.Need-read-line-requires
+read-line-requires : tie.Need-read_line-found-requires
 read-line-requires c κs = (omega arith, (refl, good_none false))
 
-last-year-requires : tie.Need-last-year-requires
-last-year-requires c κs = first_count _ _ _ _ _ c.before.before.before.read-line.ensures
+last-year-requires : tie.Need-last_year-requires
+last-year-requires c κs = first_count _ _ _ _ _ c.before.before.before.read_line-found.ensures
 
 returns : tie.Need-returns
 unfolding year_asked
 returns c =
     let r = c.before.before.before.before in
-    let line = ap (λ (l : List ℕ). last_year_in (read_line false 1 0 [] l).numbers) r.before.before.before.line-wanted.ensures in
-    let year = c.last-year.ensures ∙ first_year _ _ _ _ _ r.read-line.ensures in
-    (year ∙ line, omega (arith, year, first_few _ _ _ _ _ r.read-line.ensures))
+    let line = ap (λ (l : List ℕ). last_year_in (read_line false 1 0 [] l).numbers) r.before.before.before.line_wanted.ensures in
+    let year = c.last_year.ensures ∙ first_year _ _ _ _ _ r.read_line-found.ensures in
+    (year ∙ line, omega (arith, year, first_few _ _ _ _ _ r.read_line-found.ensures))
 
-pub year-asked-spec : {M : Type 1} → statement M
-year-asked-spec =
+pub year_asked_spec : {M : Type 1} → statement M
+year_asked_spec =
     tie.close
     (tie.spec
     (λ c κs. search rules)

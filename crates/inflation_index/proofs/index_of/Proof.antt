@@ -9,20 +9,20 @@ use Rattle.inflation_index.proofs.Index.{an_index, no_index}
 use Rattle.inflation_index.proofs.index_of.Statement.{statement}
 use Rattle.inflation_index.proofs.index_of.Tie as tie
 
-truncating-f64-to-u64-requires : tie.Need-truncating-f64-to-u64-requires
+truncating-f64-to-u64-requires : tie.Need-truncating_f64_to_u64-whole-requires
 unfolding of_bits neg
-truncating-f64-to-u64-requires c κs = (subst T (sym c.before.if1.true) tt, subst T (sym c.if2.true) tt)
+truncating-f64-to-u64-requires c κs = (subst T (sym c.before.if-x.true) tt, subst T (sym c.if-x-2.true) tt)
 
-int-to-float-middle : tie.Need-int-to-float-middle
+int-to-float-middle : tie.Need-int_to_float-middle
 unfolding in_float
-int-to-float-middle c = le→leb c.before.before.truncating-f64-to-u64.result (2 ^ 53) (omega arith)
+int-to-float-middle c = le→leb c.before.before.truncating_f64_to_u64-whole.result (2 ^ 53) (omega arith)
 
 -- what the tests have shown where the truncated number is at most 5,000,000
-nearest : (c : tie.After-row-known) → nearest_whole c.before.before.before.before.before.args.x ≡ cond (lt c.before.before.before.before.before.args.x (add binary64 (of_int binary64 (pos c.before.before.truncating-f64-to-u64.result)) half)) c.before.before.truncating-f64-to-u64.result (c.before.before.truncating-f64-to-u64.result + 1)
+nearest : (c : tie.After-row_known-1) → nearest_whole c.before.before.before.before.before.args.x ≡ cond (lt c.before.before.before.before.before.args.x (add binary64 (of_int binary64 (pos c.before.before.truncating_f64_to_u64-whole.result)) half)) c.before.before.truncating_f64_to_u64-whole.result (c.before.before.truncating_f64_to_u64-whole.result + 1)
 unfolding of_bits neg
 nearest c =
-    let t = c.before.before.truncating-f64-to-u64.result in
-    found c.before.before.before.before.before.args.x (add binary64 (of_int binary64 (pos t)) half) t c.before.before.before.before.if1.true c.before.before.before.if2.true c.before.before.truncating-f64-to-u64.ensures (omega arith) (middle_value t (omega arith))
+    let t = c.before.before.truncating_f64_to_u64-whole.result in
+    found c.before.before.before.before.before.args.x (add binary64 (of_int binary64 (pos t)) half) t c.before.before.before.before.if-x.true c.before.before.before.if-x-2.true c.before.before.truncating_f64_to_u64-whole.ensures (omega arith) (middle_value t (omega arith))
 
 below : (w t : ℕ) (b : Bool) → w ≡ cond b t (t + 1) → b ≡ true → t ≤ most_index → t ≡ if_an_index w
 below w t b e g h = rw (e, g) (sym (an_index t h))
@@ -33,34 +33,34 @@ above w t b e g h = rw (e, g) (sym (an_index (t + 1) (omega arith)))
 past : (w t : ℕ) (b : Bool) → w ≡ cond b t (t + 1) → b ≡ false → most_index ≤ t → 0 ≡ if_an_index w
 past w t b e g h = rw (e, g) (sym (no_index (t + 1) (inr (omega arith))))
 
-returns : tie.Need-returns
+returns : tie.Need-returns-then-x-middle
 unfolding of_bits
-returns c = below _ _ _ (nearest c.before) c.if4.true (omega arith)
+returns c = below _ _ _ (nearest c.before) c.if-x-middle.true (omega arith)
 
-add-result : tie.Need-overflow-add-result
+add-result : tie.Need-overflow_add-result
 add-result c = search rules
 
-returns-2 : tie.Need-returns-2
+returns-2 : tie.Need-returns-then-whole-lt-MOST_INDEX
 unfolding of_bits
-returns-2 c = above _ _ _ (nearest c.before.before) c.before.if4.false (omega arith)
+returns-2 c = above _ _ _ (nearest c.before.before) c.before.if-x-middle.false (omega arith)
 
-returns-3 : tie.Need-returns-3
+returns-3 : tie.Need-returns-else-whole-lt-MOST_INDEX
 unfolding of_bits
-returns-3 c = past _ _ _ (nearest c.before.before) c.before.if4.false (omega arith)
+returns-3 c = past _ _ _ (nearest c.before.before) c.before.if-x-middle.false (omega arith)
 
-returns-4 : tie.Need-returns-4
+returns-4 : tie.Need-returns-else-whole-le-MOST_INDEX
 returns-4 c = sym (no_index (nearest_whole c.before.before.before.before.args.x) (large c.before.before.before.before.args.x (omega arith)))
 
-returns-5 : tie.Need-returns-5
+returns-5 : tie.Need-returns-else-x-2
 unfolding of_bits
-returns-5 c = sym (no_index (nearest_whole c.before.before.args.x) (not_below c.before.before.args.x c.if2.false))
+returns-5 c = sym (no_index (nearest_whole c.before.before.args.x) (not_below c.before.before.args.x c.if-x-2.false))
 
-returns-6 : tie.Need-returns-6
+returns-6 : tie.Need-returns-else-x
 unfolding of_bits neg
-returns-6 c = sym (no_index (nearest_whole c.before.args.x) (inl (not_above c.before.args.x c.if1.false)))
+returns-6 c = sym (no_index (nearest_whole c.before.args.x) (inl (not_above c.before.args.x c.if-x.false)))
 
-pub index-of-spec : {M : Type 1} → statement M
-index-of-spec =
+pub index_of_spec : {M : Type 1} → statement M
+index_of_spec =
     tie.close
     (tie.spec
     truncating-f64-to-u64-requires

@@ -7,18 +7,18 @@ use borrow.Author.Rules.{rules}
 use Rattle.inflation_line.proofs.is_asked.Statement.{statement}
 use Rattle.inflation_line.proofs.is_asked.Tie as tie
 
-returns : tie.Need-returns
+returns : tie.Need-returns-then-n-eq3
 returns c =
     let a = c.before.before.before.before.args in
-    c.lies-between.ensures ∙ ap (between 1 a.years) c.before.size-from.ensures.0 ∙ asked_year a.n _ a.years c.before.before.if1.true
+    c.lies_between.ensures ∙ ap (between 1 a.years) c.before.size_from.ensures.0 ∙ asked_year a.n _ a.years c.before.before.if-n-eq3.true
 
-returns-2 : tie.Need-returns-2
+returns-2 : tie.Need-returns
 returns-2 c =
     let a = c.before.before.before.before.args in
-    c.rate-fits.ensures ∙ ap rate_fits c.before.rate-of.ensures ∙ asked_rate a.n _ a.years c.before.before.if1.false
+    c.rate_fits.ensures ∙ ap rate_fits c.before.rate_of.ensures ∙ asked_rate a.n _ a.years c.before.before.if-n-eq3.false
 
-pub is-asked-spec : {M : Type 1} → statement M
-is-asked-spec =
+pub is_asked_spec : {M : Type 1} → statement M
+is_asked_spec =
     tie.close
     (tie.spec
     (λ c κs. search rules)

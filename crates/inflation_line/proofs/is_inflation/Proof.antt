@@ -7,7 +7,10 @@ use Rattle.inflation_line.proofs.is_inflation.Tie as tie
 
 returns : tie.Need-returns
 unfolding is_inflation
-returns c = c.same_text.ensures ∙ rw c.before.before.label_of.ensures
+returns c = c.same_text.ensures ∙ rw c.before.before.before.label_of.ensures
 
-pub is-inflation-spec : {M : Type 1} → statement M
-is-inflation-spec = tie.close (tie.spec (λ c κs. search rules) (λ c. search rules) (λ c κs. search rules) returns)
+pub is_inflation_spec : {M : Type 1} → statement M
+is_inflation_spec = tie.close (tie.spec
+    (λ c κs. search rules)
+    (λ c κs. search rules)
+    returns)

@@ -3,11 +3,11 @@ use borrow.Author.Rules.{rules}
 use Rattle.inflation_line.proofs.number_passes.Statement.{statement}
 use Rattle.inflation_line.proofs.number_passes.Tie as tie
 
-pub number-passes-spec : {M : Type 1} → statement M
-number-passes-spec =
+pub number_passes_spec : {M : Type 1} → statement M
+number_passes_spec =
     tie.close
     (tie.spec
     (λ c κs. search rules)
-    (λ c. rw c.before.if1.true c.is-asked.ensures)
+    (λ c. rw c.before.if-asked.true c.is_asked.ensures)
     (λ c κs. search rules)
-    (λ c. rw c.before.if1.false c.is-due.ensures))
+    (λ c. rw c.before.if-asked.false c.is_due.ensures))

@@ -18,45 +18,45 @@ use Rattle.inflation_line.proofs.passing_numbers.Tie as tie
 abbrev test : Bool → ℕ → List ℕ → ℕ → Bool
 test asked years line i = number_passes asked years (suc i) (number_at line (suc i))
 
-abbrev invariant-loop : tie.invariant-loop
+abbrev invariant-loop : tie.invariant-loop-i
 invariant-loop asked years line m i₀ i = (i ≤ m) × (every (test asked years line) (below i) ≡ true)
 
-abbrev decreases-loop : tie.decreases-loop
+abbrev decreases-loop : tie.decreases-loop-i
 decreases-loop asked years line m i₀ i = m - i
 
-loop-holds : tie.Need-loop-init invariant-loop decreases-loop
+loop-holds : tie.Need-loop-i-init invariant-loop decreases-loop
 unfolding every up_to
 loop-holds c = (omega arith, refl)
 
 -- what was said of number i + 1
-said : (n : tie.After-number-passes invariant-loop decreases-loop)
-    → test n.before.before.before.before.before.args.asked n.before.before.before.before.before.args.years n.before.before.before.before.before.args.line.now n.before.before.before.loop.i
-    ≡ n.number-passes.result
-said n = rw (← add-one n.before.before.before.loop.i) (sym (n.number-passes.ensures ∙ rw n.before.cell_at.ensures))
+said : (n : tie.After-number_passes invariant-loop decreases-loop)
+    → test n.before.before.before.before.before.args.asked n.before.before.before.before.before.args.years n.before.before.before.before.before.args.line.now n.before.before.before.loop-i.i
+    ≡ n.number_passes.result
+said n = rw (← add-one n.before.before.before.loop-i.i) (sym (n.number_passes.ensures ∙ rw n.before.cell_at.ensures))
 
-returns : tie.Need-returns invariant-loop decreases-loop
+returns : tie.Need-returns-then-not-number_passes invariant-loop decreases-loop
 unfolding passing_numbers
 returns c =
     let l = c.before.before.before.before in
     let a = l.before.before.args in
-    (sym (leading_stop (test a.asked a.years a.line.now) a.m l.loop.i (omega arith) l.loop.invariant.1 (said c.before ∙ not-true _ c.if1.true)), omega arith)
+    (sym (leading_stop (test a.asked a.years a.line.now) a.m l.loop-i.i (omega arith) l.loop-i.invariant.1 (said c.before ∙ not-true _ c.if-not-number_passes.true)), omega arith)
 
-loop-again : tie.Need-loop-preserved invariant-loop decreases-loop
+loop-again : tie.Need-loop-i-preserved invariant-loop decreases-loop
 loop-again c =
     let l = c.before.before.before.before in
     let a = l.before.before.args in
-    (omega arith, below_more (test a.asked a.years a.line.now) l.loop.i l.loop.invariant.1 (said c.before ∙ not-false _ c.if1.false))
+    (omega arith, below_more (test a.asked a.years a.line.now) l.loop-i.i l.loop-i.invariant.1 (said c.before ∙ not-false _ c.if-not-number_passes.false))
 
-returns-2 : tie.Need-returns-2 invariant-loop decreases-loop
+returns-2 : tie.Need-returns invariant-loop decreases-loop
 unfolding passing_numbers
 returns-2 c =
     let l = c.before in
     let a = l.before.before.args in
-    let e : l.loop.i ≡ a.m = omega arith in
-    (sym (leading_all (test a.asked a.years a.line.now) a.m (rw e at l.loop.invariant.1)), omega arith)
+    let e : l.loop-i.i ≡ a.m = omega arith in
+    (sym (leading_all (test a.asked a.years a.line.now) a.m (rw e at l.loop-i.invariant.1)), omega arith)
 
-pub passing-numbers-spec : {M : Type 1} → statement M
-passing-numbers-spec =
+pub passing_numbers_spec : {M : Type 1} → statement M
+passing_numbers_spec =
     tie.close
     (tie.spec
     invariant-loop

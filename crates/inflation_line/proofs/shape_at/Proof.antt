@@ -6,43 +6,40 @@ use borrow.Author.Rules.{rules}
 use Rattle.inflation_line.proofs.shape_at.Statement.{statement}
 use Rattle.inflation_line.proofs.shape_at.Tie as tie
 
-returns : tie.Need-returns
+returns : tie.Need-returns-then-same_text
 returns c =
     let s = c.before in
-    (is_flat _ _ s.before.before.cell_at.ensures (sym s.same_text.ensures ∙ c.if1.true), omega arith)
+    (is_flat _ _ s.before.before.before.cell_at-name.ensures (sym s.same_text.ensures ∙ c.if-same_text.true), omega arith)
 
-returns-2 : tie.Need-returns-2
+returns-2 : tie.Need-returns-then-same_text-2
 returns-2 c =
     let t = c.before in
-    let s = t.before.before.before in
-    (is_fading _ _ s.before.before.cell_at.ensures (sym s.same_text.ensures ∙ t.before.before.if1.false) (sym t.same-text2.ensures ∙ c.if2.true), omega arith)
+    let s = t.before.before.before.before in
+    (is_fading _ _ s.before.before.before.cell_at-name.ensures (sym s.same_text.ensures ∙ t.before.before.before.if-same_text.false) (sym t.same_text-2.ensures ∙ c.if-same_text-2.true), omega arith)
 
-returns-3 : tie.Need-returns-3
+returns-3 : tie.Need-returns-then-same_text-3
 returns-3 c =
     let u = c.before in
-    let t = u.before.before.before in
-    let s = t.before.before.before in
-    (is_shock _ _ s.before.before.cell_at.ensures (sym s.same_text.ensures ∙ t.before.before.if1.false) (sym t.same-text2.ensures ∙ u.before.before.if2.false) (sym u.same-text3.ensures ∙ c.if3.true), omega arith)
+    let t = u.before.before.before.before in
+    let s = t.before.before.before.before in
+    (is_shock _ _ s.before.before.before.cell_at-name.ensures (sym s.same_text.ensures ∙ t.before.before.before.if-same_text.false) (sym t.same_text-2.ensures ∙ u.before.before.before.if-same_text-2.false) (sym u.same_text-3.ensures ∙ c.if-same_text-3.true), omega arith)
 
-returns-4 : tie.Need-returns-4
+returns-4 : tie.Need-returns
 returns-4 c =
     let u = c.before in
-    let t = u.before.before.before in
-    let s = t.before.before.before in
-    (no_shape _ _ s.before.before.cell_at.ensures (sym s.same_text.ensures ∙ t.before.before.if1.false) (sym t.same-text2.ensures ∙ u.before.before.if2.false) (sym u.same-text3.ensures ∙ c.if3.false), omega arith)
+    let t = u.before.before.before.before in
+    let s = t.before.before.before.before in
+    (no_shape _ _ s.before.before.before.cell_at-name.ensures (sym s.same_text.ensures ∙ t.before.before.before.if-same_text.false) (sym t.same_text-2.ensures ∙ u.before.before.before.if-same_text-2.false) (sym u.same_text-3.ensures ∙ c.if-same_text-3.false), omega arith)
 
-pub shape-at-spec : {M : Type 1} → statement M
-shape-at-spec =
+pub shape_at_spec : {M : Type 1} → statement M
+shape_at_spec =
     tie.close
     (tie.spec
     (λ c κs. search rules)
-    (λ c. search rules)
     (λ c κs. search rules)
     returns
-    (λ c. search rules)
     (λ c κs. search rules)
     returns-2
-    (λ c. search rules)
     (λ c κs. search rules)
     returns-3
     returns-4)

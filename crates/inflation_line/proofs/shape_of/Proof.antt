@@ -12,11 +12,11 @@ returns c =
     let y = p.before in
     let o = y.before.before in
     let r = o.before.before in
-    c.shape-from.ensures
-    ∙ rw (p.shape_at.ensures.0, y.size-from.ensures.0, y.before.cell-at3.ensures, o.rate-of2.ensures, o.before.cell-at2.ensures, r.rate-of.ensures, r.before.cell_at.ensures)
+    c.shape_from.ensures
+    ∙ rw (p.shape_at.ensures.0, y.size_from-year.ensures.0, y.before.cell_at-3.ensures, o.rate_of-other.ensures, o.before.cell_at-2.ensures, r.rate_of-rate.ensures, r.before.cell_at.ensures)
 
-pub shape-of-spec : {M : Type 1} → statement M
-shape-of-spec =
+pub shape_of_spec : {M : Type 1} → statement M
+shape_of_spec =
     tie.close
     (tie.spec
     (λ c κs. search rules)

@@ -3,11 +3,11 @@ use borrow.Author.Tests.{le-leb, lt-leb}
 use Rattle.inflation_rates.proofs.lies_between.Statement.{statement}
 use Rattle.inflation_rates.proofs.lies_between.Tie as tie
 
-returns : tie.Need-returns
-returns c = rw (le-leb _ _ c.if1.true)
+returns : tie.Need-returns-then-least-x
+returns c = rw (le-leb _ _ c.if-least-x.true)
 
-returns-2 : tie.Need-returns-2
-returns-2 c = rw (lt-leb _ _ c.if1.false)
+returns-2 : tie.Need-returns-else-least-x
+returns-2 c = rw (lt-leb _ _ c.if-least-x.false)
 
-pub lies-between-spec : {M : Type 1} → statement M
-lies-between-spec = tie.close (tie.spec returns returns-2)
+pub lies_between_spec : {M : Type 1} → statement M
+lies_between_spec = tie.close (tie.spec returns returns-2)

@@ -5,13 +5,13 @@ use Rattle.inflation_rates.proofs.Rates.{rate_fits_is}
 use Rattle.inflation_rates.proofs.rate_fits.Statement.{statement}
 use Rattle.inflation_rates.proofs.rate_fits.Tie as tie
 
-returns : tie.Need-returns
+returns : tie.Need-returns-then-rate
 unfolding of_bits neg
-returns c = rw c.if1.true at (rate_fits_is c.before.args.rate)
+returns c = rw c.if-rate.true at (rate_fits_is c.before.args.rate)
 
-returns-2 : tie.Need-returns-2
+returns-2 : tie.Need-returns-else-rate
 unfolding of_bits neg
-returns-2 c = c.if1.false ∙ (rw c.if1.false at (rate_fits_is c.before.args.rate))
+returns-2 c = c.if-rate.false ∙ (rw c.if-rate.false at (rate_fits_is c.before.args.rate))
 
-pub rate-fits-spec : {M : Type 1} → statement M
-rate-fits-spec = tie.close (tie.spec returns returns-2)
+pub rate_fits_spec : {M : Type 1} → statement M
+rate_fits_spec = tie.close (tie.spec returns returns-2)

@@ -16,29 +16,29 @@ use Rattle.inflation_reading.proofs.put_made.Statement.{statement}
 use Rattle.inflation_reading.proofs.put_made.Tie as tie
 
 -- the call that was made
-values : (i : tie.After-inflation-indices) → i.inflation-indices.result.values ≡ (indices_of (shape_of i.before.before.before.args.line.now) (i.before.before.before.args.k + 1)).values
-values i = ap (λ (r : Indices). r.values) i.inflation-indices.ensures ∙ rw i.before.shape-of.ensures
+values : (i : tie.After-inflation_indices-made) → i.inflation_indices-made.result.values-1 ≡ (indices_of (shape_of i.before.before.before.args.line.now) (i.before.before.before.args.k + 1)).values
+values i = ap (λ (r : Indices). r.values-1) i.inflation_indices-made.ensures ∙ rw i.before.shape_of.ensures
 
-accepted : (i : tie.After-inflation-indices) → inflation_answer (shape_of i.before.before.before.args.line.now) (i.before.before.before.args.k + 1) ≡ 0
+accepted : (i : tie.After-inflation_indices-made) → inflation_answer (shape_of i.before.before.before.args.line.now) (i.before.before.before.args.k + 1) ≡ 0
 accepted i = stands_accepted i.before.before.before.args.history _ i.before.before.before.args.place _ i.before.before.before.requires.1.1
 
-put-naturals-requires : tie.Need-put-naturals-requires
+put-naturals-requires : tie.Need-put_naturals-requires
 put-naturals-requires c κs =
-    let i = c.before.before.before in
+    let i = c.before.before.before.before.before.before in
     rw (values i)
-    (omega (arith, call_length _ _ (accepted i) (omega (arith, i.before.before.before.requires.0))), (omega (arith, i.before.before.before.requires.1.0), call_small _ _ (accepted i)))
+    (omega (arith, call_length _ _ (accepted i) (omega (arith, i.requires.0))), (omega (arith, i.requires.1.0), call_small _ _ (accepted i)))
 
 returns : tie.Need-returns
 unfolding indices_made
 returns c =
-    let i = c.before.before.before.before.before in
-    let a = i.before.before.before.args in
-    c.before.put-naturals.ensures.1
-    ∙ ap (λ (xs : List ℕ). sets a.list.now a.at (map pos (take (a.k + 1) xs))) (values i)
-    ∙ ap (λ (xs : List ℕ). sets a.list.now a.at (map pos xs)) (call_indices _ _ (accepted i))
+    let i = c.before.before.before.before.before.before.before.before in
+    let a = i.args in
+    c.before.put_naturals.ensures.1
+    ∙ ap (λ (xs : List ℕ). sets a.list-1.now a.at (map pos (take (a.k + 1) xs))) (values i)
+    ∙ ap (λ (xs : List ℕ). sets a.list-1.now a.at (map pos xs)) (call_indices _ _ (accepted i))
 
-pub put-made-spec : {M : Type 1} → statement M
-put-made-spec =
+pub put_made_spec : {M : Type 1} → statement M
+put_made_spec =
     tie.close
     (tie.spec
     (λ c κs. search rules)

@@ -10,29 +10,29 @@ use borrow.Author.Rules.{rules}
 use Rattle.inflation_reading.proofs.stands_for_indices.Statement.{statement}
 use Rattle.inflation_reading.proofs.stands_for_indices.Tie as tie
 
-returns : tie.Need-returns
-returns c = other_text _ _ _ _ c.if1.true
+returns : tie.Need-returns-then-history
+returns c = other_text _ _ _ _ c.if-history.true
 
-add-if2 : tie.Need-overflow-add-if2
+add-if2 : tie.Need-overflow_add-k
 add-if2 c = omega (arith, first_most c.before.before.args.history _ c.before.before.requires)
 
-returns-2 : tie.Need-returns-2
-returns-2 c = other_place _ _ _ _ c.before.if1.false c.if2.true
+returns-2 : tie.Need-returns-then-place-k
+returns-2 c = other_place _ _ _ _ c.before.if-history.false c.if-place-k.true
 
-returns-3 : tie.Need-returns-3
+returns-3 : tie.Need-returns-then-not-is_inflation
 returns-3 c =
     let e = c.before.before in
-    other_line _ _ _ _ e.before.if1.false e.if2.false (sym c.before.is-inflation.ensures ∙ not-true _ c.if3.true)
+    other_line _ _ _ _ e.before.if-history.false e.if-place-k.false (sym c.before.is_inflation.ensures ∙ not-true _ c.if-not-is_inflation.true)
 
-add-fault-in : tie.Need-overflow-add-fault-in
+add-fault-in : tie.Need-overflow_add-k-2
 add-fault-in c = omega (arith, first_most c.before.before.before.before.before.args.history _ c.before.before.before.before.before.requires)
 
-returns-4 : tie.Need-returns-4
+returns-4 : tie.Need-returns
 returns-4 c =
     let e = c.before.before in
     let p = e.before.before in
-    ap (λ (f : Fault). eqb f.kind 0) c.before.fault-in.ensures ∙ by_fault _ _ _ _ p.before.if1.false p.if2.false (sym e.before.is-inflation.ensures ∙ not-false _ e.if3.false)
+    ap (λ (f : Fault). eqb f.kind 0) c.before.fault_in.ensures ∙ by_fault _ _ _ _ p.before.if-history.false p.if-place-k.false (sym e.before.is_inflation.ensures ∙ not-false _ e.if-not-is_inflation.false)
 
-pub stands-for-indices-spec : {M : Type 1} → statement M
-stands-for-indices-spec =
+pub stands_for_indices_spec : {M : Type 1} → statement M
+stands_for_indices_spec =
     tie.close (tie.spec returns add-if2 returns-2 (λ c κs. search rules) returns-3 add-fault-in (λ c κs. search rules) returns-4)

@@ -6,21 +6,16 @@ use Rattle.inflation_wording.proofs.put_counts.Statement.{statement}
 use Rattle.inflation_wording.proofs.put_counts.Tie as tie
 
 returns : tie.Need-returns
-returns c = put_same (counts_are c.before.before.before.before.before.before.before.before.before.before.before.before.before.before.before.before.before.before.before.before.before.before.args.place _) (put_four c.before.before.before.before.before.before.before.before.before.before.before.before.before.before.before.before.before.before.before.put-shape.ensures c.before.before.before.before.before.before.before.before.before.before.before.before.before.before.put-bytes.ensures c.before.before.before.before.before.before.before.before.put_count.ensures c.before.before.put-count2.ensures)
+returns c = put_same (counts_are c.before.before.before.before.before.before.before.before.before.before.before.before.before.before.before.before.before.before.before.before.before.before.before.before.before.before.before.args.place _) (put_four c.before.before.before.before.before.before.before.before.before.before.before.before.before.before.before.before.before.before.before.before.before.before.before.before.put_shape-name.ensures c.before.before.before.before.before.before.before.before.before.before.before.before.before.before.before.before.before.before.put_bytes-takes.ensures c.before.before.before.before.before.before.before.before.before.before.put_count-stand.ensures c.before.before.put_count.ensures)
 
-pub put-counts-spec : {M : Type 1} → statement M
-put-counts-spec =
+pub put_counts_spec : {M : Type 1} → statement M
+put_counts_spec =
     tie.close
     (tie.spec
     (λ c κs. search rules)
-    (λ c. search rules)
     (λ c κs. search rules)
     (λ c. search rules)
-    (λ c. search rules)
-    (λ c. search rules)
     (λ c κs. search rules)
-    (λ c. search rules)
-    (λ c. search rules)
     (λ c κs. search rules)
     (λ c. search rules)
     returns)

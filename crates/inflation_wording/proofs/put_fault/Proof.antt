@@ -7,26 +7,23 @@ use Rattle.inflation_wording.proofs.put_fault.Tie as tie
 
 returns : tie.Need-returns
 returns c =
-    put_same (fault_line_lem _ _ _ c.before.before.before.before.before.before.before.before.before.before.before.before.before.before.before.before.before.before.before.before.lines-before.ensures.0 _ c.before.before.before.before.before.before.before.before.before.before.year-asked.ensures.0 _ c.before.before.before.before.before.before.before.before.line-wanted.ensures)
-    (put_three c.before.before.before.before.before.before.before.before.before.before.before.before.before.before.before.before.before.before.before.before.before.before.before.before.before.before.before.before.put_front.ensures c.before.before.before.before.before.before.before.before.before.before.before.before.before.before.before.before.before.before.before.before.before.before.before.put-bytes.ensures (put_four c.before.before.before.before.before.before.before.before.before.before.before.before.before.before.before.before.before.before.put-decimal.ensures c.before.before.before.before.before.before.before.before.before.before.before.before.before.put-bytes2.ensures c.before.before.before.before.before.before.before.put-words.ensures c.before.before.put-bytes3.ensures))
+    put_same (fault_line_lem _ _ _ c.before.before.before.before.before.before.before.before.before.before.before.before.before.before.before.before.before.before.before.before.before.before.lines_before-n.ensures.0 _ c.before.before.before.before.before.before.before.before.before.before.before.year_asked-years.ensures.0 _ c.before.before.before.before.before.before.before.before.before.line_wanted.ensures)
+    (put_three c.before.before.before.before.before.before.before.before.before.before.before.before.before.before.before.before.before.before.before.before.before.before.before.before.before.before.before.before.before.before.before.put_front-front.ensures c.before.before.before.before.before.before.before.before.before.before.before.before.before.before.before.before.before.before.before.before.before.before.before.before.before.put_bytes-number.ensures (put_four c.before.before.before.before.before.before.before.before.before.before.before.before.before.before.before.before.before.before.before.before.put_decimal-colon.ensures c.before.before.before.before.before.before.before.before.before.before.before.before.before.before.put_bytes-words.ensures c.before.before.before.before.before.before.before.before.put_words-end.ensures c.before.before.put_bytes.ensures))
 
-pub put-fault-spec : {M : Type 1} → statement M
-put-fault-spec =
+pub put_fault_spec : {M : Type 1} → statement M
+put_fault_spec =
     tie.close
     (tie.spec
     (λ c κs. search rules)
-    (λ c. search rules)
-    (λ c κs. search rules)
-    (λ c κs. search rules)
-    (λ c. search rules)
-    (λ c κs. search rules)
-    (λ c. search rules)
     (λ c κs. search rules)
     (λ c κs. search rules)
     (λ c. search rules)
     (λ c κs. search rules)
     (λ c κs. search rules)
+    (λ c κs. search rules)
     (λ c. search rules)
+    (λ c κs. search rules)
+    (λ c κs. search rules)
     (λ c κs. search rules)
     (λ c. search rules)
     returns)

@@ -6,21 +6,19 @@ use borrow.Author.Rules.{rules}
 use Rattle.inflation_wording.proofs.put_front.Statement.{statement}
 use Rattle.inflation_wording.proofs.put_front.Tie as tie
 
-returns : tie.Need-returns
-returns c = put_same (sym (front_none _ c.if1.true)) (put_none _ _)
+returns : tie.Need-returns-then-kind-lt20
+returns c = put_same (sym (front_none _ c.if-kind-lt20.true)) (put_none _ _)
 
-returns-2 : tie.Need-returns-2
-returns-2 c = put_same (sym (front_some _ c.before.before.before.before.before.before.before.before.before.before.before.before.before.before.if1.false)) (put_three c.before.before.before.before.before.before.before.before.before.before.before.put-bytes.ensures c.before.before.before.before.before.before.before.put-decimal.ensures c.before.before.put-bytes2.ensures)
+returns-2 : tie.Need-returns
+returns-2 c = put_same (sym (front_some _ c.before.before.before.before.before.before.before.before.before.before.before.before.before.before.before.before.if-kind-lt20.false)) (put_three c.before.before.before.before.before.before.before.before.before.before.before.before.put_bytes-number.ensures c.before.before.before.before.before.before.before.before.put_decimal-end.ensures c.before.before.put_bytes.ensures)
 
-pub put-front-spec : {M : Type 1} → statement M
-put-front-spec =
+pub put_front_spec : {M : Type 1} → statement M
+put_front_spec =
     tie.close
     (tie.spec
     returns
-    (λ c. search rules)
     (λ c κs. search rules)
     (λ c κs. search rules)
-    (λ c. search rules)
     (λ c κs. search rules)
     (λ c. search rules)
     returns-2)

@@ -7,15 +7,14 @@ use Rattle.inflation_wording.proofs.put_number.Tie as tie
 
 returns : tie.Need-returns
 unfolding number_words
-returns c = put_three c.before.before.before.before.before.before.before.before.before.before.before.put-number-start.ensures c.before.before.before.before.before.before.before.put-due.ensures c.before.before.put-bytes.ensures
+returns c = put_three c.before.before.before.before.before.before.before.before.before.before.before.before.put_number_start-due.ensures c.before.before.before.before.before.before.before.before.put_due-end.ensures c.before.before.put_bytes.ensures
 
-pub put-number-spec : {M : Type 1} → statement M
-put-number-spec =
+pub put_number_spec : {M : Type 1} → statement M
+put_number_spec =
     tie.close
     (tie.spec
     (λ c κs. search rules)
     (λ c κs. search rules)
-    (λ c. search rules)
     (λ c κs. search rules)
     (λ c. search rules)
     returns)

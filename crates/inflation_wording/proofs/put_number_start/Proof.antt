@@ -11,24 +11,20 @@ use Rattle.inflation_wording.proofs.put_number_start.Tie as tie
 returns : tie.Need-returns
 unfolding number_start
 returns c =
-    put_three c.before.before.before.before.before.before.before.before.before.before.before.before.before.before.before.before.before.before.before.before.before.before.before.before.before.before.before.before.before.before.put-bytes.ensures c.before.before.before.before.before.before.before.before.before.before.before.before.before.before.before.before.before.before.before.before.before.before.before.before.before.before.put-decimal.ensures
-    (put_five c.before.before.before.before.before.before.before.before.before.before.before.before.before.before.before.before.before.before.before.before.before.put-bytes2.ensures (put_same (ap (λ (s : ℕ). named (shape_name s)) c.before.before.before.before.before.before.before.before.before.before.before.before.before.before.before.before.before.shape_at.ensures.0) c.before.before.before.before.before.before.before.before.before.before.before.before.before.before.before.before.put-shape.ensures) c.before.before.before.before.before.before.before.before.before.before.before.put-bytes3.ensures c.before.before.before.before.before.before.before.put-shown.ensures c.before.before.put-bytes4.ensures)
+    put_three c.before.before.before.before.before.before.before.before.before.before.before.before.before.before.before.before.before.before.before.before.before.before.before.before.before.before.before.before.before.before.before.before.before.put_bytes-number.ensures c.before.before.before.before.before.before.before.before.before.before.before.before.before.before.before.before.before.before.before.before.before.before.before.before.before.before.before.before.before.put_decimal-of.ensures
+    (put_five c.before.before.before.before.before.before.before.before.before.before.before.before.before.before.before.before.before.before.before.before.before.before.before.put_bytes-name.ensures (put_same (ap (λ (s : ℕ). named (shape_name s)) c.before.before.before.before.before.before.before.before.before.before.before.before.before.before.before.before.before.before.before.shape_at.ensures.0) c.before.before.before.before.before.before.before.before.before.before.before.before.before.before.before.before.before.before.put_shape-is.ensures) c.before.before.before.before.before.before.before.before.before.before.before.before.put_bytes-cell.ensures c.before.before.before.before.before.before.before.before.put_shown-and.ensures c.before.before.put_bytes.ensures)
 
-pub put-number-start-spec : {M : Type 1} → statement M
-put-number-start-spec =
+pub put_number_start_spec : {M : Type 1} → statement M
+put_number_start_spec =
     tie.close
     (tie.spec
-    (λ c. search rules)
-    (λ c κs. search rules)
-    (λ c κs. search rules)
-    (λ c. search rules)
     (λ c κs. search rules)
     (λ c κs. search rules)
     (λ c κs. search rules)
-    (λ c. search rules)
     (λ c κs. search rules)
     (λ c κs. search rules)
-    (λ c. search rules)
+    (λ c κs. search rules)
+    (λ c κs. search rules)
     (λ c κs. search rules)
     (λ c. search rules)
     returns)

@@ -13,13 +13,12 @@ use Rattle.inflation_wording.proofs.put_shape.Tie as tie
 returns : tie.Need-returns
 returns c =
     let words = c.before.before.before.cell_at in
-    put_same (ap named (words.ensures ∙ ap (λ (l : List (List ℕ)). get_or l c.before.before.before.before.before.before.before.args.place []) shapes_are)) c.before.before.put-named.ensures
+    put_same (ap named (words.ensures ∙ ap (λ (l : List (List ℕ)). get_or l c.before.before.before.before.before.before.before.before.args.place []) shapes_are)) c.before.before.put_named.ensures
 
-pub put-shape-spec : {M : Type 1} → statement M
-put-shape-spec =
+pub put_shape_spec : {M : Type 1} → statement M
+put_shape_spec =
     tie.close
     (tie.spec
-    (λ c. search rules)
     (λ c κs. search rules)
     (λ c κs. search rules)
     (λ c. search rules)

@@ -6,28 +6,27 @@ use borrow.Author.Rules.{rules}
 use Rattle.inflation_wording.proofs.put_words.Statement.{statement}
 use Rattle.inflation_wording.proofs.put_words.Tie as tie
 
-returns : tie.Need-returns
-returns c = put_same (sym (words_shape _ _ _ _ c.before.before.before.before.before.before.before.before.before.if1.true)) (put_append c.before.before.before.before.before.before.put-bytes.ensures c.before.before.put-shown.ensures)
+returns : tie.Need-returns-then-f-eq1
+returns c = put_same (sym (words_shape _ _ _ _ c.before.before.before.before.before.before.before.before.before.before.if-f-eq1.true)) (put_append c.before.before.before.before.before.before.put_bytes-end.ensures c.before.before.put_shown.ensures)
 
-returns-2 : tie.Need-returns-2
-returns-2 c = put_same (sym (words_count _ _ _ _ c.before.before.before.before.before.if2.true _ c.before.before.before.shape_at.ensures.0)) c.before.before.put-counts.ensures
+returns-2 : tie.Need-returns-then-f-eq2
+returns-2 c = put_same (sym (words_count _ _ _ _ c.before.before.before.before.before.if-f-eq2.true _ c.before.before.before.shape_at.ensures.0)) c.before.before.put_counts.ensures
 
-returns-3 : tie.Need-returns-3
-returns-3 c = put_same (sym (words_form _ _ _ _ c.before.before.before.before.if3.true)) c.before.before.put-number.ensures
+returns-3 : tie.Need-returns-then-f-eq3
+returns-3 c = put_same (sym (words_form _ _ _ _ c.before.before.before.before.if-f-eq3.true)) c.before.before.put_number.ensures
 
-returns-4 : tie.Need-returns-4
-returns-4 c = put_same (sym (words_asked _ _ _ _ c.before.before.before.before.if4.true)) c.before.before.put-number2.ensures
+returns-4 : tie.Need-returns-then-f-eq20
+returns-4 c = put_same (sym (words_asked _ _ _ _ c.before.before.before.before.if-f-eq20.true)) c.before.before.put_number-then-f-eq20.ensures
 
-returns-5 : tie.Need-returns-5
+returns-5 : tie.Need-returns
 returns-5 c =
-    let e = c.before.before.before.before.before.before.before.before.before.before.before.before.before.before in
-    put_same (sym (words_index _ _ _ _ e.before.before.before.before.before.before.if1.false e.before.before.before.before.if2.false e.before.before.if3.false e.if4.false)) (put_three c.before.before.before.before.before.before.before.before.before.before.before.put-bytes2.ensures c.before.before.before.before.before.before.before.put-decimal.ensures c.before.before.put-bytes3.ensures)
+    let e = c.before.before.before.before.before.before.before.before.before.before.before.before.before.before.before.before in
+    put_same (sym (words_index _ _ _ _ e.before.before.before.before.before.before.if-f-eq1.false e.before.before.before.before.if-f-eq2.false e.before.before.if-f-eq3.false e.if-f-eq20.false)) (put_three c.before.before.before.before.before.before.before.before.before.before.before.before.put_bytes-year.ensures c.before.before.before.before.before.before.before.before.put_decimal-end.ensures c.before.before.put_bytes.ensures)
 
-pub put-words-spec : {M : Type 1} → statement M
-put-words-spec =
+pub put_words_spec : {M : Type 1} → statement M
+put_words_spec =
     tie.close
     (tie.spec
-    (λ c. search rules)
     (λ c κs. search rules)
     (λ c κs. search rules)
     (λ c. search rules)
@@ -42,10 +41,8 @@ put-words-spec =
     (λ c κs. search rules)
     (λ c. search rules)
     returns-4
-    (λ c. search rules)
     (λ c κs. search rules)
     (λ c κs. search rules)
-    (λ c. search rules)
     (λ c κs. search rules)
     (λ c. search rules)
     returns-5)

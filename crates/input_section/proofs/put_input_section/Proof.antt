@@ -8,11 +8,20 @@ use Rattle.input_section.proofs.put_input_section.Tie as tie
 returns : tie.Need-returns
 unfolding input_section
 returns c =
-    put_append c.before.before.before.before.before.before.before.before.before.before.before.before.before.before.before.before.before.before.before.before.before.before.before.before.before.before.put-section-start.ensures
-    (put_append c.before.before.before.before.before.before.before.before.before.before.before.before.before.before.before.before.before.before.before.before.before.before.put-beside-start.ensures
-    (put_five c.before.before.before.before.before.before.before.before.before.before.before.before.before.before.before.before.before.before.put-input-tables.ensures c.before.before.before.before.before.before.before.before.before.before.before.before.before.before.put-single-table.ensures c.before.before.before.before.before.before.before.before.before.before.put-beside-end.ensures c.before.before.before.before.before.before.put-increment-table.ensures c.before.before.put-section-end.ensures))
+    put_append c.before.before.before.before.before.before.before.before.before.before.before.before.before.before.before.before.before.before.before.before.before.before.before.before.before.before.put_section_start-a.ensures
+    (put_append c.before.before.before.before.before.before.before.before.before.before.before.before.before.before.before.before.before.before.before.before.before.before.put_beside_start-b.ensures
+    (put_five c.before.before.before.before.before.before.before.before.before.before.before.before.before.before.before.before.before.before.put_input_tables-c.ensures c.before.before.before.before.before.before.before.before.before.before.before.before.before.before.put_single_table-d.ensures c.before.before.before.before.before.before.before.before.before.before.put_beside_end-e.ensures c.before.before.before.before.before.before.put_increment_table-f.ensures c.before.before.put_section_end.ensures))
 
-pub put-input-section-spec : {M : Type 1} → statement M
-put-input-section-spec =
+pub put_input_section_spec : {M : Type 1} → statement M
+put_input_section_spec =
     tie.close
-    (tie.spec (λ c. search rules) (λ c κs. search rules) (λ c κs. search rules) (λ c κs. search rules) (λ c κs. search rules) (λ c κs. search rules) (λ c κs. search rules) (λ c κs. search rules) (λ c. search rules) returns)
+    (tie.spec
+    (λ c κs. search rules)
+    (λ c κs. search rules)
+    (λ c κs. search rules)
+    (λ c κs. search rules)
+    (λ c κs. search rules)
+    (λ c κs. search rules)
+    (λ c κs. search rules)
+    (λ c. search rules)
+    returns)

@@ -8,7 +8,7 @@ use borrow.Author.Rules.{rules}
 use Rattle.input_tables.proofs.put_input_table.Statement.{statement}
 use Rattle.input_tables.proofs.put_input_table.Tie as tie
 
-put-column-table-requires : tie.Need-put-column-table-requires
+put-column-table-requires : tie.Need-put_column_table-requires
 put-column-table-requires c κs =
     let s = c.before.before.before.before.before.before in
     let k = s.args.k in
@@ -16,10 +16,10 @@ put-column-table-requires c κs =
 
 returns : tie.Need-returns
 unfolding input_table padded
-returns c = c.before.before.put-column-table.ensures
+returns c = c.before.before.put_column_table.ensures
 
-pub put-input-table-spec : {M : Type 1} → statement M
-put-input-table-spec =
+pub put_input_table_spec : {M : Type 1} → statement M
+put_input_table_spec =
     tie.close
     (tie.spec
     (λ c. search rules)

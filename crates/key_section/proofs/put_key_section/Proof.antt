@@ -8,11 +8,20 @@ use Rattle.key_section.proofs.put_key_section.Tie as tie
 returns : tie.Need-returns
 unfolding key_section key_text
 returns c =
-    put_append c.before.before.before.before.before.before.before.before.before.before.before.before.before.before.before.before.before.before.before.before.before.before.before.before.before.before.before.put-section-start.ensures
-    (put_append c.before.before.before.before.before.before.before.before.before.before.before.before.before.before.before.before.before.before.before.before.before.before.before.put-beside-start.ensures
-    (put_five c.before.before.before.before.before.before.before.before.before.before.before.before.before.before.before.before.before.before.before.put-key-table.ensures c.before.before.before.before.before.before.before.before.before.before.before.before.before.before.before.put-provision-plot.ensures c.before.before.before.before.before.before.before.before.before.before.before.put-beside-end.ensures c.before.before.before.before.before.before.put-Only.ensures c.before.before.put-section-end.ensures))
+    put_append c.before.before.before.before.before.before.before.before.before.before.before.before.before.before.before.before.before.before.before.before.before.before.before.before.before.before.before.before.put_section_start-a.ensures
+    (put_append c.before.before.before.before.before.before.before.before.before.before.before.before.before.before.before.before.before.before.before.before.before.before.before.before.put_beside_start-b.ensures
+    (put_five c.before.before.before.before.before.before.before.before.before.before.before.before.before.before.before.before.before.before.before.before.put_key_table-c.ensures c.before.before.before.before.before.before.before.before.before.before.before.before.before.before.before.before.put_provision_plot-d.ensures c.before.before.before.before.before.before.before.before.before.before.before.before.put_beside_end-e.ensures c.before.before.before.before.before.before.put_only-f.ensures c.before.before.put_section_end.ensures))
 
-pub put-key-section-spec : {M : Type 1} → statement M
-put-key-section-spec =
+pub put_key_section_spec : {M : Type 1} → statement M
+put_key_section_spec =
     tie.close
-    (tie.spec (λ c. search rules) (λ c κs. search rules) (λ c κs. search rules) (λ c κs. search rules) (λ c κs. search rules) (λ c κs. search rules) (λ c. search rules) (λ c κs. search rules) (λ c κs. search rules) (λ c. search rules) returns)
+    (tie.spec
+    (λ c κs. search rules)
+    (λ c κs. search rules)
+    (λ c κs. search rules)
+    (λ c κs. search rules)
+    (λ c κs. search rules)
+    (λ c κs. search rules)
+    (λ c κs. search rules)
+    (λ c. search rules)
+    returns)

@@ -29,33 +29,33 @@ plain_is : (s : List ℕ) → marked s ≡ false → 0 < length s → is_text s 
 unfolding is_text
 plain_is s h some = rw (h, lt-ltb 0 (length s) some)
 
-returns : tie.Need-returns
-returns c = sym (none_is c.before.before.args.input.now c.if1.true)
+returns : tie.Need-returns-then-input-eq0
+returns c = sym (none_is c.before.before.args.input.now c.if-input-eq0.true)
 
-sub-is-plain : tie.Need-overflow-sub-is-plain
+sub-is-plain : tie.Need-slice_bounds-is_plain-count
 sub-is-plain c =
     let m = c.before in
-    omega (arith, mark_room m.before.before.before.args.input.now (sym m.is-marked.ensures ∙ c.if2.true))
+    omega (arith, mark_room m.before.before.before.args.input.now (sym m.is_marked.ensures ∙ c.if-is_marked.true))
 
-part-is-plain-start : tie.Need-slice-bounds-is-plain-start
+part-is-plain-start : tie.Need-slice_bounds-is_plain-start
 part-is-plain-start c =
     let m = c.before in
-    omega (arith, mark_room m.before.before.before.args.input.now (sym m.is-marked.ensures ∙ c.if2.true))
+    omega (arith, mark_room m.before.before.before.args.input.now (sym m.is_marked.ensures ∙ c.if-is_marked.true))
 
-returns-2 : tie.Need-returns-2
+returns-2 : tie.Need-returns-then-is_marked
 returns-2 c =
     let d = c.before.before in
     let m = d.before in
-    c.is_plain.ensures ∙ sym (marked-is m.before.before.before.args.input.now (sym m.is-marked.ensures ∙ d.if2.true))
+    c.is_plain.ensures ∙ sym (marked-is m.before.before.before.args.input.now (sym m.is_marked.ensures ∙ d.if-is_marked.true))
 
-returns-3 : tie.Need-returns-3
+returns-3 : tie.Need-returns
 returns-3 c =
     let d = c.before in
     let m = d.before in
-    c.is-plain2.ensures ∙ sym (plain_is m.before.before.before.args.input.now (sym m.is-marked.ensures ∙ d.if2.false) (omega arith))
+    c.is_plain-2.ensures ∙ sym (plain_is m.before.before.before.args.input.now (sym m.is_marked.ensures ∙ d.if-is_marked.false) (omega arith))
 
-pub is-text-spec : {M : Type 1} → statement M
-is-text-spec =
+pub is_text_spec : {M : Type 1} → statement M
+is_text_spec =
     tie.close
     (tie.spec
     returns

@@ -17,56 +17,56 @@ use Rattle.ladder_findings.proofs.completed_finding.Tie as tie
 run : (s : tie.Start) → passed.Late s.args.year s.args.packed.now
 run s = answered s.args.year s.args.packed.now 14 (omega arith) s.requires
 
-read-again-requires : tie.Need-read-again-requires
+read-again-requires : tie.Need-read_again-requires
 read-again-requires c κs =
     let s = c.before.before.before.before.before.before.before.before in
     let year = s.args.year in
     let packed = s.args.packed.now in
     (passed.opening year packed (run s), (passed.fields year packed (run s), (passed.cumulatives year packed (run s), (refl, (refl, (refl, (refl, refl)))))))
 
-abbrev start : tie.After-read-again → tie.Start
+abbrev start : tie.After-read_again → tie.Start
 start c = c.before.before.before.before.before.before.before.before.before
 
-abbrev F : tie.After-read-again → Figures
+abbrev F : tie.After-read_again → Figures
 F c = figures_of (start c).args.packed.now
 
-good : (c : tie.After-read-again) → Sound (F c)
+good : (c : tie.After-read_again) → Sound (F c)
 good c =
     let s = start c in
-    passed.sound s.args.year s.args.packed.now (run s) (λ i. omega (arith, c.before.before.before.before.before.before.before.before.shared-slice-known.given i))
+    passed.sound s.args.year s.args.packed.now (run s) (λ i. omega (arith, c.before.before.before.before.before.before.before.before.shared_slice_known-1.given i))
 
-six : (c : tie.After-read-again) → cumulatives_pass (F c).k (F c).increments ≡ true
+six : (c : tie.After-read_again) → cumulatives_pass (F c).k (F c).increments ≡ true
 six c = let s = start c in passed.cumulatives s.args.year s.args.packed.now (run s)
 
-thirteen : (c : tie.After-read-again) → development_passes (F c) ≡ true
+thirteen : (c : tie.After-read_again) → development_passes (F c) ≡ true
 thirteen c = let s = start c in development_yes s.args.year s.args.packed.now 14 refl s.pre
 
-last-year-of-requires : tie.Need-last-year-of-requires
+last-year-of-requires : tie.Need-last_year_of-k-requires
 last-year-of-requires c κs = let s = start c in passed.some s.args.year s.args.packed.now (run s)
 
-last-year : (c : tie.After-last-year-of) → c.last-year-of.result ≡ (F c.before).k
+last-year : (c : tie.After-last_year_of-k) → c.last_year_of-k.result ≡ (F c.before).k
 unfolding figures_of
-last-year c = c.last-year-of.ensures.0
+last-year c = c.last_year_of-k.ensures.0
 
 -- the development factors
-abbrev years : tie.After-factors → tie.After-last-year-of
+abbrev years : tie.After-factors-1 → tie.After-last_year_of-k
 years c = c.before.before.before
 
-development-factors-requires : tie.Need-development-factors-requires
+development-factors-requires : tie.Need-development_factors-requires
 development-factors-requires c κs =
     let year = years c in
     let at = year.before in
     let read = at.read_again.ensures in
     factors_ready (F at) (good at) (six at) _ _ (last-year year) read.1.1.1.1.0 _ read.1.1.1.1.1.0
 
-factors : (c : tie.After-development-factors) → c.development-factors.new.1.1.1.0 ≡ development_in (F (years c.before).before)
+factors : (c : tie.After-development_factors) → c.development_factors.new.paid.1.1.0 ≡ development_in (F (years c.before).before)
 factors c =
     let year = years c.before in
     let at = year.before in
     let read = at.read_again.ensures in
-    factors_found (F at) (good at) (six at) _ _ (last-year year) read.1.1.1.1.0 _ read.1.1.1.1.1.0 (thirteen at) _ c.development-factors.ensures.1
+    factors_found (F at) (good at) (six at) _ _ (last-year year) read.1.1.1.1.0 _ read.1.1.1.1.1.0 (thirteen at) _ c.development_factors.ensures.1
 
-cell-found-requires : tie.Need-cell-found-requires
+cell-found-requires : tie.Need-cell_found-requires
 cell-found-requires c κs =
     let made = c.before.before in
     let year = years made.before in
@@ -81,11 +81,11 @@ returns c =
     let year = years made.before in
     let at = year.before in
     let read = at.read_again.ensures in
-    let cell = c.cell-found.ensures in
+    let cell = c.cell_found.ensures in
     (cell.0 ∙ completed_is (F at) (good at) (six at) _ _ (last-year year) read.1.1.1.1.0 _ (factors made), cell.1)
 
-pub completed-finding-spec : {M : Type 1} → statement M
-completed-finding-spec =
+pub completed_finding_spec : {M : Type 1} → statement M
+completed_finding_spec =
     tie.close
     (tie.spec
     read-again-requires

@@ -8,16 +8,14 @@ returns : tie.Need-returns
 unfolding ladder_table
 returns c =
     let p = c.before.before in
-    let f = p.before.before.before.before.before.before in
-    rw (f.fill-ladder.ensures.0, f.fill-ladder.ensures.1) at p.put-triangle-table.ensures
+    let f = p.before.before.before.before.before.before.before.before in
+    rw (f.fill_ladder.ensures.0, f.fill_ladder.ensures.1) at p.put_triangle_table.ensures
 
-pub put-ladder-table-spec : {M : Type 1} → statement M
-put-ladder-table-spec =
+pub put_ladder_table_spec : {M : Type 1} → statement M
+put_ladder_table_spec =
     tie.close
     (tie.spec
     (λ c κs. search rules)
-    (λ c. search rules)
-    (λ c. search rules)
     (λ c. search rules)
     (λ c κs. search rules)
     (λ c. search rules)

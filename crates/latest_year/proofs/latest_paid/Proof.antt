@@ -20,10 +20,10 @@ use Rattle.latest_year.proofs.latest_paid.Tie as tie
 abbrev latest : ℕ → List ℤ → ℕ → ℤ
 latest k p i = paid_of k p i (k - i)
 
-abbrev invariant-loop : tie.invariant-loop
+abbrev invariant-loop : tie.invariant-loop-i
 invariant-loop k increments n sum₀ at₀ i₀ sum at i = (i ≤ n) × ((at ≡ row_start k i) × (sum ≡ of_z w64 (sum_to (latest k increments) i)))
 
-abbrev decreases-loop : tie.decreases-loop
+abbrev decreases-loop : tie.decreases-loop-i
 decreases-loop k increments n sum₀ at₀ i₀ sum at i = n - i
 
 -- no increment's size is above 10^10
@@ -31,40 +31,40 @@ small : (s : tie.Start invariant-loop decreases-loop) (i : ℕ) → nat_abs (lat
 unfolding paid_of
 small s i = s.requires.1 _
 
-add-n : tie.Need-overflow-add-n invariant-loop decreases-loop
+add-n : tie.Need-overflow_add-n invariant-loop decreases-loop
 add-n c = omega arith
 
-loop-holds : tie.Need-loop-init invariant-loop decreases-loop
+loop-holds : tie.Need-loop-i-init invariant-loop decreases-loop
 unfolding sum_to row_start
 loop-holds c = (omega arith, (refl, refl))
 
 -- the row's increments stand in the array
-room : (c : tie.In-loop invariant-loop decreases-loop) → c.before.loop.at + (c.before.before.args.k + 1 - c.before.loop.i) ≤ 136
-room c = rw c.before.loop.invariant.1.0 (row_room c.before.before.args.k c.before.loop.i (omega arith) (omega arith))
+room : (c : tie.In-loop-i invariant-loop decreases-loop) → c.before.loop-i.at + (c.before.before.args.k + 1 - c.before.loop-i.i) ≤ 136
+room c = rw c.before.loop-i.invariant.1.0 (row_room c.before.before.args.k c.before.loop-i.i (omega arith) (omega arith))
 
-sub-sum : tie.Need-overflow-sub-sum invariant-loop decreases-loop
+sub-sum : tie.Need-overflow_sub-sum invariant-loop decreases-loop
 sub-sum c = omega arith
 
-add-sum : tie.Need-overflow-add-sum invariant-loop decreases-loop
+add-sum : tie.Need-overflow_add-sum invariant-loop decreases-loop
 add-sum c = omega (arith, room c)
 
-mul-sum : tie.Need-overflow-mul-sum invariant-loop decreases-loop
+mul-sum : tie.Need-offset_bounds-increments-at invariant-loop decreases-loop
 mul-sum c = omega (arith, room c)
 
-element-copy-out-sum : tie.Need-element-copy-out-sum invariant-loop decreases-loop
+element-copy-out-sum : tie.Need-bounds-increments-at invariant-loop decreases-loop
 element-copy-out-sum c = omega (arith, room c)
 
-add-sum-2 : tie.Need-overflow-add-sum-2 invariant-loop decreases-loop
+add-sum-2 : tie.Need-overflow_add-sum-in-loop-i invariant-loop decreases-loop
 unfolding paid_of
 add-sum-2 c =
     let s = c.before.before.before in
-    let l = c.before.before.loop in
-    rw l.invariant.1.0 (step_fits (latest s.args.k s.args.increments.now) most_amount (small s) l.i l.sum (omega arith) l.invariant.1.1)
+    let l = c.before.before.loop-i in
+    rw l.invariant.1.0 (step_fits (latest s.args.k s.args.increments.now) most_amount (small s) l.i l.sum-1 (omega arith) l.invariant.1.1)
 
-sub_at : tie.Need-overflow-sub-at invariant-loop decreases-loop
+sub_at : tie.Need-overflow_sub-at invariant-loop decreases-loop
 sub_at c = omega arith
 
-add_at : tie.Need-overflow-add-at invariant-loop decreases-loop
+add_at : tie.Need-overflow_add-at invariant-loop decreases-loop
 add_at c = omega (arith, room c.before)
 
 -- one row more
@@ -73,30 +73,30 @@ sum_more : (s : tie.Start invariant-loop decreases-loop) (i at sum : ℕ) → i 
 unfolding paid_of
 sum_more s i at sum few e h = rw e (ap (of_z w64) (sum_to_step (latest s.args.k s.args.increments.now) most_amount (small s) i sum (omega arith) h))
 
-add-i : tie.Need-overflow-add-i invariant-loop decreases-loop
+add-i : tie.Need-overflow_step-i invariant-loop decreases-loop
 add-i c = omega arith
 
-loop-less : tie.Need-loop-smaller invariant-loop decreases-loop
+loop-less : tie.Need-loop-i-smaller invariant-loop decreases-loop
 loop-less c = omega arith
 
-loop-again : tie.Need-loop-preserved invariant-loop decreases-loop
+loop-again : tie.Need-loop-i-preserved invariant-loop decreases-loop
 loop-again c =
     let s = c.before.before.before in
-    let l = c.before.before.loop in
-    (omega arith, (omega (arith, row_start_more s.args.k l.i, l.invariant.1.0), sum_more s l.i l.at l.sum (omega arith) l.invariant.1.0 l.invariant.1.1))
+    let l = c.before.before.loop-i in
+    (omega arith, (omega (arith, row_start_more s.args.k l.i, l.invariant.1.0), sum_more s l.i l.at l.sum-1 (omega arith) l.invariant.1.0 l.invariant.1.1))
 
 returns : tie.Need-returns invariant-loop decreases-loop
 unfolding latest_paid
 returns c =
     let s = c.before.before in
-    let l = c.before.loop in
+    let l = c.before.loop-i in
     let e : l.i ≡ s.args.k + 1 = omega arith in
     let row = latest s.args.k s.args.increments.now in
-    let is = sum_to_read row most_amount (small s) (s.args.k + 1) l.sum (omega arith) (rw e at l.invariant.1.1) in
+    let is = sum_to_read row most_amount (small s) (s.args.k + 1) l.sum-1 (omega arith) (rw e at l.invariant.1.1) in
     (is, rw is (omega (arith, sum_to_size row most_amount (small s) (s.args.k + 1))))
 
-pub latest-paid-spec : {M : Type 1} → statement M
-latest-paid-spec =
+pub latest_paid_spec : {M : Type 1} → statement M
+latest_paid_spec =
     tie.close
     (tie.spec
     invariant-loop

@@ -9,10 +9,10 @@ use Rattle.layout.proofs.RecordSizes.{bits_most}
 use Rattle.layout.proofs.bytes_of.Statement.{statement}
 use Rattle.layout.proofs.bytes_of.Tie as tie
 
-places-of-requires : tie.Need-places-of-requires
+places-of-requires : tie.Need-places_of-requires
 places-of-requires c κs = search rules
 
-add-result : tie.Need-overflow-add-result
+add-result : tie.Need-overflow_add-result
 unfolding places_of
 add-result c =
     let k = c.before.before.args.k in
@@ -24,5 +24,5 @@ returns c =
     let k = c.before.before.args.k in
     omega (arith, bits_most k c.before.before.requires, ap (λ (p : Places). p.end) c.before.places_of.ensures)
 
-pub bytes-of-spec : {M : Type 1} → statement M
-bytes-of-spec = tie.close (tie.spec places-of-requires add-result returns)
+pub bytes_of_spec : {M : Type 1} → statement M
+bytes_of_spec = tie.close (tie.spec places-of-requires add-result returns)

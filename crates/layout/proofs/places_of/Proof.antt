@@ -17,61 +17,61 @@ of_places : {n a b d e f g h : ℕ} (k : ℕ)
 unfolding places_of
 of_places k p q r s t u v w = rw (p, q, r, s, t, u, v, w)
 
-cells-of-requires : tie.Need-cells-of-requires
+cells-of-requires : tie.Need-cells_of-cells-requires
 cells-of-requires c κs = search rules
 
-mul-increments : tie.Need-overflow-mul-increments
+mul-increments : tie.Need-overflow_mul-increments
 mul-increments c = search rules
 
-add-increments : tie.Need-overflow-add-increments
+add-increments : tie.Need-overflow_add-increments
 add-increments c = search rules
 
-mul-indices : tie.Need-overflow-mul-indices
+mul-indices : tie.Need-overflow_mul-indices
 mul-indices c = search rules
 
-add-indices : tie.Need-overflow-add-indices
+add-indices : tie.Need-overflow_add-indices
 add-indices c = search rules
 
-add-reporting-2 : tie.Need-overflow-add-reporting-2
+add-reporting-2 : tie.Need-overflow_add-reporting-2
 add-reporting-2 c = search rules
 
-mul-reporting : tie.Need-overflow-mul-reporting
+mul-reporting : tie.Need-overflow_mul-reporting
 mul-reporting c = search rules
 
-add-reporting : tie.Need-overflow-add-reporting
+add-reporting : tie.Need-overflow_add-reporting
 add-reporting c = search rules
 
-add-weight : tie.Need-overflow-add-weight
+add-weight : tie.Need-overflow_add-weight
 add-weight c = search rules
 
-mul-weight : tie.Need-overflow-mul-weight
+mul-weight : tie.Need-overflow_mul-weight
 mul-weight c = search rules
 
-add-weight-2 : tie.Need-overflow-add-weight-2
+add-weight-2 : tie.Need-overflow_add-weight-2
 add-weight-2 c = search rules
 
-add-ulae : tie.Need-overflow-add-ulae
+add-ulae : tie.Need-overflow_add-ulae
 add-ulae c = search rules
 
-add-tail : tie.Need-overflow-add-tail
+add-tail : tie.Need-overflow_add-tail
 add-tail c = search rules
 
-mul-tail : tie.Need-overflow-mul-tail
+mul-tail : tie.Need-overflow_mul-tail
 mul-tail c = search rules
 
-add-tail-2 : tie.Need-overflow-add-tail-2
+add-tail-2 : tie.Need-overflow_add-tail-2
 add-tail-2 c = search rules
 
-add-end : tie.Need-overflow-add-end
+add-end : tie.Need-overflow_add-end
 add-end c = search rules
 
 returns : tie.Need-returns
 returns c =
     let s = starts c.before.args.k in
-    of_places c.before.args.k c.Cells-of.ensures.0 (omega arith) (omega arith) (omega arith) (omega arith) (omega arith) (omega arith) (omega arith)
+    of_places c.before.args.k c.cells_of-cells.ensures.0 (omega arith) (omega arith) (omega arith) (omega arith) (omega arith) (omega arith) (omega arith)
 
-pub places-of-spec : {M : Type 1} → statement M
-places-of-spec =
+pub places_of_spec : {M : Type 1} → statement M
+places_of_spec =
     tie.close
     (tie.spec
     cells-of-requires

@@ -10,44 +10,44 @@ use borrow.Author.Rules.{rules}
 use Rattle.level_columns.proofs.place_ahead.Statement.{statement}
 use Rattle.level_columns.proofs.place_ahead.Tie as tie
 
-place-column-requires : tie.Need-place-column-requires
+place-column-requires : tie.Need-place_column-requires
 place-column-requires c κs =
     let s = c.before.before.before.before in
     let k = s.args.k in
     let here = standing k s.requires in
     let there = numbers (added_at k) (starts_of k) k s.requires refl refl in
-    rw c.before.before.added-at.ensures (omega arith, (omega arith, (omega arith, λ m h. omega arith)))
+    rw c.before.before.added_at-a.ensures (omega arith, (omega arith, (omega arith, λ m h. omega arith)))
 
-place-column-requires-2 : tie.Need-place-column-requires-2
+place-column-requires-2 : tie.Need-place_column-requires-2
 place-column-requires-2 c κs =
     let s = c.before.before.before.before.before.before.before in
     let k = s.args.k in
     let here = standing k s.requires in
     let there = numbers (added_at k) (starts_of k) k s.requires refl refl in
-    rw c.before.before.before.before.before.before.starts-of.ensures (omega arith, (omega arith, (omega arith, λ m h. omega arith)))
+    rw c.before.before.before.before.before.before.starts_of-s.ensures (omega arith, (omega arith, (omega arith, λ m h. omega arith)))
 
-add-place-column-2 : tie.Need-overflow-add-place-column-2
+add-place-column-2 : tie.Need-overflow_add-a
 add-place-column-2 c =
     let s = c.before.before.before.before.before.before.before.before.before.before.before in
     let k = s.args.k in
     let there = numbers (added_at k) (starts_of k) k s.requires refl refl in
-    rw c.before.before.before.before.before.before.before.before.before.added-at.ensures (omega arith)
+    rw c.before.before.before.before.before.before.before.before.before.added_at-a.ensures (omega arith)
 
-place-column-requires-3 : tie.Need-place-column-requires-3
+place-column-requires-3 : tie.Need-place_column-requires-3
 place-column-requires-3 c κs =
     let s = c.before.before.before.before.before.before.before.before.before.before.before in
     let k = s.args.k in
     let here = standing k s.requires in
     let there = numbers (added_at k) (starts_of k) k s.requires refl refl in
-    rw c.before.before.before.before.before.before.before.before.before.added-at.ensures (omega arith, (omega arith, (omega arith, λ m h. omega arith)))
+    rw c.before.before.before.before.before.before.before.before.before.added_at-a.ensures (omega arith, (omega arith, (omega arith, λ m h. omega arith)))
 
-place-column-requires-4 : tie.Need-place-column-requires-4
+place-column-requires-4 : tie.Need-place_column-requires-4
 place-column-requires-4 c κs =
     let s = c.before.before.before.before.before.before.before.before.before.before.before.before.before.before in
     let k = s.args.k in
     let here = standing k s.requires in
     let there = numbers (added_at k) (starts_of k) k s.requires refl refl in
-    rw c.before.before.before.before.before.before.before.before.before.before.before.before.added-at.ensures (omega arith, (omega arith, (omega arith, λ m h. omega arith)))
+    rw c.before.before.before.before.before.before.before.before.before.before.before.before.added_at-a.ensures (omega arith, (omega arith, (omega arith, λ m h. omega arith)))
 
 returns : tie.Need-returns
 unfolding placed_future
@@ -56,18 +56,18 @@ returns c =
     let p = c.before.before.before.before.before.before.before in
     let o = c.before.before.before.before.before.before.before.before.before.before in
     rw (
-      q.place-column3.ensures.0,
-      q.place-column3.ensures.1,
-      p.place-column2.ensures.0,
-      p.place-column2.ensures.1,
-      o.place-column.ensures.0,
-      o.place-column.ensures.1,
-      c.before.before.before.before.before.before.before.before.before.before.before.before.before.before.starts-of.ensures,
-      c.before.before.before.before.before.before.before.before.before.before.before.before.before.added-at.ensures,
-    ) at c.place-column4.ensures
+      q.place_column-3.ensures.0,
+      q.place_column-3.ensures.1,
+      p.place_column-2.ensures.0,
+      p.place_column-2.ensures.1,
+      o.place_column.ensures.0,
+      o.place_column.ensures.1,
+      c.before.before.before.before.before.before.before.before.before.before.before.before.before.before.starts_of-s.ensures,
+      c.before.before.before.before.before.before.before.before.before.before.before.before.before.added_at-a.ensures,
+    ) at c.place_column-4.ensures
 
-pub place-ahead-spec : {M : Type 1} → statement M
-place-ahead-spec =
+pub place_ahead_spec : {M : Type 1} → statement M
+place_ahead_spec =
     tie.close
     (tie.spec
     (λ c κs. search rules)

@@ -10,30 +10,30 @@ use borrow.Author.Rules.{rules}
 use Rattle.level_columns.proofs.place_levels.Statement.{statement}
 use Rattle.level_columns.proofs.place_levels.Tie as tie
 
-place-column-requires : tie.Need-place-column-requires
+place-column-requires : tie.Need-place_column-requires
 place-column-requires c κs =
     let s = c.before.before.before.before in
     let k = s.args.k in
     let here = standing k s.requires in
     let there = numbers (added_at k) (starts_of k) k s.requires refl refl in
-    rw c.before.before.before.starts-of.ensures (omega arith, (omega arith, (omega arith, λ m h. omega arith)))
+    rw c.before.before.before.starts_of-s.ensures (omega arith, (omega arith, (omega arith, λ m h. omega arith)))
 
-place-column-requires-2 : tie.Need-place-column-requires-2
+place-column-requires-2 : tie.Need-place_column-requires-2
 place-column-requires-2 c κs =
     let s = c.before.before.before.before.before.before.before in
     let k = s.args.k in
     let here = standing k s.requires in
     let there = numbers (added_at k) (starts_of k) k s.requires refl refl in
-    rw c.before.before.before.before.before.added-at.ensures (omega arith, (omega arith, (omega arith, λ m h. omega arith)))
+    rw c.before.before.before.before.before.added_at-a.ensures (omega arith, (omega arith, (omega arith, λ m h. omega arith)))
 
 returns : tie.Need-returns
 unfolding placed_levels
 returns c =
     let p = c.before.before.before in
-    rw (p.place-column.ensures.0, p.place-column.ensures.1, c.before.before.before.before.before.before.before.starts-of.ensures, c.before.before.before.before.before.before.added-at.ensures) at c.place-column2.ensures
+    rw (p.place_column.ensures.0, p.place_column.ensures.1, c.before.before.before.before.before.before.before.starts_of-s.ensures, c.before.before.before.before.before.before.added_at-a.ensures) at c.place_column-2.ensures
 
-pub place-levels-spec : {M : Type 1} → statement M
-place-levels-spec =
+pub place_levels_spec : {M : Type 1} → statement M
+place_levels_spec =
     tie.close
     (tie.spec
     (λ c κs. search rules)

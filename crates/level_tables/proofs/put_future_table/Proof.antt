@@ -7,29 +7,26 @@ use borrow.Author.Rules.{rules}
 use Rattle.level_tables.proofs.put_future_table.Statement.{statement}
 use Rattle.level_tables.proofs.put_future_table.Tie as tie
 
-fill-totals-requires : tie.Need-fill-totals-requires
+fill-totals-requires : tie.Need-fill_totals-requires
 fill-totals-requires c κs =
     let s = c.before.before.before.before.before.before in
     let small = future_totalling s.args.k s.args.figures.now s.requires.0 s.requires.1.1 in
-    (omega arith, (omega arith, (omega arith, λ p h. rw c.before.before.place-ahead.ensures.0 (small p))))
+    (omega arith, (omega arith, (omega arith, λ p h. rw c.before.before.place_ahead.ensures.0 (small p))))
 
 returns : tie.Need-returns
 unfolding future_table future_words future_grid totalled
 returns c =
-    let t = c.before.before.before.before.before.before.before.before.before in
-    let p = c.before.before.before.before.before.before.before.before.before.before.before.before in
-    rw (t.fill-totals.ensures.0, t.fill-totals.ensures.1, p.place-ahead.ensures.0, p.place-ahead.ensures.1) at c.before.before.put-table.ensures
+    let t = c.before.before.before.before.before.before.before.before.before.before.before.before in
+    let p = c.before.before.before.before.before.before.before.before.before.before.before.before.before.before.before in
+    rw (t.fill_totals.ensures.0, t.fill_totals.ensures.1, p.place_ahead.ensures.0, p.place_ahead.ensures.1) at c.before.before.put_table.ensures
 
-pub put-future-table-spec : {M : Type 1} → statement M
-put-future-table-spec =
+pub put_future_table_spec : {M : Type 1} → statement M
+put_future_table_spec =
     tie.close
     (tie.spec
     (λ c κs. search rules)
     (λ c. search rules)
     fill-totals-requires
-    (λ c. search rules)
-    (λ c. search rules)
-    (λ c. search rules)
     (λ c. search rules)
     (λ c. search rules)
     (λ c. search rules)

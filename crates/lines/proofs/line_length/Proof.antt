@@ -12,10 +12,10 @@ returns : tie.Need-returns
 unfolding line_of
 returns c =
     let b = c.before.before in
-    let rest = from_place b.before.before.args.text.now b.line-start.result in
-    sym (length-take-le _ _ c.line-end.ensures.0) ∙ ap size (c.line-end.ensures.1 ∙ ap first_line (rest ∙ b.line-start.ensures.1))
+    let rest = from_place b.before.before.args.text.now b.line_start-start.result in
+    sym (length-take-le _ _ c.line_end.ensures.0) ∙ ap size (c.line_end.ensures.1 ∙ ap first_line (rest ∙ b.line_start-start.ensures.1))
 
-pub line-length-spec : {M : Type 1} → statement M
-line-length-spec =
+pub line_length_spec : {M : Type 1} → statement M
+line_length_spec =
     tie.close
     (tie.spec (λ c κs. search rules) (λ c. search rules) (λ c. search rules) (λ c. search rules) (λ c κs. search rules) returns)

@@ -12,10 +12,10 @@ returns c =
     let year = c.before.before.before.before.before in
     let start = year.before in
     let s = start.before.before.before.args.input.now in
-    put_same (ap₂ list_text year.year-of.ensures.0 (record-part s start.record-start.result start.record-start.ensures.1)) c.before.before.put-run.ensures
+    put_same (ap₂ list_text year.year_of-year.ensures.0 (record-part s start.record_start-from.result start.record_start-from.ensures.1)) c.before.before.put_run.ensures
 
-pub put-list-spec : {M : Type 1} → statement M
-put-list-spec =
+pub put_list_spec : {M : Type 1} → statement M
+put_list_spec =
     tie.close
     (tie.spec
     (λ c κs. search rules)

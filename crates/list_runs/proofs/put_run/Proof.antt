@@ -8,33 +8,33 @@ use Rattle.list_runs.proofs.Texts.{run_refused, run_some, run_accepted}
 use Rattle.list_runs.proofs.put_run.Statement.{statement}
 use Rattle.list_runs.proofs.put_run.Tie as tie
 
-abbrev start : tie.After-doonamurk-run → tie.Start
+abbrev start : tie.After-doonamurk_run-answer → tie.Start
 start c = c.before.before.before.before
 
-returns : tie.Need-returns
+returns : tie.Need-returns-then-answer-ne-ACCEPTED
 returns c =
     let no = c.before.before.before.before in
     let run = no.before.before in
-    put_same (run_refused (start run).args.year (start run).args.packed.now (start run).args.between run.doonamurk-run.result run.doonamurk-run.ensures.0 no.if1.true) c.before.before.Put-refused.ensures
+    put_same (run_refused (start run).args.year (start run).args.packed.now (start run).args.between run.doonamurk_run-answer.result run.doonamurk_run-answer.ensures.0 no.if-answer-ne-ACCEPTED.true) c.before.before.put_refused.ensures
 
 -- the run is accepted
-accepted : (c : tie.Else1) → run_answer (start c.before.before).args.year (start c.before.before).args.packed.now most_entries ≡ 0
-accepted c = sym c.before.before.doonamurk-run.ensures.0 ∙ c.if1.false
+accepted : (c : tie.Else-answer-ne-ACCEPTED) → run_answer (start c.before.before).args.year (start c.before.before).args.packed.now most_entries ≡ 0
+accepted c = sym c.before.before.doonamurk_run-answer.ensures.0 ∙ c.if-answer-ne-ACCEPTED.false
 
-last-year-of-requires : tie.Need-last-year-of-requires
+last-year-of-requires : tie.Need-last_year_of-requires
 last-year-of-requires c κs = let yes-all = c.before.before in run_some (start yes-all.before.before).args.year (start yes-all.before.before).args.packed.now (accepted yes-all)
 
-returns-2 : tie.Need-returns-2
+returns-2 : tie.Need-returns
 returns-2 c =
     let count = c.before.before.before in
     let year = count.before in
     let yes-all = year.before.before.before in
     let run = yes-all.before.before in
-    let n = count.entries-of.ensures.0 ∙ ap result_count year.last-year-of.ensures.0 in
-    put_same (run_accepted (start run).args.year (start run).args.packed.now (accepted yes-all) (start run).args.between count.entries-of.result _ run.doonamurk-run.ensures.1.0 n count.entries-of.ensures.1) c.before.before.put-separated.ensures
+    let n = count.entries_of.ensures.0 ∙ ap result_count year.last_year_of.ensures.0 in
+    put_same (run_accepted (start run).args.year (start run).args.packed.now (accepted yes-all) (start run).args.between count.entries_of.result _ run.doonamurk_run-answer.ensures.1.0 n count.entries_of.ensures.1) c.before.before.put_separated.ensures
 
-pub put-run-spec : {M : Type 1} → statement M
-put-run-spec =
+pub put_run_spec : {M : Type 1} → statement M
+put_run_spec =
     tie.close
     (tie.spec
     (λ c. search rules)

@@ -5,11 +5,11 @@ use Rattle.list_stream.proofs.RowsTaken.{no_length, some_length}
 use Rattle.list_stream.proofs.has_whole.Statement.{statement}
 use Rattle.list_stream.proofs.has_whole.Tie as tie
 
-returns : tie.Need-returns
+returns : tie.Need-returns-then-left-lt2
 returns c = let s = c.before.before in no_length s.args.s.now s.args.p (omega arith)
 
-returns-2 : tie.Need-returns-2
-returns-2 c = let s = c.before.before.before in rw c.pair-at.ensures.0 (some_length s.args.s.now s.args.p (omega arith))
+returns-2 : tie.Need-returns
+returns-2 c = let s = c.before.before.before in rw c.pair_at.ensures.0 (some_length s.args.s.now s.args.p (omega arith))
 
-pub has-whole-spec : {M : Type 1} → statement M
-has-whole-spec = tie.close (tie.spec (λ c. search rules) returns (λ c κs. search rules) returns-2)
+pub has_whole_spec : {M : Type 1} → statement M
+has_whole_spec = tie.close (tie.spec (λ c. search rules) returns (λ c κs. search rules) returns-2)

@@ -9,7 +9,7 @@ use Rattle.laws.proofs.Lists.{stored}
 use Rattle.list_stream.proofs.move_down.Statement.{statement}
 use Rattle.list_stream.proofs.move_down.Tie as tie
 
-abbrev invariant-loop : tie.invariant-loop
+abbrev invariant-loop : tie.invariant-loop-i
 invariant-loop s₀ from to i₀ s i =
     (from ≤ i)
     × (i ≤ to)
@@ -17,16 +17,16 @@ invariant-loop s₀ from to i₀ s i =
     × ((j : ℕ) → from + j < i → get_or s j 0 ≡ get_or s₀ (from + j) 0)
     × ((j : ℕ) → i ≤ from + j → get_or s j 0 ≡ get_or s₀ j 0)
 
-abbrev decreases-loop : tie.decreases-loop
+abbrev decreases-loop : tie.decreases-loop-i
 decreases-loop s₀ from to i₀ s i = to - i
 
-loop-holds : tie.Need-loop-init invariant-loop decreases-loop
+loop-holds : tie.Need-loop-i-init invariant-loop decreases-loop
 loop-holds c = (omega arith, omega arith, refl, (λ j h. absurd (omega arith)), (λ j h. refl))
 
-loop-again : tie.Need-loop-preserved invariant-loop decreases-loop
+loop-again : tie.Need-loop-i-preserved invariant-loop decreases-loop
 loop-again c =
     let at = c.before.before in
-    let l = at.loop in
+    let l = at.loop-i in
     let from = at.before.args.from in
     let s₀ = at.before.args.s.now in
     let was : get_or l.s l.i 0 ≡ get_or s₀ (from + (l.i - from)) 0
@@ -38,11 +38,11 @@ loop-again c =
       (λ j h. get_or-set_other l.s (l.i - from) j (get_or l.s l.i 0) 0 (λ e. omega arith) ∙ l.invariant.4 j (omega arith)),
     )
 
-same_length : tie.Need-same-length invariant-loop decreases-loop
-same_length c = c.before.loop.invariant.2
+same_length : tie.Need-shape_of-s invariant-loop decreases-loop
+same_length c = c.before.loop-i.invariant.2
 
 returns : tie.Need-returns invariant-loop decreases-loop
-returns c = let l = c.before.loop in ((λ j h. l.invariant.3 j (omega arith)), (λ j h. l.invariant.4 j (omega arith)))
+returns c = let l = c.before.loop-i in ((λ j h. l.invariant.3 j (omega arith)), (λ j h. l.invariant.4 j (omega arith)))
 
 pub move_down_spec : {M : Type 1} → statement M
 move_down_spec =

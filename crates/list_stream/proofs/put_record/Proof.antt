@@ -13,10 +13,10 @@ returns : tie.Need-returns
 returns c =
     let s = c.before.before.before.before.before.before.before in
     let size : s.args.p + 2 + s.args.n - (s.args.p + 2) ≡ s.args.n = omega arith in
-    put_same (ap (λ (m : ℕ). list_row s.args.year (take m (drop (s.args.p + 2) s.args.s.now))) size) c.before.before.put-list-row.ensures
+    put_same (ap (λ (m : ℕ). list_row s.args.year (take m (drop (s.args.p + 2) s.args.s.now))) size) c.before.before.put_list_row.ensures
 
-pub put-record-spec : {M : Type 1} → statement M
-put-record-spec =
+pub put_record_spec : {M : Type 1} → statement M
+put_record_spec =
     tie.close
     (tie.spec
     (λ c. search rules)

@@ -51,83 +51,83 @@ pub record Turn (year : ℕ) (s before after : List ℕ) (room count from end : 
   pub fits : end ≤ length before
   pub taken : (i : ℕ) → i < count → length (rows_text year s i) + most_row ≤ length before
 
-abbrev invariant-loop : tie.invariant-loop
+abbrev invariant-loop : tie.invariant-loop-end
 invariant-loop year s out₀ room count₀ from₀ end₀ out count from end = Turn year s out₀ out room count from end
 
-abbrev decreases-loop : tie.decreases-loop
+abbrev decreases-loop : tie.decreases-loop-end
 decreases-loop year s out₀ room count₀ from₀ end₀ out count from end = length s - from
 
-loop-holds : tie.Need-loop-init invariant-loop decreases-loop
+loop-holds : tie.Need-loop-end-init invariant-loop decreases-loop
 unfolding length_start rows_text up_to joined
 loop-holds c = record { long = refl; few = omega arith; place = refl; inside = omega arith; put = put_none _ _; whole = refl; fits = omega arith; taken = λ i h. absurd (omega arith) }
 
-sub-loop : tie.Need-overflow-sub-loop invariant-loop decreases-loop
-sub-loop c = let i = c.loop.invariant in omega (arith, i.long, i.fits)
+sub-loop : tie.Need-overflow_sub-room invariant-loop decreases-loop
+sub-loop c = let i = c.loop-end.invariant in omega (arith, i.long, i.fits)
 
-has-whole-requires : tie.Need-has-whole-requires invariant-loop decreases-loop
-has-whole-requires c κs = c.before.loop.invariant.inside
+has-whole-requires : tie.Need-has_whole-requires invariant-loop decreases-loop
+has-whole-requires c κs = c.before.loop-end.invariant.inside
 
-same_length : tie.Need-same-length invariant-loop decreases-loop
-same_length c = put_length c.before.before.before.loop.invariant.put
+same_length : tie.Need-shape_of-out-then-not-has_whole invariant-loop decreases-loop
+same_length c = put_length c.before.before.before.loop-end.invariant.put
 
-returns : tie.Need-returns invariant-loop decreases-loop
+returns : tie.Need-returns-then-not-has_whole invariant-loop decreases-loop
 returns c =
     let t = c.before in
-    let i = t.before.before.loop.invariant in
-    let none = sym t.has-whole.ensures ∙ not-true t.has-whole.result c.if1.true in
+    let i = t.before.before.loop-end.invariant in
+    let none = sym t.has_whole.ensures ∙ not-true t.has_whole.result c.if-not-has_whole.true in
     record { place = i.place; inside = i.inside; put = i.put; whole = i.whole; fits = i.fits; taken = i.taken; done = λ w. absurd (false≢true (sym none ∙ w)) }
 
 -- the record at hand stands inside
-here : (c : tie.Else1 invariant-loop decreases-loop) → c.before.before.before.loop.from + 2 + pair_at c.before.before.before.before.before.before.args.s.now c.before.before.before.loop.from ≤ length c.before.before.before.before.before.before.args.s.now
+here : (c : tie.Else-not-has_whole invariant-loop decreases-loop) → c.before.before.before.loop-end.from + 2 + pair_at c.before.before.before.before.before.before.args.s.now c.before.before.before.loop-end.from ≤ length c.before.before.before.before.before.before.args.s.now
 here c =
     let t = c.before in
     let at = t.before.before in
-    whole_inside at.before.before.before.args.s.now at.loop.from (sym t.has-whole.ensures ∙ not-false t.has-whole.result c.if1.false)
+    whole_inside at.before.before.before.args.s.now at.loop-end.from (sym t.has_whole.ensures ∙ not-false t.has_whole.result c.if-not-has_whole.false)
 
-pair-at-requires : tie.Need-pair-at-requires invariant-loop decreases-loop
+pair-at-requires : tie.Need-pair_at-n-requires invariant-loop decreases-loop
 pair-at-requires c κs = omega (arith, here c)
 
-put-record-requires : tie.Need-put-record-requires invariant-loop decreases-loop
-put-record-requires c κs = let t = c.before in omega (arith, here t.before, t.pair-at.ensures.0)
+put-record-requires : tie.Need-put_record-end-requires invariant-loop decreases-loop
+put-record-requires c κs = let t = c.before in omega (arith, here t.before, t.pair_at-n.ensures.0)
 
 -- the place after it
-abbrev taken : tie.After-slice-known2 invariant-loop decreases-loop → tie.After-pair-at invariant-loop decreases-loop
+abbrev taken : tie.After-slice_known-in-loop-end-1 invariant-loop decreases-loop → tie.After-pair_at-n invariant-loop decreases-loop
 taken c = c.before.before.before.before
 
-past : (c : tie.After-slice-known2 invariant-loop decreases-loop) →
+past : (c : tie.After-slice_known-in-loop-end-1 invariant-loop decreases-loop) →
     let n = taken c in
     let at = n.before.before.before.before in
-    at.loop.from + 2 + n.pair-at.result ≤ length at.before.before.before.args.s.now
-past c = let n = taken c in omega (arith, here n.before, n.pair-at.ensures.0)
+    at.loop-end.from + 2 + n.pair_at-n.result ≤ length at.before.before.before.args.s.now
+past c = let n = taken c in omega (arith, here n.before, n.pair_at-n.ensures.0)
 
-add-from : tie.Need-overflow-add-from invariant-loop decreases-loop
+add-from : tie.Need-overflow_add-from invariant-loop decreases-loop
 add-from c = omega (arith, past c)
 
-add-from-2 : tie.Need-overflow-add-from-2 invariant-loop decreases-loop
+add-from-2 : tie.Need-overflow_add-from-in-loop-end invariant-loop decreases-loop
 add-from-2 c = omega (arith, past c)
 
-add-count : tie.Need-overflow-add-count invariant-loop decreases-loop
+add-count : tie.Need-overflow_add-count invariant-loop decreases-loop
 add-count c = omega (arith, past c, (taken c).before.before.before.before.loop.invariant.few)
 
-loop-less : tie.Need-loop-smaller invariant-loop decreases-loop
+loop-less : tie.Need-loop-end-smaller invariant-loop decreases-loop
 loop-less c = omega (arith, past c)
 
-loop-again : tie.Need-loop-preserved invariant-loop decreases-loop
+loop-again : tie.Need-loop-end-preserved invariant-loop decreases-loop
 unfolding rows_text
 loop-again c =
     let n = taken c in
     let at = n.before.before.before.before in
     let s = at.before.before.before.args.s.now in
     let year = at.before.before.before.args.year in
-    let i = at.loop.inv in
-    let count = at.loop.count in
-    let put = put_same (record_is year s count at.loop.from n.pair-at.result i.place n.pair-at.ensures.0) c.before.before.put_record.ensures in
+    let i = at.loop-end.inv in
+    let count = at.loop-end.count in
+    let put = put_same (record_is year s count at.loop-end.from n.pair_at-n.result i.place n.pair_at-n.ensures.0) c.before.before.put_record-end.ensures in
     let row = text_most 32 year (record_at s count) in
     let ended = put_room put (omega (arith, row, put_length i.put, i.long)) in
     record {
       long = i.long;
       few = omega (arith, i.few);
-      place = rw n.pair-at.ensures.0 (next_start s count at.loop.from i.place);
+      place = rw n.pair_at-n.ensures.0 (next_start s count at.loop-end.from i.place);
       inside = past c;
       put = put_more (λ j. list_row year (record_at s j)) count i.put put;
       whole = omega (arith, ended, rows_length year s count, i.whole);
@@ -135,16 +135,16 @@ loop-again c =
       taken = had-room year s (length at.before.before.before.args.out.now) count i.taken (omega (arith, i.long, i.fits, i.whole));
     }
 
-same-length-2 : tie.Need-same-length-2 invariant-loop decreases-loop
-same-length-2 c = put_length c.before.loop.invariant.put
+same-length-2 : tie.Need-shape_of-out invariant-loop decreases-loop
+same-length-2 c = put_length c.before.loop-end.invariant.put
 
-returns-2 : tie.Need-returns-2 invariant-loop decreases-loop
+returns-2 : tie.Need-returns invariant-loop decreases-loop
 returns-2 c =
-    let i = c.before.loop.invariant in
+    let i = c.before.loop-end.invariant in
     record { place = i.place; inside = i.inside; put = i.put; whole = i.whole; fits = i.fits; taken = i.taken; done = λ w. omega (arith, i.long, i.fits) }
 
-pub put-rows-spec : {M : Type 1} → statement M
-put-rows-spec =
+pub put_rows_spec : {M : Type 1} → statement M
+put_rows_spec =
     tie.close
     (tie.spec
     invariant-loop

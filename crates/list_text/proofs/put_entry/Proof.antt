@@ -11,7 +11,7 @@ unfolding entry_text
 returns c =
     let put = c.before.before.before.before.before.before in
     let kept = to_z-of_z put.before.before.before.ranges.z in
-    put_append (rw kept at put.put-integer.ensures) c.before.before.put_byte.ensures
+    put_append (rw kept at put.put_integer-end.ensures) c.before.before.put_byte.ensures
 
-pub put-entry-spec : {M : Type 1} → statement M
-put-entry-spec = tie.close (tie.spec (λ c κs. search rules) (λ c κs. search rules) (λ c. search rules) returns)
+pub put_entry_spec : {M : Type 1} → statement M
+put_entry_spec = tie.close (tie.spec (λ c κs. search rules) (λ c κs. search rules) (λ c. search rules) returns)

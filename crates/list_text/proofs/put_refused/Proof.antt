@@ -9,9 +9,14 @@ returns : tie.Need-returns
 unfolding refused_text
 returns c =
     let number = c.before.before.before.before.before.before in
-    put_three number.before.before.before.before.put-bytes.ensures number.put-decimal.ensures c.before.before.put_byte.ensures
+    put_three number.before.before.before.before.put_bytes-a.ensures number.put_decimal-b.ensures c.before.before.put_byte.ensures
 
-pub put-refused-spec : {M : Type 1} → statement M
-put-refused-spec =
+pub put_refused_spec : {M : Type 1} → statement M
+put_refused_spec =
     tie.close
-    (tie.spec (λ c. search rules) (λ c κs. search rules) (λ c κs. search rules) (λ c κs. search rules) (λ c. search rules) returns)
+    (tie.spec
+    (λ c κs. search rules)
+    (λ c κs. search rules)
+    (λ c κs. search rules)
+    (λ c. search rules)
+    returns)

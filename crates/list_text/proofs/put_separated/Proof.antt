@@ -28,35 +28,35 @@ all_entries list n between h =
     let size : length (take n list) ≡ n = rw length-take (omega arith) in
     rw (size, up_to_ext (entry list n between) (λ i. entry_text (get_or (take n list) i (pos 0)) (after between n i)) n (λ i l. rw (get_or-take n list i (pos 0) l)))
 
-abbrev invariant-loop : tie.invariant-loop
+abbrev invariant-loop : tie.invariant-loop-i
 invariant-loop out₀ at list n between end₀ i₀ out end i = (i ≤ n) × Put out₀ out at end (joined (up_to (entry list n between) i))
 
-abbrev decreases-loop : tie.decreases-loop
+abbrev decreases-loop : tie.decreases-loop-i
 decreases-loop out₀ at list n between end₀ i₀ out end i = n - i
 
-loop-holds : tie.Need-loop-init invariant-loop decreases-loop
+loop-holds : tie.Need-loop-i-init invariant-loop decreases-loop
 loop-holds c = (omega arith, put_first _ _ _)
 
-loop-again : tie.Need-loop-preserved invariant-loop decreases-loop
+loop-again : tie.Need-loop-i-preserved invariant-loop decreases-loop
 loop-again c =
     let t = c.before.before.before in
     let at = t.before.before.before.before in
     let s = at.before.before.args in
-    let kept = to_z-of_z {w = w64} {z = get_or s.list.now at.loop.i (pos 0)} (sfits_of t.before.put-entry-arg2.given) in
-    let put = rw (kept, t.after-entry.ensures) at c.before.before.put-entry.ensures in
-    (omega arith, put_more (entry s.list.now s.n s.between) at.loop.i at.loop.invariant.1 put)
+    let kept = to_z-of_z {w = w64} {z = get_or s.list.now at.loop-i.i (pos 0)} (sfits_of t.before.put_entry-arg-in-loop-i-1.given) in
+    let put = rw (kept, t.after_entry.ensures) at c.before.before.put_entry-end.ensures in
+    (omega arith, put_more (entry s.list.now s.n s.between) at.loop-i.i at.loop-i.invariant.1 put)
 
-same_length : tie.Need-same-length invariant-loop decreases-loop
-same_length c = put_length c.before.loop.invariant.1
+same_length : tie.Need-shape_of-out invariant-loop decreases-loop
+same_length c = put_length c.before.loop-i.invariant.1
 
 returns : tie.Need-returns invariant-loop decreases-loop
 returns c =
     let s = c.before.before.before in
-    let e : c.before.loop.i ≡ s.args.n = omega arith in
-    put_same (all_entries s.args.list.now s.args.n s.args.between s.requires) (rw e at c.before.loop.invariant.1)
+    let e : c.before.loop-i.i ≡ s.args.n = omega arith in
+    put_same (all_entries s.args.list.now s.args.n s.args.between s.requires) (rw e at c.before.loop-i.invariant.1)
 
-pub put-separated-spec : {M : Type 1} → statement M
-put-separated-spec =
+pub put_separated_spec : {M : Type 1} → statement M
+put_separated_spec =
     tie.close
     (tie.spec
     invariant-loop

@@ -14,67 +14,67 @@ use Rattle.listing.proofs.Sections.{rows_more}
 use Rattle.listing.proofs.put_averages.Statement.{statement}
 use Rattle.listing.proofs.put_averages.Tie as tie
 
-abbrev invariant-loop : tie.invariant-loop
+abbrev invariant-loop : tie.invariant-loop-i
 invariant-loop out₀ square k at₀ n i₀ out at i =
     (i ≤ n) × (at ≡ row_start k i) × (out ≡ sets out₀ 0 (joined (up_to (average_row_of k square) i))) × (length out ≡ length out₀)
 
-abbrev decreases-loop : tie.decreases-loop
+abbrev decreases-loop : tie.decreases-loop-i
 decreases-loop out₀ square k at₀ n i₀ out at i = n - i
 
-add-n : tie.Need-overflow-add-n invariant-loop decreases-loop
+add-n : tie.Need-overflow_add-n invariant-loop decreases-loop
 add-n c = search rules
 
-loop-holds : tie.Need-loop-init invariant-loop decreases-loop
+loop-holds : tie.Need-loop-i-init invariant-loop decreases-loop
 unfolding row_start joined up_to
 loop-holds c = (omega arith, refl, refl, refl)
 
-mul-put-integers : tie.Need-overflow-mul-put-integers invariant-loop decreases-loop
+mul-put-integers : tie.Need-offset_bounds-square-i invariant-loop decreases-loop
 mul-put-integers c = omega arith
 
-index-1-put-integers : tie.Need-bounds-1-put-integers invariant-loop decreases-loop
+index-1-put-integers : tie.Need-bounds-square-i invariant-loop decreases-loop
 index-1-put-integers c = omega arith
 
-sub-put-integers : tie.Need-overflow-sub-put-integers invariant-loop decreases-loop
+sub-put-integers : tie.Need-overflow_sub-n invariant-loop decreases-loop
 sub-put-integers c = omega arith
 
-put-integers-requires : tie.Need-put-integers-requires invariant-loop decreases-loop
+put-integers-requires : tie.Need-put_integers-at-requires invariant-loop decreases-loop
 put-integers-requires c κs =
-    let s = c.before.before.before.before.before in
-    let i = c.before.before.before.before.loop.i in
-    let long : length (get_or s.args.square.now i []) ≡ 16 = c.put-integers-arg3.given.0 in
+    let s = c.before.before.before.before in
+    let i = c.before.before.before.loop-i.i in
+    let long : length (get_or s.args.square.now i []) ≡ 16 = c.put-integers-arg3.given in
     (omega arith, omega (arith, row_within s.args.k i (omega arith)))
 
-add-i : tie.Need-overflow-add-i invariant-loop decreases-loop
+add-i : tie.Need-overflow_step-i invariant-loop decreases-loop
 add-i c = omega arith
 
-loop-less : tie.Need-loop-smaller invariant-loop decreases-loop
+loop-less : tie.Need-loop-i-smaller invariant-loop decreases-loop
 loop-less c = omega arith
 
-loop-again : tie.Need-loop-preserved invariant-loop decreases-loop
+loop-again : tie.Need-loop-i-preserved invariant-loop decreases-loop
 loop-again c =
-    let s = c.before.before.before.before.before.before.before in
-    let l = c.before.before.before.before.before.before.loop in
-    let put = c.before.put-integers in
+    let s = c.before.before.before.before.before.before in
+    let l = c.before.before.before.before.before.loop-i in
+    let put = c.before.put_integers-at in
     let square = s.args.square.now in
-    let long : length (get_or square l.i []) ≡ 16 = c.before.before.put-integers-arg3.given.0 in
-    let stored : put.new.0 ≡ sets l.out l.at (take (s.args.k + 1 - l.i) (get_or square l.i [])) = put.ensures.1 in (
+    let long : length (get_or square l.i []) ≡ 16 = c.before.before.put_integers-arg-in-loop-i-1.given in
+    let stored : put.new.out ≡ sets l.out-1 l.at (take (s.args.k + 1 - l.i) (get_or square l.i [])) = put.ensures.1 in (
       omega arith,
       omega (arith, row_start_more s.args.k l.i),
       stored ∙ rw l.invariant.2 (rows_more s.args.k square s.args.out.now l.i l.at l.invariant.1 (omega arith)),
       ap length stored ∙ simp length-sets l.invariant.3,
     )
 
-same_length : tie.Need-same-length invariant-loop decreases-loop
+same_length : tie.Need-shape_of-out invariant-loop decreases-loop
 same_length c = search rules
 
 returns : tie.Need-returns invariant-loop decreases-loop
 returns c =
     let k = c.before.before.args.k in
-    let e : c.before.loop.i ≡ k + 1 = omega arith in
-    (omega (arith, rw e at c.before.loop.invariant.1, rows_all k), rw e at c.before.loop.invariant.2)
+    let e : c.before.loop-i.i ≡ k + 1 = omega arith in
+    (omega (arith, rw e at c.before.loop-i.invariant.1, rows_all k), rw e at c.before.loop-i.invariant.2)
 
-pub put-averages-spec : {M : Type 1} → statement M
-put-averages-spec =
+pub put_averages_spec : {M : Type 1} → statement M
+put_averages_spec =
     tie.close
     (tie.spec
     invariant-loop

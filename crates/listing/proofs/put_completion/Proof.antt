@@ -18,37 +18,37 @@ use Rattle.listing.proofs.Sections.{small_total, future_cells_most, three_runs, 
 use Rattle.listing.proofs.put_completion.Statement.{statement}
 use Rattle.listing.proofs.put_completion.Tie as tie
 
-add-n : tie.Need-overflow-add-n
+add-n : tie.Need-overflow_add-n
 add-n c = search rules
 
-put-naturals-requires : tie.Need-put-naturals-requires
+put-naturals-requires : tie.Need-put_naturals-a-requires
 put-naturals-requires c κs =
     let s = c.before.before in
     (omega arith, (omega arith, λ i h. omega (arith, s.requires.1.1.0 i)))
 
-cells-of-requires : tie.Need-cells-of-requires
+cells-of-requires : tie.Need-cells_of-requires
 cells-of-requires c κs = search rules
 
-sub-put-naturals : tie.Need-overflow-sub-put-naturals
+sub-put-naturals : tie.Need-overflow_sub-cells_of
 sub-put-naturals c = omega (arith, cells_least c.before.before.before.before.before.before.before.args.k)
 
-put-naturals-requires-2 : tie.Need-put-naturals-requires-2
+put-naturals-requires-2 : tie.Need-put_naturals-b-requires
 put-naturals-requires-2 c κs =
     let s = c.before.before.before.before.before.before.before in
     let k = s.args.k in
     (omega (arith, future_cells_most k s.requires.0), (omega (arith, cells_least k), λ i h. omega (arith, s.requires.1.1.1.0 i)))
 
-put-naturals-requires-3 : tie.Need-put-naturals-requires-3
+put-naturals-requires-3 : tie.Need-put_naturals-c-requires
 put-naturals-requires-3 c κs =
     let s = c.before.before.before.before.before.before.before.before.before.before.before in
     (omega arith, (omega (arith, cells_least s.args.k), λ i h. omega (arith, s.requires.1.1.1.1 i)))
 
-sum-of-requires : tie.Need-sum-of-requires
+sum-of-requires : tie.Need-sum_of-requires
 sum-of-requires c κs =
     let s = c.before.before.before.before.before.before.before.before.before.before.before.before.before.before.before in
     (omega arith, (omega arith, λ i h. s.requires.1.1.1.1 i))
 
-put-natural-requires : tie.Need-put-natural-requires
+put-natural-requires : tie.Need-put_natural-requires
 put-natural-requires c κs =
     let s = c.before.before.before.before.before.before.before.before.before.before.before.before.before.before.before.before in
     let k = s.args.k in
@@ -56,7 +56,7 @@ put-natural-requires c κs =
     let all = small_total provisions s.requires.1.1.1.1 (k + 1) (omega (arith, s.requires.0)) in
     (omega (arith, cells_least k), omega (arith, c.sum_of.ensures, total_take provisions k))
 
-same_length : tie.Need-same-length
+same_length : tie.Need-shape_of-out
 same_length c = search rules
 
 returns : tie.Need-returns
@@ -77,28 +77,28 @@ returns c =
     let b = map pos (take n payments) in
     let d = map pos (take (k + 1) provisions) in
     let e = pos (total (take (k + 1) provisions)) ∷ [] in
-    let first = after-levels.put-naturals in
-    let second = after-payments.put-naturals2 in
-    let third = after-provisions.put-naturals3 in
-    let size = after-payments.before.Cells-of.ensures.0 in
-    let sa : length a ≡ k = length_naturals k levels (omega (arith, after-levels.before.put-naturals-arg2.given.0, s.requires.0)) in
+    let first = after-levels.put_naturals-a in
+    let second = after-payments.put_naturals-b in
+    let third = after-provisions.put_naturals-c in
+    let size = after-payments.before.cells_of.ensures.0 in
+    let sa : length a ≡ k = length_naturals k levels (omega (arith, after-levels.before.put_naturals-arg-2-1.given, s.requires.0)) in
     let sb : length b ≡ n =
-    length_naturals n payments (omega (arith, after-payments.before.before.put-naturals-arg4.given.0, future_cells_most k s.requires.0)) in
+    length_naturals n payments (omega (arith, after-payments.before.before.put_naturals-arg-4-1.given, future_cells_most k s.requires.0)) in
     let sd : length d ≡ k + 1 =
-    length_naturals (k + 1) provisions (omega (arith, after-provisions.before.put-naturals-arg6.given.0, s.requires.0)) in
+    length_naturals (k + 1) provisions (omega (arith, after-provisions.before.put_naturals-arg-6-1.given, s.requires.0)) in
     let p : first.result ≡ at + length a = omega (arith, first.ensures.0) in
     let q : second.result ≡ first.result + length b = omega (arith, second.ensures.0, size) in
     let r : third.result ≡ second.result + length d = omega (arith, third.ensures.0) in (
-      omega (arith, c.before.put-natural.ensures.0, cells_least k),
+      omega (arith, c.before.put_natural.ensures.0, cells_least k),
       (
-        three_length a b (d ++ e) at p q (omega (arith, c.before.put-natural.ensures.0, length-append d e)),
-        rw (c.before.put-natural.ensures.1, third.ensures.1, second.ensures.1, first.ensures.1, c.before.before.sum_of.ensures, size)
+        three_length a b (d ++ e) at p q (omega (arith, c.before.put_natural.ensures.0, length-append d e)),
+        rw (c.before.put_natural.ensures.1, third.ensures.1, second.ensures.1, first.ensures.1, c.before.before.sum_of.ensures, size)
             (three_runs b d e (sets out at a) first.result q r ∙ sets_append a (b ++ (d ++ e)) out at first.result p),
       ),
     )
 
-pub put-completion-spec : {M : Type 1} → statement M
-put-completion-spec =
+pub put_completion_spec : {M : Type 1} → statement M
+put_completion_spec =
     tie.close
     (tie.spec
     add-n

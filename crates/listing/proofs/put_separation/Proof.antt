@@ -14,23 +14,23 @@ use Rattle.listing.proofs.Sections.{three_runs, three_length, averages_length}
 use Rattle.listing.proofs.put_separation.Statement.{statement}
 use Rattle.listing.proofs.put_separation.Tie as tie
 
-add-n : tie.Need-overflow-add-n
+add-n : tie.Need-overflow_add-n
 add-n c = search rules
 
-put-averages-requires : tie.Need-put-averages-requires
+put-averages-requires : tie.Need-put_averages-a-requires
 put-averages-requires c κs = search rules
 
-put-naturals-requires : tie.Need-put-naturals-requires
+put-naturals-requires : tie.Need-put_naturals-b-requires
 put-naturals-requires c κs =
     let small = c.before.before.before.before.before.requires.1.1 in
     (omega arith, (omega arith, λ i h. omega (arith, small.0 i, small.1 i)))
 
-put-naturals-requires-2 : tie.Need-put-naturals-requires-2
+put-naturals-requires-2 : tie.Need-put_naturals-requires
 put-naturals-requires-2 c κs =
     let small = c.before.before.before.before.before.before.before.before.before.requires.1.1 in
     (omega arith, (omega arith, λ i h. omega (arith, small.0 i, small.1 i)))
 
-same_length : tie.Need-same-length
+same_length : tie.Need-shape_of-out
 same_length c = search rules
 
 returns : tie.Need-returns
@@ -46,22 +46,22 @@ returns c =
     let b = map pos (take n shares) in
     let levels = s.args.levels.now in
     let d = map pos (take n levels) in
-    let first = after_averages.put-averages in
-    let second = after-shares.put-naturals in
-    let sb : length b ≡ n = length_naturals n shares (omega (arith, after-shares.before.put-naturals-arg2.given.0, s.requires.0)) in
+    let first = after_averages.put_averages-a in
+    let second = after-shares.put_naturals-b in
+    let sb : length b ≡ n = length_naturals n shares (omega (arith, after-shares.before.put_naturals-arg-2-1.given, s.requires.0)) in
     let p : first.result ≡ 0 + length a = omega (arith, first.ensures.0, averages_length s.args.k square) in
     let q : second.result ≡ first.result + length b = omega (arith, second.ensures.0) in
-    let sd : length d ≡ n = length_naturals n levels (omega (arith, c.before.before.put-naturals-arg4.given.0, s.requires.0)) in (
-      omega (arith, c.before.put-naturals2.ensures.0),
+    let sd : length d ≡ n = length_naturals n levels (omega (arith, c.before.before.put_naturals-arg-4-1.given, s.requires.0)) in (
+      omega (arith, c.before.put_naturals.ensures.0),
       (
         rw (append-nil d)
-            (omega (arith, three_length a b d 0 p q (c.before.put-naturals2.ensures.0 ∙ ap (λ (m : ℕ). second.result + m) (sym sd)))),
-        rw (c.before.put-naturals2.ensures.1, second.ensures.1, first.ensures.1, append-nil d) (three_runs a b d s.args.out.now 0 p q),
+            (omega (arith, three_length a b d 0 p q (c.before.put_naturals.ensures.0 ∙ ap (λ (m : ℕ). second.result + m) (sym sd)))),
+        rw (c.before.put_naturals.ensures.1, second.ensures.1, first.ensures.1, append-nil d) (three_runs a b d s.args.out.now 0 p q),
       ),
     )
 
-pub put-separation-spec : {M : Type 1} → statement M
-put-separation-spec =
+pub put_separation_spec : {M : Type 1} → statement M
+put_separation_spec =
     tie.close
     (tie.spec
     add-n

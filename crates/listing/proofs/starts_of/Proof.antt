@@ -34,62 +34,62 @@ of-starts : {a b d e f g h i j l m n o : ℕ} (k : ℕ) → a ≡ section_start 
 unfolding starts_of
 of-starts k p1 p2 p3 p4 p5 p6 p7 p8 p9 p10 p11 p12 p13 = rw (p1, p2, p3, p4, p5, p6, p7, p8, p9, p10, p11, p12, p13)
 
-add-n : tie.Need-overflow-add-n
+add-n : tie.Need-overflow_add-n
 add-n c = search rules
 
-cells-of-requires : tie.Need-cells-of-requires
+cells-of-requires : tie.Need-cells_of-shares-requires
 cells-of-requires c κs = search rules
 
-sub-future : tie.Need-overflow-sub-future
-sub-future c = omega (arith, c.Cells-of.ensures.0, cells_least c.before.args.k)
+sub-future : tie.Need-overflow_sub-future
+sub-future c = omega (arith, c.cells_of-shares.ensures.0, cells_least c.before.args.k)
 
-add-levels : tie.Need-overflow-add-levels
+add-levels : tie.Need-overflow_add-levels
 add-levels c = search rules
 
-add-ahead : tie.Need-overflow-add-ahead
+add-ahead : tie.Need-overflow_add-ahead
 add-ahead c = search rules
 
-add-payments : tie.Need-overflow-add-payments
+add-payments : tie.Need-overflow_add-payments
 add-payments c = search rules
 
-add-provisions : tie.Need-overflow-add-provisions
+add-provisions : tie.Need-overflow_add-provisions
 add-provisions c = search rules
 
-add-provision : tie.Need-overflow-add-provision
+add-provision : tie.Need-overflow_add-provision
 add-provision c = search rules
 
-add-unreported : tie.Need-overflow-add-unreported
+add-unreported : tie.Need-overflow_add-unreported
 add-unreported c = search rules
 
-add-reserves : tie.Need-overflow-add-reserves
+add-reserves : tie.Need-overflow_add-reserves
 add-reserves c = search rules
 
-add-reserve : tie.Need-overflow-add-reserve
+add-reserve : tie.Need-overflow_add-reserve
 add-reserve c = search rules
 
-add-ratio : tie.Need-overflow-add-ratio
+add-ratio : tie.Need-overflow_add-ratio
 add-ratio c = search rules
 
-add-factors : tie.Need-overflow-add-factors
+add-factors : tie.Need-overflow_add-factors
 add-factors c = search rules
 
-add-completed : tie.Need-overflow-add-completed
+add-completed : tie.Need-overflow_add-completed
 add-completed c = search rules
 
-add-tails : tie.Need-overflow-add-tails
+add-tails : tie.Need-overflow_add-tails
 add-tails c = search rules
 
 returns : tie.Need-returns
 returns c =
     let k = c.before.args.k in
     let at = known k in
-    let first = c.Cells-of.ensures.0 in
+    let first = c.cells_of-shares.ensures.0 in
     let least = cells_least k in
     of-starts k (omega arith) (omega arith) (omega arith) (omega arith) (omega arith) (omega arith) (omega arith) (omega arith) (omega arith) (omega arith)
     (omega arith) (omega arith) (omega arith)
 
-pub starts-of-spec : {M : Type 1} → statement M
-starts-of-spec =
+pub starts_of_spec : {M : Type 1} → statement M
+starts_of_spec =
     tie.close
     (tie.spec
     add-n

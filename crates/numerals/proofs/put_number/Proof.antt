@@ -7,9 +7,12 @@ use Rattle.numerals.proofs.put_number.Tie as tie
 
 returns : tie.Need-returns
 unfolding number
-returns c = rw (to_z-of_z c.before.before.before.before.before.before.before.ranges.z) at c.before.before.put-numeral.ensures
+returns c = rw (to_z-of_z c.before.before.before.before.before.before.before.before.before.ranges.z) at c.before.before.put_numeral.ensures
 
-pub put-number-spec : {M : Type 1} → statement M
-put-number-spec =
+pub put_number_spec : {M : Type 1} → statement M
+put_number_spec =
     tie.close
-    (tie.spec (λ c. search rules) (λ c. search rules) (λ c κs. search rules) (λ c. search rules) returns)
+    (tie.spec
+    (λ c κs. search rules)
+    (λ c. search rules)
+    returns)

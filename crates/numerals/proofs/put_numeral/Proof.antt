@@ -7,23 +7,23 @@ use borrow.Author.Rules.{rules}
 use Rattle.numerals.proofs.put_numeral.Statement.{statement}
 use Rattle.numerals.proofs.put_numeral.Tie as tie
 
-returns : tie.Need-returns
+returns : tie.Need-returns-then-d-eq0
 returns c =
     let s = c.before.before.before.before.before.before.before.before.before.before.before.before.before.before in
     let kept = to_z-of_z s.ranges.z in
-    put_whole_numeral s.args.before.now s.args.after.now s.args.d s.args.z c.if1.true (rw kept at c.before.before.before.before.before.before.before.before.before.before.type_size.ensures) c.before.before.before.before.shortened.ensures (rw kept at c.before.before.before.before.before.before.before.before.put-sign.ensures) c.before.before.before.put-grouped.ensures
+    put_whole_numeral s.args.before.now s.args.after.now s.args.d s.args.z c.if-d-eq0.true (rw kept at c.before.before.before.before.before.before.before.before.before.before.type_size.ensures) c.before.before.before.before.shortened.ensures (rw kept at c.before.before.before.before.before.before.before.before.put_sign-whole.ensures) c.before.before.before.put_grouped-point.ensures
 
-returns-2 : tie.Need-returns-2
+returns-2 : tie.Need-returns-else-d-eq0
 returns-2 c =
     let s = c.before.before.before.before.before.before.before.before.before.before.before.before.before.before.before.before.before.before.before.before.before.before in
     let kept = to_z-of_z s.ranges.z in
-    put_part_numeral s.args.before.now s.args.after.now s.args.d s.args.z c.before.before.before.before.before.before.before.before.if1.false (rw kept at c.before.before.before.before.before.before.before.before.before.before.before.before.before.before.before.before.before.before.type_size.ensures) c.before.before.before.before.before.before.before.before.before.before.before.before.shortened.ensures
-    (rw kept at c.before.before.before.before.before.before.before.before.before.before.before.before.before.before.before.before.put-sign.ensures)
-    c.before.before.before.before.before.before.before.before.before.before.before.put-grouped.ensures
-    c.before.before.before.before.before.before.put_byte.ensures
+    put_part_numeral s.args.before.now s.args.after.now s.args.d s.args.z c.before.before.before.before.before.before.before.before.if-d-eq0.false (rw kept at c.before.before.before.before.before.before.before.before.before.before.before.before.before.before.before.before.before.before.type_size.ensures) c.before.before.before.before.before.before.before.before.before.before.before.before.shortened.ensures
+    (rw kept at c.before.before.before.before.before.before.before.before.before.before.before.before.before.before.before.before.put_sign-whole.ensures)
+    c.before.before.before.before.before.before.before.before.before.before.before.put_grouped-point.ensures
+    c.before.before.before.before.before.before.put_byte-decimals.ensures
     c.before.before.put_last.ensures
 
-pub put-numeral-spec : {M : Type 1} → statement M
-put-numeral-spec =
+pub put_numeral_spec : {M : Type 1} → statement M
+put_numeral_spec =
     tie.close
     (tie.spec (λ c κs. search rules) (λ c κs. search rules) (λ c κs. search rules) (λ c κs. search rules) (λ c κs. search rules) (λ c κs. search rules) (λ c. search rules) returns (λ c. search rules) returns-2)

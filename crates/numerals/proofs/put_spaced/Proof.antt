@@ -7,9 +7,12 @@ use Rattle.numerals.proofs.put_spaced.Tie as tie
 
 returns : tie.Need-returns
 unfolding spaced
-returns c = rw (to_z-of_z c.before.before.before.before.before.before.before.ranges.z) at c.before.before.put-numeral.ensures
+returns c = rw (to_z-of_z c.before.before.before.before.before.before.before.before.before.ranges.z) at c.before.before.put_numeral.ensures
 
-pub put-spaced-spec : {M : Type 1} → statement M
-put-spaced-spec =
+pub put_spaced_spec : {M : Type 1} → statement M
+put_spaced_spec =
     tie.close
-    (tie.spec (λ c. search rules) (λ c. search rules) (λ c κs. search rules) (λ c. search rules) returns)
+    (tie.spec
+    (λ c κs. search rules)
+    (λ c. search rules)
+    returns)

@@ -36,40 +36,40 @@ right_length s end e l =
     let k : length s ≡ byte_count (last_year_of s) = omega arith in
     rw (eq-eqb (length s) (byte_count (last_year_of s)) k, k, e)
 
-last-year-of-requires : tie.Need-last-year-of-requires
+last-year-of-requires : tie.Need-last_year_of-requires
 last-year-of-requires c κs = (years_known_lem c.before.args.s.now c.before.requires).0
 
-places-of-requires : tie.Need-places-of-requires
+places-of-requires : tie.Need-places_of-end-requires
 places-of-requires c κs = search rules
 
-add-if1 : tie.Need-overflow-add-if1
+add-if1 : tie.Need-overflow_add-end
 add-if1 c =
     let k = last_year_of c.before.before.before.args.s.now in
-    omega (arith, end-bits k c.before.last-year-of.ensures.0 c.places_of.ensures, bits_most k (omega arith))
+    omega (arith, end-bits k c.before.last_year_of.ensures.0 c.places_of-end.ensures, bits_most k (omega arith))
 
-returns : tie.Need-returns
+returns : tie.Need-returns-then-s-end
 returns c =
     let s = c.before.before.before.before.args.s.now in
-    let e = end-bits (last_year_of s) c.before.before.last-year-of.ensures.0 c.before.places_of.ensures in
-    other_length s c.before.places_of.result.end e c.if1.true
+    let e = end-bits (last_year_of s) c.before.before.last_year_of.ensures.0 c.before.places_of-end.ensures in
+    other_length s c.before.places_of-end.result.end e c.if-s-end.true
 
-zero-from-requires : tie.Need-zero-from-requires
+zero-from-requires : tie.Need-zero_from-requires
 unfolding byte_count
 zero-from-requires c κs =
     let start = c.before.before.before.before in
     let k = last_year_of start.args.s.now in
-    let e = end-bits k c.before.before.last-year-of.ensures.0 c.before.places_of.ensures in
+    let e = end-bits k c.before.before.last_year_of.ensures.0 c.before.places_of-end.ensures in
     let most = bits_most k (omega arith) in
     let least = bytes_least k (years_known_lem start.args.s.now start.requires).1 in
     (omega arith, (omega arith, (omega arith, omega arith)))
 
-returns-2 : tie.Need-returns-2
+returns-2 : tie.Need-returns
 returns-2 c =
     let s = c.before.before.before.before.before.args.s.now in
-    let e = end-bits (last_year_of s) c.before.before.before.last-year-of.ensures.0 c.before.before.places_of.ensures in
-    rw c.zero-from.ensures (right_length s c.before.before.places_of.result.end e c.before.if1.false)
+    let e = end-bits (last_year_of s) c.before.before.before.last_year_of.ensures.0 c.before.before.places_of-end.ensures in
+    rw c.zero_from.ensures (right_length s c.before.before.places_of-end.result.end e c.before.if-s-end.false)
 
-pub has-length-spec : {M : Type 1} → statement M
-has-length-spec =
+pub has_length_spec : {M : Type 1} → statement M
+has_length_spec =
     tie.close
     (tie.spec last-year-of-requires places-of-requires add-if1 returns zero-from-requires returns-2)

@@ -18,23 +18,23 @@ field-last s at w h =
     let e : 8 * length s - (at + w) ≡ 0 = omega arith in
     rw (e, div-one (number_of s))
 
-mul-n : tie.Need-overflow-mul-n
+mul-n : tie.Need-overflow_mul-n
 mul-n c = search rules
 
-sub-n : tie.Need-overflow-sub-n
+sub-n : tie.Need-overflow_sub-n
 sub-n c = search rules
 
-returns : tie.Need-returns
-returns c = rw (c.if1.true, mod-one (number_of c.before.before.args.s.now))
+returns : tie.Need-returns-then-n-eq0
+returns c = rw (c.if-n-eq0.true, mod-one (number_of c.before.before.args.s.now))
 
 field-requires : tie.Need-field-requires
 field-requires c κs = search rules
 
-returns-2 : tie.Need-returns-2
+returns-2 : tie.Need-returns
 returns-2 c =
     let start = c.before.before.before in
     let s = start.args.s.now in
     rw (c.field.ensures, field-last s start.args.end (8 * length s - start.args.end) (omega arith))
 
-pub zero-from-spec : {M : Type 1} → statement M
-zero-from-spec = tie.close (tie.spec mul-n sub-n returns field-requires returns-2)
+pub zero_from_spec : {M : Type 1} → statement M
+zero_from_spec = tie.close (tie.spec mul-n sub-n returns field-requires returns-2)

@@ -15,47 +15,47 @@ use Rattle.outcomes.proofs.Again.{rows_ready, paid_filled, sums_filled, totals_f
 use Rattle.outcomes.proofs.read_again.Statement.{statement}
 use Rattle.outcomes.proofs.read_again.Tie as tie
 
-abbrev start : tie.After-read → tie.Start
+abbrev start : tie.After-read-opened → tie.Start
 start c = c.before.before.before.before.before.before.before
 
-bytes : (c : tie.After-read) → Fit 8 (start c).args.packed.now
-bytes c i = omega (arith, c.before.before.before.before.before.before.shared-slice-known.given i)
+bytes : (c : tie.After-read-opened) → Fit 8 (start c).args.packed.now
+bytes c i = omega (arith, c.before.before.before.before.before.before.shared_slice_known-1.given i)
 
-arrays : (c : tie.After-read) → Filled (start c).args.packed.now
+arrays : (c : tie.After-read-opened) → Filled (start c).args.packed.now
 arrays c = let s = start c in figures_filled s.args.packed.now (bytes c) s.pre.0 s.pre.1.0
 
-sound : (c : tie.After-read) → Sound (figures_of (start c).args.packed.now)
+sound : (c : tie.After-read-opened) → Sound (figures_of (start c).args.packed.now)
 sound c = let s = start c in sound_figures s.args.packed.now (bytes c) s.pre.0 s.pre.1.0
 
-exposures-are : (c : tie.After-read) → c.read.new.1.0 ≡ (figures_of (start c).args.packed.now).exposures
-exposures-are c = c.read.ensures.1.1.0 ∙ (arrays c).exposures
+exposures-are : (c : tie.After-read-opened) → c.read-opened.new.increments.0 ≡ (figures_of (start c).args.packed.now).exposures
+exposures-are c = c.read-opened.ensures.1.1.0 ∙ (arrays c).exposures
 
-increments-are : (c : tie.After-read) → c.read.new.1.1.0 ≡ (figures_of (start c).args.packed.now).increments
+increments-are : (c : tie.After-read-opened) → c.read-opened.new.increments.1.0 ≡ (figures_of (start c).args.packed.now).increments
 increments-are c =
     let s = start c in
-    c.read.ensures.1.1.1.0 ∙ ap (λ (l : List ℤ). sets l 0 (map (value_of increment) (row_read s.args.packed.now 2))) s.pre.1.1.1.0 ∙ (arrays c).increments
+    c.read-opened.ensures.1.1.1.0 ∙ ap (λ (l : List ℤ). sets l 0 (map (value_of increment) (row_read s.args.packed.now 2))) s.pre.1.1.1.0 ∙ (arrays c).increments
 
-reporting-are : (c : tie.After-read) → c.read.new.1.1.1.1.0 ≡ (figures_of (start c).args.packed.now).reporting
+reporting-are : (c : tie.After-read-opened) → c.read-opened.new.increments.1.1.1.0 ≡ (figures_of (start c).args.packed.now).reporting
 reporting-are c =
     let s = start c in
-    c.read.ensures.1.1.1.1.1.0 ∙ ap (λ (l : List ℕ). sets l 0 (row_read s.args.packed.now 4)) s.pre.1.1.1.1.0 ∙ (arrays c).reporting
+    c.read-opened.ensures.1.1.1.1.1.0 ∙ ap (λ (l : List ℕ). sets l 0 (row_read s.args.packed.now 4)) s.pre.1.1.1.1.0 ∙ (arrays c).reporting
 
-ulae-are : (c : tie.After-read) → c.read.new.1.1.1.1.1.0 ≡ (figures_of (start c).args.packed.now).ulae
+ulae-are : (c : tie.After-read-opened) → c.read-opened.new.increments.1.1.1.1.0 ≡ (figures_of (start c).args.packed.now).ulae
 ulae-are c =
     let s = start c in
-    c.read.ensures.1.1.1.1.1.1.0 ∙ ap (λ (l : List ℕ). sets l 0 (row_read s.args.packed.now 6)) s.pre.1.1.1.1.1.0 ∙ (arrays c).ulae
+    c.read-opened.ensures.1.1.1.1.1.1.0 ∙ ap (λ (l : List ℕ). sets l 0 (row_read s.args.packed.now 6)) s.pre.1.1.1.1.1.0 ∙ (arrays c).ulae
 
-year_is : (c : tie.After-last-year-of) → c.last-year-of.result ≡ (figures_of (start c.before).args.packed.now).k
+year_is : (c : tie.After-last_year_of) → c.last_year_of.result ≡ (figures_of (start c.before).args.packed.now).k
 unfolding figures_of
-year_is c = c.last-year-of.ensures.0
+year_is c = c.last_year_of.ensures.0
 
-read-requires : tie.Need-read-requires
+read-requires : tie.Need-read-opened-requires
 read-requires c κs = let s = c.before.before.before.before.before.before in s.requires.0
 
-last-year-of-requires : tie.Need-last-year-of-requires
+last-year-of-requires : tie.Need-last_year_of-requires
 last-year-of-requires c κs = let s = start c in (years_known_lem s.args.packed.now (opening_yes s.args.packed.now s.pre.0).0).0
 
-fill-rows-requires : tie.Need-fill-rows-requires
+fill-rows-requires : tie.Need-fill_rows-requires
 fill-rows-requires c κs =
     let year = c.before.before.before.before.before.before.before in
     let at = year.before in
@@ -66,11 +66,11 @@ fill-rows-requires c κs =
 returns : tie.Need-returns
 returns c =
     let year = c.before.before.before.before.before.before.before.before in
-    let at = year.before in
+    let at = year in
     let s = start at in
     let f = figures_of s.args.packed.now in
     let six = s.pre.1.1.0 in (
-      at.read.ensures.1.0 ∙ (arrays at).weight,
+      at.read-opened.ensures.1.0 ∙ (arrays at).weight,
       (
         increments-are at,
         (
@@ -78,10 +78,10 @@ returns c =
           (
             ulae-are at,
             (
-              paid_filled f _ _ _ (year_is year) (exposures-are at) (increments-are at) six _ c.fill-rows.ensures.1.1.1.0,
+              paid_filled f _ _ _ (year_is year) (exposures-are at) (increments-are at) six _ c.fill_rows.ensures.1.1.1.0,
               (
-                sums_filled f _ _ _ (year_is year) (exposures-are at) (increments-are at) six _ c.fill-rows.ensures.1.1.0,
-                totals_filled f _ _ _ (year_is year) (exposures-are at) (increments-are at) (sound at) six _ _ c.fill-rows.ensures.1.1.1.1,
+                sums_filled f _ _ _ (year_is year) (exposures-are at) (increments-are at) six _ c.fill_rows.ensures.1.1.0,
+                totals_filled f _ _ _ (year_is year) (exposures-are at) (increments-are at) (sound at) six _ _ c.fill_rows.ensures.1.1.1.1,
               ),
             ),
           ),
@@ -89,5 +89,5 @@ returns c =
       ),
     )
 
-pub read-again-spec : {M : Type 1} → statement M
-read-again-spec = tie.close (tie.spec read-requires last-year-of-requires fill-rows-requires returns)
+pub read_again_spec : {M : Type 1} → statement M
+read_again_spec = tie.close (tie.spec read-requires last-year-of-requires fill-rows-requires returns)

@@ -9,34 +9,34 @@ use borrow.Author.Rules.{rules}
 use Rattle.packing.proofs.field.Statement.{statement}
 use Rattle.packing.proofs.field.Tie as tie
 
-sub-least : tie.Need-overflow-sub-least
+sub-least : tie.Need-overflow_sub-s
 sub-least c = search rules
 
-least-requires : tie.Need-least-requires
+least-requires : tie.Need-least-i-requires
 least-requires c κs = search rules
 
-mul-after : tie.Need-overflow-mul-after
+mul-after : tie.Need-overflow_mul-after
 mul-after c = search rules
 
-add-after : tie.Need-overflow-add-after
+add-after : tie.Need-overflow_add-after
 add-after c = search rules
 
-sub-after : tie.Need-overflow-sub-after
+sub-after : tie.Need-overflow_sub-after
 sub-after c = search rules
 
-sub-after-2 : tie.Need-overflow-sub-after-2
+sub-after-2 : tie.Need-overflow_sub-after-2
 sub-after-2 c = search rules
 
 word-requires : tie.Need-word-requires
 word-requires c κs = search rules
 
-shr-result : tie.Need-overflow-shr-result
+shr-result : tie.Need-overflow_shr-result
 shr-result c = search rules
 
-shl-result : tie.Need-overflow-shl-result
+shl-result : tie.Need-overflow_shl-result
 shl-result c = search rules
 
-rem-result : tie.Need-nonzero-rem-result
+rem-result : tie.Need-nonzero_rem-result
 rem-result c =
     let w = c.before.before.before.args.w in
     rw (one_shl w (omega arith)) (pow_pos w)
@@ -47,7 +47,7 @@ returns c =
     let s = start.args.s.now in
     let at = start.args.at in
     let w = start.args.w in
-    let i = c.before.least.result in
+    let i = c.before.least-i.result in
     let h : 8 * i + 64 ≤ 8 * length s = omega arith in
     let k : at - 8 * i + w ≤ 64 = omega arith in
     let d : 8 * i + (at - 8 * i) ≡ at = omega arith in
@@ -55,8 +55,8 @@ returns c =
     let f = rw (d, e) at (field_within s (8 * i) 64 (at - 8 * i) w h k) in
     rw (one_shl w (omega arith), c.word.ensures) (sym f)
 
-pub field-spec : {M : Type 1} → statement M
-field-spec =
+pub field_spec : {M : Type 1} → statement M
+field_spec =
     tie.close
     (tie.spec
     sub-least

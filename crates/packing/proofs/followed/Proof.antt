@@ -28,29 +28,29 @@ module _ (s : List ℕ) (i n x : ℕ) (few : n < 8) (e : x ≡ field_at s (8 * i
   more : (y : ℕ) → Fit 8 s → i + n < length s → y ≡ get_or s (i + n) 0 → x * 2 ^ 8 % 2 ^ 64 + y ≡ field_at s (8 * i) (8 * n + 8)
   more y b h q = rw (moved, q, e) (sym (byte_more s i n b h))
 
-add_wide : tie.Need-overflow-add-wide
+add_wide : tie.Need-overflow_add-i
 add_wide c = search rules
 
-shared-slice-read-wide : tie.Need-shared-slice-read-wide
+shared-slice-read-wide : tie.Need-bounds-s-i
 shared-slice-read-wide c = search rules
 
 wide-requires : tie.Need-wide-requires
 wide-requires c κs = search rules
 
-add-result : tie.Need-overflow-add-result
+add-result : tie.Need-overflow_add-result
 add-result c =
     let start = c.before.before.before in
-    let known = c.before.before.shared-slice-known.given (start.args.i + start.args.n) in
+    let known = c.before.before.shared_slice_known-1.given (start.args.i + start.args.n) in
     omega (arith, known, small start.args.s.now start.args.i start.args.n start.args.x start.requires.1.0 start.requires.1.1)
 
 returns : tie.Need-returns
 returns c =
     let start = c.before.before.before in
-    let known = c.before.before.shared-slice-known.given in
+    let known = c.before.before.shared_slice_known-1.given in
     more start.args.s.now start.args.i start.args.n start.args.x start.requires.1.0 start.requires.1.1 _ (λ k. (known k).fits)
     start.requires.0
     c.wide.ensures
 
-pub followed-spec : {M : Type 1} → statement M
-followed-spec =
+pub followed_spec : {M : Type 1} → statement M
+followed_spec =
     tie.close (tie.spec add_wide shared-slice-read-wide wide-requires add-result returns)

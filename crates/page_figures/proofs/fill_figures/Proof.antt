@@ -16,46 +16,46 @@ use Rattle.page_figures.proofs.fill_figures.Tie as tie
 abbrev base : tie.Start → List ℤ
 base s = given_figures s.args.k s.args.list.now s.args.exposures.now s.args.increments.now s.args.indices.now s.args.reporting.now s.args.ulae.now
 
-fill-triangle-requires : tie.Need-fill-triangle-requires
+fill-triangle-requires : tie.Need-fill_triangle-requires
 fill-triangle-requires c κs =
     let s = c.before.before.before in
-    (s.requires.0, (c.before.before.added-at.ensures, (s.requires.1.0, λ i. le_trans (s.requires.1.1.exposures i) (omega arith))))
+    (s.requires.0, (c.before.before.added_at-at.ensures, (s.requires.1.0, λ i. le_trans (s.requires.1.1.exposures i) (omega arith))))
 
 -- what each call leaves
-first : (c : tie.After-fill-triangle) → c.fill-triangle.new.0 ≡ triangle_figures c.before.before.before.before.args.k c.before.before.before.before.args.list.now c.before.before.before.before.args.exposures.now c.before.before.before.before.args.increments.now
-first c = c.fill-triangle.ensures
+first : (c : tie.After-fill_triangle) → c.fill_triangle.new.out ≡ triangle_figures c.before.before.before.before.args.k c.before.before.before.before.args.list.now c.before.before.before.before.args.exposures.now c.before.before.before.before.args.increments.now
+first c = c.fill_triangle.ensures
 
-second : (c : tie.After-fill-assumptions) → c.fill-assumptions.new.0 ≡ base c.before.before.before.before.before.before
+second : (c : tie.After-fill_assumptions) → c.fill_assumptions.new.out ≡ base c.before.before.before.before.before.before
 unfolding given_figures
-second c = rw (first c.before.before) at c.fill-assumptions.ensures
+second c = rw (first c.before.before) at c.fill_assumptions.ensures
 
-third : (c : tie.After-work-triangles) → c.work-triangles.new.0 ≡ worked_triangles c.before.before.before.before.before.before.before.before.args.k (base c.before.before.before.before.before.before.before.before)
-third c = rw (second c.before.before) at c.work-triangles.ensures
+third : (c : tie.After-work_triangles) → c.work_triangles.new.out ≡ worked_triangles c.before.before.before.before.before.before.before.before.args.k (base c.before.before.before.before.before.before.before.before)
+third c = rw (second c.before.before) at c.work_triangles.ensures
 
-fourth : (c : tie.After-work-figures) → c.work-figures.new.0 ≡ worked_figures c.before.before.before.before.before.before.before.before.before.before.args.k (worked_triangles c.before.before.before.before.before.before.before.before.before.before.args.k (base c.before.before.before.before.before.before.before.before.before.before))
-fourth c = rw (third c.before.before) at c.work-figures.ensures
+fourth : (c : tie.After-work_figures) → c.work_figures.new.out ≡ worked_figures c.before.before.before.before.before.before.before.before.before.before.args.k (worked_triangles c.before.before.before.before.before.before.before.before.before.before.args.k (base c.before.before.before.before.before.before.before.before.before.before))
+fourth c = rw (third c.before.before) at c.work_figures.ensures
 
-work-triangles-requires : tie.Need-work-triangles-requires
+work-triangles-requires : tie.Need-work_triangles-requires
 work-triangles-requires c κs =
     let s = c.before.before.before.before.before.before.before in
-    (s.requires.0, (c.before.before.before.before.before.starts-of.ensures, (c.before.before.before.before.before.before.added-at.ensures, rw (second c.before) (given_based s.args.k s.args.list.now s.args.exposures.now s.args.increments.now s.args.indices.now s.args.reporting.now s.args.ulae.now s.requires.0 s.requires.1.1))))
+    (s.requires.0, (c.before.before.before.before.before.starts_of-starts.ensures, (c.before.before.before.before.before.before.added_at-at.ensures, rw (second c.before) (given_based s.args.k s.args.list.now s.args.exposures.now s.args.increments.now s.args.indices.now s.args.reporting.now s.args.ulae.now s.requires.0 s.requires.1.1))))
 
-work-figures-requires : tie.Need-work-figures-requires
+work-figures-requires : tie.Need-work_figures-requires
 work-figures-requires c κs =
     let s = c.before.before.before.before.before.before.before.before.before in
-    (s.requires.0, (c.before.before.before.before.before.before.before.starts-of.ensures, (c.before.before.before.before.before.before.before.before.added-at.ensures, rw (third c.before) (triangles_based s.args.k (base s) s.requires.0 (given_based s.args.k s.args.list.now s.args.exposures.now s.args.increments.now s.args.indices.now s.args.reporting.now s.args.ulae.now s.requires.0 s.requires.1.1)))))
+    (s.requires.0, (c.before.before.before.before.before.before.before.starts_of-starts.ensures, (c.before.before.before.before.before.before.before.before.added_at-at.ensures, rw (third c.before) (triangles_based s.args.k (base s) s.requires.0 (given_based s.args.k s.args.list.now s.args.exposures.now s.args.increments.now s.args.indices.now s.args.reporting.now s.args.ulae.now s.requires.0 s.requires.1.1)))))
 
 combine-requires : tie.Need-combine-requires
 combine-requires c κs =
     let s = c.before.before.before.before.before.before.before.before.before.before.before in
-    (s.requires.0, (c.before.before.before.before.before.before.before.before.before.starts-of.ensures, (c.before.before.before.before.before.before.before.before.before.before.added-at.ensures, rw (fourth c.before) (all_worked s.args.k (base s) s.requires.0 (given_based s.args.k s.args.list.now s.args.exposures.now s.args.increments.now s.args.indices.now s.args.reporting.now s.args.ulae.now s.requires.0 s.requires.1.1)))))
+    (s.requires.0, (c.before.before.before.before.before.before.before.before.before.starts_of-starts.ensures, (c.before.before.before.before.before.before.before.before.before.before.added_at-at.ensures, rw (fourth c.before) (all_worked s.args.k (base s) s.requires.0 (given_based s.args.k s.args.list.now s.args.exposures.now s.args.increments.now s.args.indices.now s.args.reporting.now s.args.ulae.now s.requires.0 s.requires.1.1)))))
 
 returns : tie.Need-returns
 unfolding shown_figures
 returns c = rw (fourth c.before.before) at c.combine.ensures
 
-pub fill-figures-spec : {M : Type 1} → statement M
-fill-figures-spec =
+pub fill_figures_spec : {M : Type 1} → statement M
+fill_figures_spec =
     tie.close
     (tie.spec
     (λ c κs. search rules)

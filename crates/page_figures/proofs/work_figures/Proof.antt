@@ -25,31 +25,31 @@ starts-are s = s.requires.1.0
 where-all : (s : tie.Start) → Numbers (added_at s.args.k) (starts_of s.args.k) s.args.k
 where-all s = numbers (added_at s.args.k) (starts_of s.args.k) s.args.k s.requires.0 refl refl
 
-first : (c : tie.After-put-expected) → c.put-expected.new.0 ≡ (with_expected c.before.before.args.k c.before.before.args.out.now)
+first : (c : tie.After-put_expected) → c.put_expected.new.out ≡ (with_expected c.before.before.args.k c.before.before.args.out.now)
 unfolding with_expected starts_of
 first c =
     let s = c.before.before in
-    rw (at-is s, starts-are s) at c.put-expected.ensures
+    rw (at-is s, starts-are s) at c.put_expected.ensures
 
-second : (c : tie.After-put-fitted) → c.put-fitted.new.0 ≡ (with_fitted c.before.before.before.before.args.k (with_expected c.before.before.before.before.args.k c.before.before.before.before.args.out.now))
+second : (c : tie.After-put_fitted) → c.put_fitted.new.out ≡ (with_fitted c.before.before.before.before.args.k (with_expected c.before.before.before.before.args.k c.before.before.before.before.args.out.now))
 unfolding with_fitted starts_of
 second c =
     let s = c.before.before.before.before in
-    rw (at-is s, starts-are s, first c.before.before) at c.put-fitted.ensures
+    rw (at-is s, starts-are s, first c.before.before) at c.put_fitted.ensures
 
-third : (c : tie.After-put-allowances) → c.put-allowances.new.0 ≡ (with_allowances c.before.before.before.before.before.before.args.k (with_fitted c.before.before.before.before.before.before.args.k (with_expected c.before.before.before.before.before.before.args.k c.before.before.before.before.before.before.args.out.now)))
+third : (c : tie.After-put_allowances) → c.put_allowances.new.out ≡ (with_allowances c.before.before.before.before.before.before.args.k (with_fitted c.before.before.before.before.before.before.args.k (with_expected c.before.before.before.before.before.before.args.k c.before.before.before.before.before.before.args.out.now)))
 unfolding with_allowances starts_of
 third c =
     let s = c.before.before.before.before.before.before in
-    rw (at-is s, second c.before.before) at c.put-allowances.ensures
+    rw (at-is s, second c.before.before) at c.put_allowances.ensures
 
-fourth : (c : tie.After-put-allowances2) → c.put-allowances2.new.0 ≡ (with_margins c.before.before.before.before.before.before.before.before.args.k (with_allowances c.before.before.before.before.before.before.before.before.args.k (with_fitted c.before.before.before.before.before.before.before.before.args.k (with_expected c.before.before.before.before.before.before.before.before.args.k c.before.before.before.before.before.before.before.before.args.out.now))))
+fourth : (c : tie.After-put_allowances-2) → c.put_allowances-2.new.out ≡ (with_margins c.before.before.before.before.before.before.before.before.args.k (with_allowances c.before.before.before.before.before.before.before.before.args.k (with_fitted c.before.before.before.before.before.before.before.before.args.k (with_expected c.before.before.before.before.before.before.before.before.args.k c.before.before.before.before.before.before.before.before.args.out.now))))
 unfolding with_margins starts_of
 fourth c =
     let s = c.before.before.before.before.before.before.before.before in
-    rw (at-is s, third c.before.before) at c.put-allowances2.ensures
+    rw (at-is s, third c.before.before) at c.put_allowances-2.ensures
 
-put-expected-requires : tie.Need-put-expected-requires
+put-expected-requires : tie.Need-put_expected-requires
 unfolding starts_of
 put-expected-requires c κs =
     let s = c.before in
@@ -58,7 +58,7 @@ put-expected-requires c κs =
     rw (at-is s, starts-are s)
     (s.requires.0, (omega arith, (omega arith, (omega arith, (sized_part most_given most_figure (added_at s.args.k).cumulatives (starts_of s.args.k).payments (future_start (s.args.k + 1)) s.args.out.now (omega arith) (omega arith) b.entries, sized_part most_given most_figure (added_at s.args.k).cumulatives (starts_of s.args.k).tails (s.args.k + 1) s.args.out.now (omega arith) (omega arith) b.entries)))))
 
-put-fitted-requires : tie.Need-put-fitted-requires
+put-fitted-requires : tie.Need-put_fitted-requires
 unfolding starts_of
 put-fitted-requires c κs =
     let s = c.before.before.before in
@@ -67,7 +67,7 @@ put-fitted-requires c κs =
     rw (at-is s, starts-are s, first c.before)
     (s.requires.0, (omega arith, (omega arith, (omega arith, (b.shares, b.levels)))))
 
-put-allowances-requires : tie.Need-put-allowances-requires
+put-allowances-requires : tie.Need-put_allowances-requires
 unfolding starts_of
 put-allowances-requires c κs =
     let s = c.before.before.before.before.before in
@@ -76,7 +76,7 @@ put-allowances-requires c κs =
     rw (at-is s, second c.before)
     (s.requires.0, (omega arith, (omega arith, (omega arith, b.exposures))))
 
-put-allowances-requires-2 : tie.Need-put-allowances-requires-2
+put-allowances-requires-2 : tie.Need-put_allowances-requires-2
 unfolding starts_of
 put-allowances-requires-2 c κs =
     let s = c.before.before.before.before.before.before.before in
@@ -85,7 +85,7 @@ put-allowances-requires-2 c κs =
     rw (at-is s, third c.before)
     (s.requires.0, (omega arith, (omega arith, (omega arith, b.exposures))))
 
-put-ladder-ultimates-requires : tie.Need-put-ladder-ultimates-requires
+put-ladder-ultimates-requires : tie.Need-put_ladder_ultimates-requires
 put-ladder-ultimates-requires c κs =
     let s = c.before.before.before.before.before.before.before.before.before in
     let n = where-all s in
@@ -95,9 +95,9 @@ returns : tie.Need-returns
 unfolding worked_figures with_ladder starts_of
 returns c =
     let s = c.before.before.before.before.before.before.before.before.before.before in
-    rw (at-is s, starts-are s, fourth c.before.before) at c.put-ladder-ultimates.ensures
+    rw (at-is s, starts-are s, fourth c.before.before) at c.put_ladder_ultimates.ensures
 
-pub work-figures-spec : {M : Type 1} → statement M
-work-figures-spec =
+pub work_figures_spec : {M : Type 1} → statement M
+work_figures_spec =
     tie.close
     (tie.spec put-expected-requires put-fitted-requires put-allowances-requires put-allowances-requires-2 put-ladder-ultimates-requires returns)

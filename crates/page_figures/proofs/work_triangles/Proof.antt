@@ -35,22 +35,22 @@ levels-room s =
     record { fits = omega arith }
 
 -- what each call leaves
-first : (c : tie.After-put-rows-running) → c.put-rows-running.new.0 ≡ with_cumulatives c.before.before.args.k c.before.before.args.out.now
+first : (c : tie.After-put_rows_running) → c.put_rows_running.new.out ≡ with_cumulatives c.before.before.args.k c.before.before.args.out.now
 unfolding with_cumulatives
-first c = rw (at-is c.before.before) at c.put-rows-running.ensures
+first c = rw (at-is c.before.before) at c.put_rows_running.ensures
 
-second : (c : tie.After-put-row-sums) → c.put-row-sums.new.0 ≡ with_paid c.before.before.before.before.args.k (with_cumulatives c.before.before.before.before.args.k c.before.before.before.before.args.out.now)
+second : (c : tie.After-put_row_sums) → c.put_row_sums.new.out ≡ with_paid c.before.before.before.before.args.k (with_cumulatives c.before.before.before.before.args.k c.before.before.before.before.args.out.now)
 unfolding with_paid
-second c = rw (at-is c.before.before.before.before, first c.before.before) at c.put-row-sums.ensures
+second c = rw (at-is c.before.before.before.before, first c.before.before) at c.put_row_sums.ensures
 
-put-rows-running-requires : tie.Need-put-rows-running-requires
+put-rows-running-requires : tie.Need-put_rows_running-requires
 put-rows-running-requires c κs =
     let s = c.before in
     let n = where-all s in
     rw (at-is s)
     (s.requires.0, (omega arith, (omega arith, sized_part most_given most_figure (added_at s.args.k).cumulatives (added_at s.args.k).increments (cells s.args.k) s.args.out.now (omega arith) (omega arith) s.requires.1.1.1.entries)))
 
-put-row-sums-requires : tie.Need-put-row-sums-requires
+put-row-sums-requires : tie.Need-put_row_sums-requires
 put-row-sums-requires c κs =
     let s = c.before.before.before in
     let n = where-all s in
@@ -59,7 +59,7 @@ put-row-sums-requires c κs =
     rw (at-is s, first c.before)
     (s.requires.0, (omega arith, (omega arith, sized_part most_given most_figure (added_at s.args.k).cumulatives (added_at s.args.k).increments (cells s.args.k) xs (omega arith) (omega arith) b.entries)))
 
-put-running-requires : tie.Need-put-running-requires
+put-running-requires : tie.Need-put_running-requires
 put-running-requires c κs =
     let s = c.before.before.before.before.before in
     let n = where-all s in
@@ -68,13 +68,13 @@ put-running-requires c κs =
     rw (at-is s, starts-are s, second c.before)
     (omega arith, (omega arith, (omega arith, sized_part most_given most_figure (added_at s.args.k).cumulatives (starts_of s.args.k).shares (s.args.k + 1) xs (omega arith) (omega arith) b.entries)))
 
-third : (c : tie.After-put-running) → c.put-running.new.0 ≡ with_running c.before.before.before.before.before.before.args.k (with_paid c.before.before.before.before.before.before.args.k (with_cumulatives c.before.before.before.before.before.before.args.k c.before.before.before.before.before.before.args.out.now))
+third : (c : tie.After-put_running) → c.put_running.new.out ≡ with_running c.before.before.before.before.before.before.args.k (with_paid c.before.before.before.before.before.before.args.k (with_cumulatives c.before.before.before.before.before.before.args.k c.before.before.before.before.before.before.args.out.now))
 unfolding with_running starts_of
 third c =
     let s = c.before.before.before.before.before.before in
-    rw (at-is s, starts-are s, second c.before.before) at c.put-running.ensures
+    rw (at-is s, starts-are s, second c.before.before) at c.put_running.ensures
 
-put-combined-requires : tie.Need-put-combined-requires
+put-combined-requires : tie.Need-put_combined-requires
 put-combined-requires c κs =
     let s = c.before.before.before.before.before.before.before.before in
     let n = where-all s in
@@ -99,10 +99,10 @@ returns : tie.Need-returns
 unfolding worked_triangles with_changes starts_of
 returns c =
     let s = c.before.before.before.before.before.before.before.before.before in
-    rw (at-is s, starts-are s, third c.before.before.before) at c.put-combined.ensures
+    rw (at-is s, starts-are s, third c.before.before.before) at c.put_combined.ensures
 
-pub work-triangles-spec : {M : Type 1} → statement M
-work-triangles-spec =
+pub work_triangles_spec : {M : Type 1} → statement M
+work_triangles_spec =
     tie.close
     (tie.spec
     put-rows-running-requires

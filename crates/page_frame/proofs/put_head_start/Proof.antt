@@ -8,16 +8,14 @@ use Rattle.page_frame.proofs.put_head_start.Tie as tie
 returns : tie.Need-returns
 unfolding head_start
 returns c =
-    put_five c.before.before.before.before.before.before.before.before.before.before.before.before.before.before.before.before.before.before.before.put-bytes.ensures c.before.before.before.before.before.before.before.before.before.before.before.before.before.before.before.put-title.ensures c.before.before.before.before.before.before.before.before.before.before.put-bytes2.ensures c.before.before.before.before.before.before.put-bytes3.ensures c.before.before.put-decimal.ensures
+    put_five c.before.before.before.before.before.before.before.before.before.before.before.before.before.before.before.before.before.before.before.before.put_bytes-a.ensures c.before.before.before.before.before.before.before.before.before.before.before.before.before.before.before.before.put_title-b.ensures c.before.before.before.before.before.before.before.before.before.before.put_bytes-c.ensures c.before.before.before.before.before.before.put_bytes-d.ensures c.before.before.put_decimal.ensures
 
-pub put-head-start-spec : {M : Type 1} → statement M
-put-head-start-spec =
+pub put_head_start_spec : {M : Type 1} → statement M
+put_head_start_spec =
     tie.close
     (tie.spec
-    (λ c. search rules)
     (λ c κs. search rules)
     (λ c κs. search rules)
-    (λ c. search rules)
     (λ c κs. search rules)
     (λ c κs. search rules)
     (λ c κs. search rules)

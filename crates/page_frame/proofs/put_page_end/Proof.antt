@@ -7,9 +7,12 @@ use Rattle.page_frame.proofs.put_page_end.Tie as tie
 returns : tie.Need-returns
 unfolding page_end
 returns c =
-    c.before.before.put-Only.ensures
+    c.before.before.put_only.ensures
 
-pub put-page-end-spec : {M : Type 1} → statement M
-put-page-end-spec =
+pub put_page_end_spec : {M : Type 1} → statement M
+put_page_end_spec =
     tie.close
-    (tie.spec (λ c. search rules) (λ c κs. search rules) (λ c. search rules) returns)
+    (tie.spec
+    (λ c κs. search rules)
+    (λ c. search rules)
+    returns)

@@ -6,13 +6,12 @@ use Rattle.page_frame.proofs.put_page_start.Tie as tie
 
 returns : tie.Need-returns
 unfolding page_start
-returns c = c.before.before.put-start-with.ensures
+returns c = c.before.before.put_start_with.ensures
 
-pub put-page-start-spec : {M : Type 1} → statement M
-put-page-start-spec =
+pub put_page_start_spec : {M : Type 1} → statement M
+put_page_start_spec =
     tie.close
     (tie.spec
-    (λ c. search rules)
     (λ c κs. search rules)
     (λ c. search rules)
     returns)

@@ -4,16 +4,16 @@ use borrow.Author.Rules.{rules}
 use Rattle.page_frame.proofs.put_start_with.Statement.{statement}
 use Rattle.page_frame.proofs.put_start_with.Tie as tie
 
-returns : tie.Need-returns
+returns : tie.Need-returns-then-html
 unfolding start_with
-returns c = rw c.before.before.before.before.if1.true c.before.before.put-web-start.ensures
+returns c = rw c.before.before.before.before.if-html.true c.before.before.put_web_start.ensures
 
-returns-2 : tie.Need-returns-2
+returns-2 : tie.Need-returns-else-html
 unfolding start_with
-returns-2 c = rw c.before.before.before.before.if1.false c.before.before.put-text-start.ensures
+returns-2 c = rw c.before.before.before.before.if-html.false c.before.before.put_text_start.ensures
 
-pub put-start-with-spec : {M : Type 1} → statement M
-put-start-with-spec =
+pub put_start_with_spec : {M : Type 1} → statement M
+put_start_with_spec =
     tie.close
     (tie.spec
     (λ c κs. search rules)

@@ -8,9 +8,13 @@ use Rattle.page_frame.proofs.put_text_start.Tie as tie
 returns : tie.Need-returns
 unfolding text_start
 returns c =
-    put_append c.before.before.before.before.before.before.before.put-title.ensures c.before.before.put-bytes.ensures
+    put_append c.before.before.before.before.before.before.before.before.put_title-end.ensures c.before.before.put_bytes.ensures
 
-pub put-text-start-spec : {M : Type 1} → statement M
-put-text-start-spec =
+pub put_text_start_spec : {M : Type 1} → statement M
+put_text_start_spec =
     tie.close
-    (tie.spec (λ c κs. search rules) (λ c. search rules) (λ c κs. search rules) (λ c. search rules) returns)
+    (tie.spec
+    (λ c κs. search rules)
+    (λ c κs. search rules)
+    (λ c. search rules)
+    returns)

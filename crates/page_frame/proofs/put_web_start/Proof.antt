@@ -8,18 +8,16 @@ use Rattle.page_frame.proofs.put_web_start.Tie as tie
 returns : tie.Need-returns
 unfolding web_start
 returns c =
-    put_five c.before.before.before.before.before.before.before.before.before.before.before.before.before.before.before.before.before.before.before.before.put-head-start.ensures c.before.before.before.before.before.before.before.before.before.before.before.before.before.before.before.before.put-style.ensures c.before.before.before.before.before.before.before.before.before.before.before.put-bytes.ensures c.before.before.before.before.before.before.before.put-title.ensures c.before.before.put-bytes2.ensures
+    put_five c.before.before.before.before.before.before.before.before.before.before.before.before.before.before.before.before.before.before.before.before.before.before.put_head_start-a.ensures c.before.before.before.before.before.before.before.before.before.before.before.before.before.before.before.before.before.before.put_style-b.ensures c.before.before.before.before.before.before.before.before.before.before.before.before.put_bytes-c.ensures c.before.before.before.before.before.before.before.before.put_title-d.ensures c.before.before.put_bytes.ensures
 
-pub put-web-start-spec : {M : Type 1} → statement M
-put-web-start-spec =
+pub put_web_start_spec : {M : Type 1} → statement M
+put_web_start_spec =
     tie.close
     (tie.spec
     (λ c κs. search rules)
     (λ c κs. search rules)
-    (λ c. search rules)
     (λ c κs. search rules)
     (λ c κs. search rules)
-    (λ c. search rules)
     (λ c κs. search rules)
     (λ c. search rules)
     returns)

@@ -8,9 +8,9 @@ use Rattle.page_opening.proofs.put_opening.Tie as tie
 returns : tie.Need-returns
 unfolding opening_text
 returns c =
-    put_three c.before.before.before.before.before.before.before.before.before.before.put-valuation.ensures c.before.before.before.before.before.before.put-known-notice.ensures c.before.before.put-size.ensures
+    put_three c.before.before.before.before.before.before.before.before.before.before.put_valuation-a.ensures c.before.before.before.before.before.before.put_known_notice-b.ensures c.before.before.put_size.ensures
 
-pub put-opening-spec : {M : Type 1} → statement M
-put-opening-spec =
+pub put_opening_spec : {M : Type 1} → statement M
+put_opening_spec =
     tie.close
     (tie.spec (λ c κs. search rules) (λ c κs. search rules) (λ c κs. search rules) (λ c. search rules) returns)

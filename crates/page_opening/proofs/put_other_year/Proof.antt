@@ -8,9 +8,14 @@ use Rattle.page_opening.proofs.put_other_year.Tie as tie
 returns : tie.Need-returns
 unfolding other_year
 returns c =
-    put_three c.before.before.before.before.before.before.before.before.before.before.before.before.put-either.ensures c.before.before.before.before.before.before.before.before.put-decimal.ensures c.before.before.put-either2.ensures
+    put_three c.before.before.before.before.before.before.before.before.before.before.before.before.before.before.put_either-a.ensures c.before.before.before.before.before.before.before.before.before.before.put_decimal-b.ensures c.before.before.put_either.ensures
 
-pub put-other-year-spec : {M : Type 1} → statement M
-put-other-year-spec =
+pub put_other_year_spec : {M : Type 1} → statement M
+put_other_year_spec =
     tie.close
-    (tie.spec (λ c. search rules) (λ c. search rules) (λ c κs. search rules) (λ c κs. search rules) (λ c. search rules) (λ c. search rules) (λ c κs. search rules) (λ c. search rules) returns)
+    (tie.spec
+    (λ c κs. search rules)
+    (λ c κs. search rules)
+    (λ c κs. search rules)
+    (λ c. search rules)
+    returns)

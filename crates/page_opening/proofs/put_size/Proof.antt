@@ -8,9 +8,14 @@ use Rattle.page_opening.proofs.put_size.Tie as tie
 returns : tie.Need-returns
 unfolding size_text
 returns c =
-    put_three c.before.before.before.before.before.before.before.before.before.before.before.before.put-either.ensures c.before.before.before.before.before.before.before.before.put-decimal.ensures c.before.before.put-either2.ensures
+    put_three c.before.before.before.before.before.before.before.before.before.before.before.before.before.before.put_either-a.ensures c.before.before.before.before.before.before.before.before.before.before.put_decimal-b.ensures c.before.before.put_either.ensures
 
-pub put-size-spec : {M : Type 1} → statement M
-put-size-spec =
+pub put_size_spec : {M : Type 1} → statement M
+put_size_spec =
     tie.close
-    (tie.spec (λ c. search rules) (λ c. search rules) (λ c κs. search rules) (λ c κs. search rules) (λ c. search rules) (λ c. search rules) (λ c κs. search rules) (λ c. search rules) returns)
+    (tie.spec
+    (λ c κs. search rules)
+    (λ c κs. search rules)
+    (λ c κs. search rules)
+    (λ c. search rules)
+    returns)

@@ -8,9 +8,16 @@ use Rattle.page_opening.proofs.put_valuation.Tie as tie
 returns : tie.Need-returns
 unfolding valuation_text
 returns c =
-    put_five c.before.before.before.before.before.before.before.before.before.before.before.before.before.before.before.before.before.before.before.before.before.put-either.ensures c.before.before.before.before.before.before.before.before.before.before.before.before.before.before.before.before.before.put-decimal.ensures c.before.before.before.before.before.before.before.before.before.before.before.before.put-Only.ensures c.before.before.before.before.before.before.before.before.put-known-years.ensures c.before.before.put-either2.ensures
+    put_five c.before.before.before.before.before.before.before.before.before.before.before.before.before.before.before.before.before.before.before.before.before.before.before.before.put_either-a.ensures c.before.before.before.before.before.before.before.before.before.before.before.before.before.before.before.before.before.before.before.before.put_decimal-b.ensures c.before.before.before.before.before.before.before.before.before.before.before.before.before.before.put_only-c.ensures c.before.before.before.before.before.before.before.before.before.before.put_known_years-d.ensures c.before.before.put_either.ensures
 
-pub put-valuation-spec : {M : Type 1} → statement M
-put-valuation-spec =
+pub put_valuation_spec : {M : Type 1} → statement M
+put_valuation_spec =
     tie.close
-    (tie.spec (λ c. search rules) (λ c. search rules) (λ c κs. search rules) (λ c κs. search rules) (λ c. search rules) (λ c κs. search rules) (λ c κs. search rules) (λ c. search rules) (λ c. search rules) (λ c κs. search rules) (λ c. search rules) returns)
+    (tie.spec
+    (λ c κs. search rules)
+    (λ c κs. search rules)
+    (λ c κs. search rules)
+    (λ c κs. search rules)
+    (λ c κs. search rules)
+    (λ c. search rules)
+    returns)

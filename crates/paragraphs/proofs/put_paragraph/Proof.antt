@@ -7,10 +7,10 @@ use Rattle.paragraphs.proofs.put_paragraph.Tie as tie
 
 returns : tie.Need-returns
 unfolding paragraph
-returns c = put_three c.before.before.before.before.before.before.before.before.before.before.put-paragraph-start.ensures c.before.before.before.before.before.before.put-words.ensures c.before.before.put-paragraph-end.ensures
+returns c = put_three c.before.before.before.before.before.before.before.before.before.before.put_paragraph_start-words.ensures c.before.before.before.before.before.before.put_words-end.ensures c.before.before.put_paragraph_end.ensures
 
-pub put-paragraph-spec : {M : Type 1} → statement M
-put-paragraph-spec =
+pub put_paragraph_spec : {M : Type 1} → statement M
+put_paragraph_spec =
     tie.close
     (tie.spec
     (λ c κs. search rules)

@@ -6,14 +6,12 @@ use Rattle.paragraphs.proofs.put_paragraph_end.Tie as tie
 
 returns : tie.Need-returns
 unfolding paragraph_end
-returns c = c.before.before.put-either.ensures
+returns c = c.before.before.put_either.ensures
 
-pub put-paragraph-end-spec : {M : Type 1} → statement M
-put-paragraph-end-spec =
+pub put_paragraph_end_spec : {M : Type 1} → statement M
+put_paragraph_end_spec =
     tie.close
     (tie.spec
-    (λ c. search rules)
-    (λ c. search rules)
     (λ c κs. search rules)
     (λ c. search rules)
     returns)

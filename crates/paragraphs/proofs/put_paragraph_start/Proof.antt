@@ -6,14 +6,12 @@ use Rattle.paragraphs.proofs.put_paragraph_start.Tie as tie
 
 returns : tie.Need-returns
 unfolding paragraph_start
-returns c = c.before.before.put-either.ensures
+returns c = c.before.before.put_either.ensures
 
-pub put-paragraph-start-spec : {M : Type 1} → statement M
-put-paragraph-start-spec =
+pub put_paragraph_start_spec : {M : Type 1} → statement M
+put_paragraph_start_spec =
     tie.close
     (tie.spec
-    (λ c. search rules)
-    (λ c. search rules)
     (λ c κs. search rules)
     (λ c. search rules)
     returns)

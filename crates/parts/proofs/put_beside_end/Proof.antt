@@ -6,9 +6,12 @@ use Rattle.parts.proofs.put_beside_end.Tie as tie
 
 returns : tie.Need-returns
 unfolding beside_end
-returns c = c.before.before.put-Only.ensures
+returns c = c.before.before.put_only.ensures
 
-pub put-beside-end-spec : {M : Type 1} → statement M
-put-beside-end-spec =
+pub put_beside_end_spec : {M : Type 1} → statement M
+put_beside_end_spec =
     tie.close
-    (tie.spec (λ c. search rules) (λ c κs. search rules) (λ c. search rules) returns)
+    (tie.spec
+    (λ c κs. search rules)
+    (λ c. search rules)
+    returns)

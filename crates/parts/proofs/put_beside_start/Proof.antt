@@ -6,9 +6,12 @@ use Rattle.parts.proofs.put_beside_start.Tie as tie
 
 returns : tie.Need-returns
 unfolding beside_start
-returns c = c.before.before.put-Only.ensures
+returns c = c.before.before.put_only.ensures
 
-pub put-beside-start-spec : {M : Type 1} → statement M
-put-beside-start-spec =
+pub put_beside_start_spec : {M : Type 1} → statement M
+put_beside_start_spec =
     tie.close
-    (tie.spec (λ c. search rules) (λ c κs. search rules) (λ c. search rules) returns)
+    (tie.spec
+    (λ c κs. search rules)
+    (λ c. search rules)
+    returns)

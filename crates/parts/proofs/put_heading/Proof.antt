@@ -7,9 +7,14 @@ use Rattle.parts.proofs.put_heading.Tie as tie
 
 returns : tie.Need-returns
 unfolding heading
-returns c = put_three c.before.before.before.before.before.before.before.before.before.before.before.before.put-either.ensures c.before.before.before.before.before.before.before.before.put-bytes.ensures c.before.before.put-either2.ensures
+returns c = put_three c.before.before.before.before.before.before.before.before.before.before.before.before.before.before.put_either-words.ensures c.before.before.before.before.before.before.before.before.before.before.put_bytes-end.ensures c.before.before.put_either.ensures
 
-pub put-heading-spec : {M : Type 1} → statement M
-put-heading-spec =
+pub put_heading_spec : {M : Type 1} → statement M
+put_heading_spec =
     tie.close
-    (tie.spec (λ c. search rules) (λ c. search rules) (λ c κs. search rules) (λ c κs. search rules) (λ c. search rules) (λ c. search rules) (λ c κs. search rules) (λ c. search rules) returns)
+    (tie.spec
+    (λ c κs. search rules)
+    (λ c κs. search rules)
+    (λ c κs. search rules)
+    (λ c. search rules)
+    returns)

@@ -6,9 +6,12 @@ use Rattle.parts.proofs.put_only.Tie as tie
 
 returns : tie.Need-returns
 unfolding only
-returns c = c.before.before.put-either.ensures
+returns c = c.before.before.put_either.ensures
 
-pub put-only-spec : {M : Type 1} → statement M
-put-only-spec =
+pub put_only_spec : {M : Type 1} → statement M
+put_only_spec =
     tie.close
-    (tie.spec (λ c. search rules) (λ c κs. search rules) (λ c. search rules) returns)
+    (tie.spec
+    (λ c κs. search rules)
+    (λ c. search rules)
+    returns)

@@ -7,9 +7,13 @@ use Rattle.parts.proofs.put_section_start.Tie as tie
 
 returns : tie.Need-returns
 unfolding section_head
-returns c = put_append c.before.before.before.before.before.before.put-Only.ensures c.before.before.put-heading.ensures
+returns c = put_append c.before.before.before.before.before.before.put_only-head.ensures c.before.before.put_heading.ensures
 
-pub put-section-start-spec : {M : Type 1} → statement M
-put-section-start-spec =
+pub put_section_start_spec : {M : Type 1} → statement M
+put_section_start_spec =
     tie.close
-    (tie.spec (λ c. search rules) (λ c κs. search rules) (λ c κs. search rules) (λ c. search rules) returns)
+    (tie.spec
+    (λ c κs. search rules)
+    (λ c κs. search rules)
+    (λ c. search rules)
+    returns)

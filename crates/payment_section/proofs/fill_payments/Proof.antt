@@ -14,20 +14,20 @@ use Rattle.payment_section.proofs.fill_payments.Statement.{statement}
 use Rattle.payment_section.proofs.fill_payments.Tie as tie
 
 -- where all stands
-places : (c : tie.After-added-at) → Numbers c.added-at.result c.before.starts-of.result c.before.before.args.k
-places c = numbers c.added-at.result c.before.starts-of.result c.before.before.args.k c.before.before.requires.0 c.added-at.ensures c.before.starts-of.ensures
+places : (c : tie.After-added_at-added) → Numbers c.added_at-added.result c.before.starts_of-starts.result c.before.before.args.k
+places c = numbers c.added_at-added.result c.before.starts_of-starts.result c.before.before.args.k c.before.before.requires.0 c.added_at-added.ensures c.before.starts_of-starts.ensures
 
-place-square-requires : tie.Need-place-square-requires
+place-square-requires : tie.Need-place_square-requires
 place-square-requires c κs =
     let n = places c.before.before.before.before in
     (n.few, (omega arith, (omega arith, (omega arith, omega arith))))
 
-place-column-requires : tie.Need-place-column-requires
+place-column-requires : tie.Need-place_column-requires
 place-column-requires c κs =
     let n = places c.before.before.before.before.before.before.before in
     (n.few, (omega arith, (omega arith, omega arith)))
 
-place-column-requires-2 : tie.Need-place-column-requires-2
+place-column-requires-2 : tie.Need-place_column-requires-2
 place-column-requires-2 c κs =
     let n = places c.before.before.before.before.before.before.before.before.before.before in
     (n.few, (omega arith, (omega arith, omega arith)))
@@ -37,21 +37,21 @@ unfolding payment_grid
 returns c =
     let t = c.before.before.before in
     let b = t.before.before.before in
-    let paid = b.before.before.before.styled2.ensures in
-    let ahead = b.before.before.before.before.styled.ensures in
-    let at = b.before.before.before.before.before.added-at.ensures in
-    let starts = b.before.before.before.before.before.before.starts-of.ensures in
+    let paid = b.before.before.before.styled-paid.ensures in
+    let ahead = b.before.before.before.before.styled-ahead.ensures in
+    let at = b.before.before.before.before.before.added_at-added.ensures in
+    let starts = b.before.before.before.before.before.before.starts_of-starts.ensures in
     let s = b.before.before.before.before.before.before.before in
     let xs = s.args.figures.now in
     let k = s.args.k in
     let body = square (k + 3) (added_at k).increments (starts_of k).payments k xs in
     let tails = column_of (styled future 0) (k + 1) (k + 3) (starts_of k).tails k xs in
-    let placed = next body blank s.requires.1 (rw (at, starts) at b.place-square.ensures) in
-    let more = next tails (body blank) placed (rw (ahead, starts) at t.place-column.ensures) in
-    next (column_of (styled plain 0) (k + 2) (k + 3) (added_at k).ultimates k xs) (tails (body blank)) more (rw (paid, at) at c.place-column2.ensures)
+    let placed = next body blank s.requires.1 (rw (at, starts) at b.place_square.ensures) in
+    let more = next tails (body blank) placed (rw (ahead, starts) at t.place_column.ensures) in
+    next (column_of (styled plain 0) (k + 2) (k + 3) (added_at k).ultimates k xs) (tails (body blank)) more (rw (paid, at) at c.place_column-2.ensures)
 
-pub fill-payments-spec : {M : Type 1} → statement M
-fill-payments-spec =
+pub fill_payments_spec : {M : Type 1} → statement M
+fill_payments_spec =
     tie.close
     (tie.spec
     (λ c κs. search rules)

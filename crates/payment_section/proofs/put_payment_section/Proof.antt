@@ -11,16 +11,14 @@ returns c =
     let end = c.before.before in
     let table = end.before.before.before.before in
     let paragraph = table.before.before.before.before in
-    let start = paragraph.before.before.before.before.before in
-    put_four start.put-section-start.ensures paragraph.put-Only.ensures table.put-payment-table.ensures end.put-section-end.ensures
+    let start = paragraph.before.before.before.before.before.before in
+    put_four start.put_section_start-paragraph.ensures paragraph.put_only-table.ensures table.put_payment_table-end.ensures end.put_section_end.ensures
 
-pub put-payment-section-spec : {M : Type 1} → statement M
-put-payment-section-spec =
+pub put_payment_section_spec : {M : Type 1} → statement M
+put_payment_section_spec =
     tie.close
     (tie.spec
-    (λ c. search rules)
     (λ c κs. search rules)
-    (λ c. search rules)
     (λ c κs. search rules)
     (λ c κs. search rules)
     (λ c κs. search rules)

@@ -14,14 +14,14 @@ use borrow.Author.Rules.{rules, sfits_of}
 use Rattle.picked_table.proofs.pick.Statement.{statement}
 use Rattle.picked_table.proofs.pick.Tie as tie
 
-abbrev invariant-loop : tie.invariant-loop
+abbrev invariant-loop : tie.invariant-loop-p
 invariant-loop values₀ styles₀ figures places kinds n p₀ values styles p =
     (p ≤ n) × Holds (picked figures places kinds p (grid values₀ styles₀)) values styles
 
-abbrev decreases-loop : tie.decreases-loop
+abbrev decreases-loop : tie.decreases-loop-p
 decreases-loop values₀ styles₀ figures places kinds n p₀ values styles p = n - p
 
-loop-holds : tie.Need-loop-init invariant-loop decreases-loop
+loop-holds : tie.Need-loop-p-init invariant-loop decreases-loop
 unfolding picked
 loop-holds c = (omega arith, (refl, refl))
 
@@ -29,30 +29,30 @@ loop-holds c = (omega arith, (refl, refl))
 most : (s : tie.Start invariant-loop decreases-loop) (p : ℕ) → get_or s.args.places.now p 0 ≤ 47
 most s p = at_most 0 47 s.args.places.now s.requires.1 p
 
-cast-place : tie.Need-overflow-cast-place invariant-loop decreases-loop
-cast-place c = record { fits = omega (arith, most c.before.before.before c.before.before.loop.p) }
+cast-place : tie.Need-overflow_cast-place invariant-loop decreases-loop
+cast-place c = record { fits = omega (arith, most c.before.before.before.before c.before.before.before.loop-p.p) }
 
-mul-values : tie.Need-overflow-mul-values invariant-loop decreases-loop
-mul-values c = omega (arith, most c.before.before.before c.before.before.loop.p)
+mul-values : tie.Need-offset_bounds-figures-place invariant-loop decreases-loop
+mul-values c = omega (arith, most c.before.before.before.before c.before.before.before.loop-p.p)
 
-element-copy-out-values : tie.Need-element-copy-out-values invariant-loop decreases-loop
-element-copy-out-values c = omega (arith, most c.before.before.before c.before.before.loop.p)
+element-copy-out-values : tie.Need-bounds-figures-place invariant-loop decreases-loop
+element-copy-out-values c = omega (arith, most c.before.before.before.before c.before.before.before.loop-p.p)
 
-loop-again : tie.Need-loop-preserved invariant-loop decreases-loop
+loop-again : tie.Need-loop-p-preserved invariant-loop decreases-loop
 loop-again c =
-    let l = c.before.before.before.before in
+    let l = c.before.before.before.before.before.before.before in
     let s = l.before in
-    let x = get_or s.args.figures.now (get_or s.args.places.now l.loop.p 0) (pos 0) in
-    let read = to_z-of_z {w = w64} {z = x} (sfits_of c.before.values.given) in (
+    let x = get_or s.args.figures.now (get_or s.args.places.now l.loop-p.p 0) (pos 0) in
+    let read = to_z-of_z {w = w64} {z = x} (sfits_of c.before.before.before.values-1.given) in (
       omega arith,
       rw read
-          (picked_more s.args.figures.now s.args.places.now s.args.kinds.now l.loop.p (grid s.args.values.now s.args.styles.now) l.loop.values l.loop.styles l.loop.invariant.1),
+          (picked_more s.args.figures.now s.args.places.now s.args.kinds.now l.loop-p.p (grid s.args.values.now s.args.styles.now) l.loop-p.values l.loop-p.styles l.loop-p.invariant.1),
     )
 
 returns : tie.Need-returns invariant-loop decreases-loop
 returns c =
-    let e : c.before.loop.p ≡ c.before.before.args.n = omega arith in
-    rw e at c.before.loop.invariant.1
+    let e : c.before.loop-p.p ≡ c.before.before.args.n = omega arith in
+    rw e at c.before.loop-p.invariant.1
 
 pub pick_spec : {M : Type 1} → statement M
 pick_spec =

@@ -8,13 +8,12 @@ use Rattle.place_words.proofs.put_development_year.Tie as tie
 returns : tie.Need-returns
 unfolding development_text
 returns c =
-    put_append c.before.before.before.before.before.before.put-bytes.ensures c.before.before.put-decimal.ensures
+    put_append c.before.before.before.before.before.before.put_bytes-a.ensures c.before.before.put_decimal.ensures
 
-pub put-development-year-spec : {M : Type 1} → statement M
-put-development-year-spec =
+pub put_development_year_spec : {M : Type 1} → statement M
+put_development_year_spec =
     tie.close
     (tie.spec
-    (λ c. search rules)
     (λ c κs. search rules)
     (λ c κs. search rules)
     (λ c. search rules)

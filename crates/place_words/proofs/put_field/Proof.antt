@@ -12,8 +12,11 @@ use Rattle.place_words.proofs.put_field.Tie as tie
 
 returns : tie.Need-returns
 unfolding field_texts field_text written first_line line_of every passing
-returns c = put_same (line_is field_texts (written field_texts) c.before.before.before.before.before.before.args.place refl) c.before.before.put-line.ensures
+returns c = put_same (line_is field_texts (written field_texts) c.before.before.before.before.before.before.before.args.place refl) c.before.before.put_line.ensures
 
-pub put-field-spec : {M : Type 1} → statement M
-put-field-spec =
-    tie.close (tie.spec (λ c. search rules) (λ c κs. search rules) (λ c. search rules) returns)
+pub put_field_spec : {M : Type 1} → statement M
+put_field_spec =
+    tie.close (tie.spec
+    (λ c κs. search rules)
+    (λ c. search rules)
+    returns)

@@ -7,10 +7,10 @@ use Rattle.place_words.proofs.put_index.Tie as tie
 returns : tie.Need-returns
 unfolding index_text
 returns c =
-    c.before.before.put-decimal.ensures
+    c.before.before.put_decimal.ensures
 
-pub put-index-spec : {M : Type 1} → statement M
-put-index-spec =
+pub put_index_spec : {M : Type 1} → statement M
+put_index_spec =
     tie.close
     (tie.spec
     (λ c. search rules)

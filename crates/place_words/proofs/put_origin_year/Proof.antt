@@ -8,13 +8,12 @@ use Rattle.place_words.proofs.put_origin_year.Tie as tie
 returns : tie.Need-returns
 unfolding origin_text
 returns c =
-    put_append c.before.before.before.before.before.before.put-bytes.ensures c.before.before.put-decimal.ensures
+    put_append c.before.before.before.before.before.before.put_bytes-a.ensures c.before.before.put_decimal.ensures
 
-pub put-origin-year-spec : {M : Type 1} → statement M
-put-origin-year-spec =
+pub put_origin_year_spec : {M : Type 1} → statement M
+put_origin_year_spec =
     tie.close
     (tie.spec
-    (λ c. search rules)
     (λ c κs. search rules)
     (λ c. search rules)
     (λ c κs. search rules)

@@ -8,10 +8,10 @@ use Rattle.place_words.proofs.put_place.Tie as tie
 returns : tie.Need-returns
 unfolding place_text
 returns c =
-    put_append c.before.before.before.before.before.before.put-field.ensures c.before.before.put-years.ensures
+    put_append c.before.before.before.before.before.before.put_field-a.ensures c.before.before.put_years.ensures
 
-pub put-place-spec : {M : Type 1} → statement M
-put-place-spec =
+pub put_place_spec : {M : Type 1} → statement M
+put_place_spec =
     tie.close
     (tie.spec
     (λ c κs. search rules)

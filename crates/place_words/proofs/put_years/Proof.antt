@@ -6,58 +6,58 @@ use borrow.Author.Rules.{rules}
 use Rattle.place_words.proofs.put_years.Statement.{statement}
 use Rattle.place_words.proofs.put_years.Tie as tie
 
-returns : tie.Need-returns
+returns : tie.Need-returns-then-place-eq-ORIGIN_YEAR
 unfolding years_text
 returns c =
-    rw (eq-eqb _ _ c.before.before.before.before.if1.true) c.before.before.put-origin-year.ensures
+    rw (eq-eqb _ _ c.before.before.before.before.if-place-eq-ORIGIN_YEAR.true) c.before.before.put_origin_year.ensures
 
-returns-2 : tie.Need-returns-2
+returns-2 : tie.Need-returns-then-place-eq-DEVELOPMENT_YEAR
 unfolding years_text
 returns-2 c =
-    rw (ne_eqb _ _ c.before.before.before.before.before.if1.false, eq-eqb _ _ c.before.before.before.before.if2.true) c.before.before.put-development-year.ensures
+    rw (ne_eqb _ _ c.before.before.before.before.before.if-place-eq-ORIGIN_YEAR.false, eq-eqb _ _ c.before.before.before.before.if-place-eq-DEVELOPMENT_YEAR.true) c.before.before.put_development_year.ensures
 
-returns-3 : tie.Need-returns-3
+returns-3 : tie.Need-returns-then-place-eq-PAYMENT_YEAR
 unfolding years_text
 returns-3 c =
-    rw (ne_eqb _ _ c.before.before.before.before.before.before.if1.false, ne_eqb _ _ c.before.before.before.before.before.if2.false, eq-eqb _ _ c.before.before.before.before.if3.true) c.before.before.put-payment-year.ensures
+    rw (ne_eqb _ _ c.before.before.before.before.before.before.if-place-eq-ORIGIN_YEAR.false, ne_eqb _ _ c.before.before.before.before.before.if-place-eq-DEVELOPMENT_YEAR.false, eq-eqb _ _ c.before.before.before.before.if-place-eq-PAYMENT_YEAR.true) c.before.before.put_payment_year.ensures
 
-returns-4 : tie.Need-returns-4
+returns-4 : tie.Need-returns-then-place-eq-CELL
 unfolding years_text
 returns-4 c =
-    rw (ne_eqb _ _ c.before.before.before.before.before.before.before.if1.false, ne_eqb _ _ c.before.before.before.before.before.before.if2.false, ne_eqb _ _ c.before.before.before.before.before.if3.false, eq-eqb _ _ c.before.before.before.before.if4.true) c.before.before.put-cell.ensures
+    rw (ne_eqb _ _ c.before.before.before.before.before.before.before.if-place-eq-ORIGIN_YEAR.false, ne_eqb _ _ c.before.before.before.before.before.before.if-place-eq-DEVELOPMENT_YEAR.false, ne_eqb _ _ c.before.before.before.before.before.if-place-eq-PAYMENT_YEAR.false, eq-eqb _ _ c.before.before.before.before.if-place-eq-CELL.true) c.before.before.put_cell.ensures
 
-returns-5 : tie.Need-returns-5
+returns-5 : tie.Need-returns-then-place-eq5
 unfolding years_text
 returns-5 c =
-    rw (ne_eqb _ _ c.before.before.before.before.before.before.before.before.if1.false, ne_eqb _ _ c.before.before.before.before.before.before.before.if2.false, ne_eqb _ _ c.before.before.before.before.before.before.if3.false, ne_eqb _ _ c.before.before.before.before.before.if4.false, eq-eqb _ _ c.before.before.before.before.if5.true) c.before.before.put-origin-year2.ensures
+    rw (ne_eqb _ _ c.before.before.before.before.before.before.before.before.if-place-eq-ORIGIN_YEAR.false, ne_eqb _ _ c.before.before.before.before.before.before.before.if-place-eq-DEVELOPMENT_YEAR.false, ne_eqb _ _ c.before.before.before.before.before.before.if-place-eq-PAYMENT_YEAR.false, ne_eqb _ _ c.before.before.before.before.before.if-place-eq-CELL.false, eq-eqb _ _ c.before.before.before.before.if-place-eq5.true) c.before.before.put_origin_year-then-place-eq5.ensures
 
-returns-6 : tie.Need-returns-6
+returns-6 : tie.Need-returns-then-place-eq6
 unfolding years_text
 returns-6 c =
-    rw (ne_eqb _ _ c.before.before.before.before.before.before.before.before.before.if1.false, ne_eqb _ _ c.before.before.before.before.before.before.before.before.if2.false, ne_eqb _ _ c.before.before.before.before.before.before.before.if3.false, ne_eqb _ _ c.before.before.before.before.before.before.if4.false, ne_eqb _ _ c.before.before.before.before.before.if5.false, eq-eqb _ _ c.before.before.before.before.if6.true) c.before.before.put-cell2.ensures
+    rw (ne_eqb _ _ c.before.before.before.before.before.before.before.before.before.if-place-eq-ORIGIN_YEAR.false, ne_eqb _ _ c.before.before.before.before.before.before.before.before.if-place-eq-DEVELOPMENT_YEAR.false, ne_eqb _ _ c.before.before.before.before.before.before.before.if-place-eq-PAYMENT_YEAR.false, ne_eqb _ _ c.before.before.before.before.before.before.if-place-eq-CELL.false, ne_eqb _ _ c.before.before.before.before.before.if-place-eq5.false, eq-eqb _ _ c.before.before.before.before.if-place-eq6.true) c.before.before.put_cell-then-place-eq6.ensures
 
-returns-7 : tie.Need-returns-7
+returns-7 : tie.Need-returns-then-place-eq7
 unfolding years_text
 returns-7 c =
-    rw (ne_eqb _ _ c.before.before.before.before.before.before.before.before.before.before.if1.false, ne_eqb _ _ c.before.before.before.before.before.before.before.before.before.if2.false, ne_eqb _ _ c.before.before.before.before.before.before.before.before.if3.false, ne_eqb _ _ c.before.before.before.before.before.before.before.if4.false, ne_eqb _ _ c.before.before.before.before.before.before.if5.false, ne_eqb _ _ c.before.before.before.before.before.if6.false, eq-eqb _ _ c.before.before.before.before.if7.true) c.before.before.put-index.ensures
+    rw (ne_eqb _ _ c.before.before.before.before.before.before.before.before.before.before.if-place-eq-ORIGIN_YEAR.false, ne_eqb _ _ c.before.before.before.before.before.before.before.before.before.if-place-eq-DEVELOPMENT_YEAR.false, ne_eqb _ _ c.before.before.before.before.before.before.before.before.if-place-eq-PAYMENT_YEAR.false, ne_eqb _ _ c.before.before.before.before.before.before.before.if-place-eq-CELL.false, ne_eqb _ _ c.before.before.before.before.before.before.if-place-eq5.false, ne_eqb _ _ c.before.before.before.before.before.if-place-eq6.false, eq-eqb _ _ c.before.before.before.before.if-place-eq7.true) c.before.before.put_index.ensures
 
-returns-8 : tie.Need-returns-8
+returns-8 : tie.Need-returns-then-place-eq8
 unfolding years_text
 returns-8 c =
-    rw (ne_eqb _ _ c.before.before.before.before.before.before.before.before.before.before.before.if1.false, ne_eqb _ _ c.before.before.before.before.before.before.before.before.before.before.if2.false, ne_eqb _ _ c.before.before.before.before.before.before.before.before.before.if3.false, ne_eqb _ _ c.before.before.before.before.before.before.before.before.if4.false, ne_eqb _ _ c.before.before.before.before.before.before.before.if5.false, ne_eqb _ _ c.before.before.before.before.before.before.if6.false, ne_eqb _ _ c.before.before.before.before.before.if7.false, eq-eqb _ _ c.before.before.before.before.if8.true) c.before.before.put-development-year2.ensures
+    rw (ne_eqb _ _ c.before.before.before.before.before.before.before.before.before.before.before.if-place-eq-ORIGIN_YEAR.false, ne_eqb _ _ c.before.before.before.before.before.before.before.before.before.before.if-place-eq-DEVELOPMENT_YEAR.false, ne_eqb _ _ c.before.before.before.before.before.before.before.before.before.if-place-eq-PAYMENT_YEAR.false, ne_eqb _ _ c.before.before.before.before.before.before.before.before.if-place-eq-CELL.false, ne_eqb _ _ c.before.before.before.before.before.before.before.if-place-eq5.false, ne_eqb _ _ c.before.before.before.before.before.before.if-place-eq6.false, ne_eqb _ _ c.before.before.before.before.before.if-place-eq7.false, eq-eqb _ _ c.before.before.before.before.if-place-eq8.true) c.before.before.put_development_year-then-place-eq8.ensures
 
-returns-9 : tie.Need-returns-9
+returns-9 : tie.Need-returns-then-place-eq10
 unfolding years_text
 returns-9 c =
-    rw (ne_eqb _ _ c.before.before.before.before.before.before.before.before.before.before.before.before.if1.false, ne_eqb _ _ c.before.before.before.before.before.before.before.before.before.before.before.if2.false, ne_eqb _ _ c.before.before.before.before.before.before.before.before.before.before.if3.false, ne_eqb _ _ c.before.before.before.before.before.before.before.before.before.if4.false, ne_eqb _ _ c.before.before.before.before.before.before.before.before.if5.false, ne_eqb _ _ c.before.before.before.before.before.before.before.if6.false, ne_eqb _ _ c.before.before.before.before.before.before.if7.false, ne_eqb _ _ c.before.before.before.before.before.if8.false, eq-eqb _ _ c.before.before.before.before.if9.true) c.before.before.put-payment-year2.ensures
+    rw (ne_eqb _ _ c.before.before.before.before.before.before.before.before.before.before.before.before.if-place-eq-ORIGIN_YEAR.false, ne_eqb _ _ c.before.before.before.before.before.before.before.before.before.before.before.if-place-eq-DEVELOPMENT_YEAR.false, ne_eqb _ _ c.before.before.before.before.before.before.before.before.before.before.if-place-eq-PAYMENT_YEAR.false, ne_eqb _ _ c.before.before.before.before.before.before.before.before.before.if-place-eq-CELL.false, ne_eqb _ _ c.before.before.before.before.before.before.before.before.if-place-eq5.false, ne_eqb _ _ c.before.before.before.before.before.before.before.if-place-eq6.false, ne_eqb _ _ c.before.before.before.before.before.before.if-place-eq7.false, ne_eqb _ _ c.before.before.before.before.before.if-place-eq8.false, eq-eqb _ _ c.before.before.before.before.if-place-eq10.true) c.before.before.put_payment_year-then-place-eq10.ensures
 
-returns-10 : tie.Need-returns-10
+returns-10 : tie.Need-returns
 unfolding years_text
 returns-10 c =
-    rw (ne_eqb _ _ c.before.before.before.before.before.before.before.before.if1.false, ne_eqb _ _ c.before.before.before.before.before.before.before.if2.false, ne_eqb _ _ c.before.before.before.before.before.before.if3.false, ne_eqb _ _ c.before.before.before.before.before.if4.false, ne_eqb _ _ c.before.before.before.before.if5.false, ne_eqb _ _ c.before.before.before.if6.false, ne_eqb _ _ c.before.before.if7.false, ne_eqb _ _ c.before.if8.false, ne_eqb _ _ c.if9.false) (put_none _ _)
+    rw (ne_eqb _ _ c.before.before.before.before.before.before.before.before.if-place-eq-ORIGIN_YEAR.false, ne_eqb _ _ c.before.before.before.before.before.before.before.if-place-eq-DEVELOPMENT_YEAR.false, ne_eqb _ _ c.before.before.before.before.before.before.if-place-eq-PAYMENT_YEAR.false, ne_eqb _ _ c.before.before.before.before.before.if-place-eq-CELL.false, ne_eqb _ _ c.before.before.before.before.if-place-eq5.false, ne_eqb _ _ c.before.before.before.if-place-eq6.false, ne_eqb _ _ c.before.before.if-place-eq7.false, ne_eqb _ _ c.before.if-place-eq8.false, ne_eqb _ _ c.if-place-eq10.false) (put_none _ _)
 
-pub put-years-spec : {M : Type 1} → statement M
-put-years-spec =
+pub put_years_spec : {M : Type 1} → statement M
+put_years_spec =
     tie.close
     (tie.spec
     (λ c κs. search rules)

@@ -9,7 +9,7 @@ use borrow.Author.Rules.{rules}
 use Rattle.placing.proofs.place.Statement.{statement}
 use Rattle.placing.proofs.place.Tie as tie
 
-place-kinds-requires : tie.Need-place-kinds-requires
+place-kinds-requires : tie.Need-place_kinds-requires
 place-kinds-requires c κs = search rules
 
 returns : tie.Need-returns
@@ -19,7 +19,7 @@ returns c =
     placed_same (λ m. get_or (replicate 136 s.args.style) (0 + m) 0) (λ m. s.args.style) s.args.first s.args.step s.args.start s.args.n s.args.figures.now
     (grid s.args.values.now s.args.styles.now)
     (λ m h. let e : 0 + m ≡ m = omega arith in rw e (get_or-replicate 136 m s.args.style 0 (omega arith))) in
-    rw same at c.place-kinds.ensures
+    rw same at c.place_kinds.ensures
 
-pub place-spec : {M : Type 1} → statement M
-place-spec = tie.close (tie.spec place-kinds-requires returns)
+pub place_spec : {M : Type 1} → statement M
+place_spec = tie.close (tie.spec place-kinds-requires returns)

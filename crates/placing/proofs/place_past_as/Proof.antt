@@ -16,7 +16,7 @@ returns c =
     let same =
     past_same (λ m. get_or (replicate 136 s.args.style) m 0) (λ m. s.args.style) s.args.c s.args.start s.args.k (s.args.k + 1) s.args.figures.now
     (grid s.args.values.now s.args.styles.now) (omega arith) (λ m h. get_or-replicate 136 m s.args.style 0 (omega (arith, cells_most s.args.k s.requires.0))) in
-    rw same at c.place-past.ensures
+    rw same at c.place_past.ensures
 
-pub place-past-as-spec : {M : Type 1} → statement M
-place-past-as-spec = tie.close (tie.spec (λ c κs. search rules) returns)
+pub place_past_as_spec : {M : Type 1} → statement M
+place_past_as_spec = tie.close (tie.spec (λ c κs. search rules) returns)

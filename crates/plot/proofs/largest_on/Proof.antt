@@ -8,31 +8,31 @@ use borrow.Author.Rules.{rules}
 use Rattle.plot.proofs.largest_on.Statement.{statement}
 use Rattle.plot.proofs.largest_on.Tie as tie
 
-abbrev invariant-loop : tie.invariant-loop
+abbrev invariant-loop : tie.invariant-loop-c
 invariant-loop values low s n largest₀ c₀ largest c = (c ≤ n) × ((n ≡ s.slots) × (largest ≡ largest_in low values s c))
 
-abbrev decreases-loop : tie.decreases-loop
+abbrev decreases-loop : tie.decreases-loop-c
 decreases-loop values low s n largest₀ c₀ largest c = n - c
 
-loop-holds : tie.Need-loop-init invariant-loop decreases-loop
+loop-holds : tie.Need-loop-c-init invariant-loop decreases-loop
 loop-holds c = (omega arith, (refl, largest_none c.args.low c.args.values.now c.args.s))
 
-slot-largest-requires : tie.Need-slot-largest-requires invariant-loop decreases-loop
-slot-largest-requires c κs = c.before.before.requires c.before.loop.c (omega arith)
+slot-largest-requires : tie.Need-slot_largest-requires invariant-loop decreases-loop
+slot-largest-requires c κs = c.before.before.requires c.before.loop-c.c (omega arith)
 
-loop-again : tie.Need-loop-preserved invariant-loop decreases-loop
+loop-again : tie.Need-loop-c-preserved invariant-loop decreases-loop
 loop-again c =
     let s = c.before.before.before.before in
-    let l = c.before.before.before.loop in
-    (omega arith, (refl, c.larger.ensures ∙ ap₂ max l.invariant.1.1 c.before.slot-largest.ensures ∙ largest_more s.args.low s.args.values.now s.args.s l.c))
+    let l = c.before.before.before.loop-c in
+    (omega arith, (refl, c.larger-largest.ensures ∙ ap₂ max l.invariant.1.1 c.before.slot_largest.ensures ∙ largest_more s.args.low s.args.values.now s.args.s l.c))
 
 returns : tie.Need-returns invariant-loop decreases-loop
 returns c =
-    let e : c.before.loop.c ≡ c.before.before.args.s.slots = omega arith in
-    rw e at c.before.loop.invariant.1.1
+    let e : c.before.loop-c.c ≡ c.before.before.args.s.slots = omega arith in
+    rw e at c.before.loop-c.invariant.1.1
 
-pub largest-on-spec : {M : Type 1} → statement M
-largest-on-spec =
+pub largest_on_spec : {M : Type 1} → statement M
+largest_on_spec =
     tie.close
     (tie.spec
     invariant-loop

@@ -7,16 +7,16 @@ use borrow.Author.Rules.{rules}
 use Rattle.plot.proofs.put_slot.Statement.{statement}
 use Rattle.plot.proofs.put_slot.Tie as tie
 
-add-put-slot-label : tie.Need-overflow-add-put-slot-label
+add-put-slot-label : tie.Need-overflow_add-foot_line
 unfolding foot_line
-add-put-slot-label c = record { fits = omega (arith, c.foot-line.ensures, c.before.before.before.before.before.before.before.requires.0.1.high) }
+add-put-slot-label c = record { fits = omega (arith, c.foot_line.ensures, c.before.before.before.before.before.before.before.requires.0.1.high) }
 
 returns : tie.Need-returns
 unfolding slot
-returns c = put_append c.before.before.before.before.before.before.before.put-slot-bars.ensures (rw c.before.before.before.foot-line.ensures at c.before.before.put-slot-label.ensures)
+returns c = put_append c.before.before.before.before.before.before.before.put_slot_bars-end.ensures (rw c.before.before.before.foot_line.ensures at c.before.before.put_slot_label.ensures)
 
-pub put-slot-spec : {M : Type 1} → statement M
-put-slot-spec =
+pub put_slot_spec : {M : Type 1} → statement M
+put_slot_spec =
     tie.close
     (tie.spec
     (λ c. search rules)

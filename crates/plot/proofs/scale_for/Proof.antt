@@ -8,18 +8,18 @@ use borrow.Author.Rules.{rules}
 use Rattle.plot.proofs.scale_for.Statement.{statement}
 use Rattle.plot.proofs.scale_for.Tie as tie
 
-scale-of-requires : tie.Need-scale-of-requires
+scale-of-requires : tie.Need-scale_of-requires
 scale-of-requires c κs =
     let s = c.before.before in
     let values = s.args.values.now in
-    (s.requires.0, (rw c.before.largest-on.ensures (largest_most false values s.args.s s.args.s.slots s.requires.1), rw c.largest-on2.ensures (largest_most true values s.args.s s.args.s.slots s.requires.1)))
+    (s.requires.0, (rw c.before.largest_on-high.ensures (largest_most false values s.args.s s.args.s.slots s.requires.1), rw c.largest_on-low.ensures (largest_most true values s.args.s s.args.s.slots s.requires.1)))
 
 returns : tie.Need-returns
 unfolding scale_for
-returns c = c.scale_of.ensures ∙ ap₂ (scale_of c.before.before.before.args.one) c.before.before.largest-on.ensures c.before.largest-on2.ensures
+returns c = c.scale_of.ensures ∙ ap₂ (scale_of c.before.before.before.args.one) c.before.before.largest_on-high.ensures c.before.largest_on-low.ensures
 
-pub scale-for-spec : {M : Type 1} → statement M
-scale-for-spec =
+pub scale_for_spec : {M : Type 1} → statement M
+scale_for_spec =
     tie.close
     (tie.spec
     (λ c κs. search rules)

@@ -10,29 +10,29 @@ use Rattle.plot.specs.Plot.{first_bar, second_bar, slot_largest}
 use Rattle.plot.proofs.slot_largest.Statement.{statement}
 use Rattle.plot.proofs.slot_largest.Tie as tie
 
-shared-slice-copy-out-side-of-2 : tie.Need-shared-slice-copy-out-side-of-2
-shared-slice-copy-out-side-of-2 c = c.before.before.before.before.before.before.requires.second_inside c.if1.true
+shared-slice-copy-out-side-of-2 : tie.Need-bounds-values-p-then-s-eq2
+shared-slice-copy-out-side-of-2 c = c.before.before.before.before.before.before.requires.second_inside c.if-s-eq2.true
 
-returns : tie.Need-returns
+returns : tie.Need-returns-then-s-eq2
 unfolding slot_largest
 returns c =
     let s = c.before.before.before.before.before.before.before.before.before in
     let values = s.args.values.now in
-    let kept = to_z-of_z {w = w64} {z = first_bar values s.args.s s.args.c} (sfits_of c.before.before.before.before.before.before.side-of-arg.given) in
-    let kept2 = to_z-of_z {w = w64} {z = second_bar values s.args.s s.args.c} (sfits_of c.before.before.side-of-arg2.given) in
-    rw (eq-eqb s.args.s.bars 2 c.before.before.before.if1.true)
-    (c.larger.ensures ∙ ap₂ max (c.before.before.before.before.before.side-of.ensures ∙ ap (side_of s.args.low) kept) (c.before.side-of2.ensures ∙ ap (side_of s.args.low) kept2))
+    let kept = to_z-of_z {w = w64} {z = first_bar values s.args.s s.args.c} (sfits_of c.before.before.before.before.before.before.side_of-arg-1.given) in
+    let kept2 = to_z-of_z {w = w64} {z = second_bar values s.args.s s.args.c} (sfits_of c.before.before.side_of-arg-then-s-eq2-1.given) in
+    rw (eq-eqb s.args.s.bars 2 c.before.before.before.if-s-eq2.true)
+    (c.larger.ensures ∙ ap₂ max (c.before.before.before.before.before.side_of-first.ensures ∙ ap (side_of s.args.low) kept) (c.before.side_of.ensures ∙ ap (side_of s.args.low) kept2))
 
-returns-2 : tie.Need-returns-2
+returns-2 : tie.Need-returns-else-s-eq2
 unfolding slot_largest
 returns-2 c =
     let s = c.before.before.before.before.before.before in
     let values = s.args.values.now in
-    let kept = to_z-of_z {w = w64} {z = first_bar values s.args.s s.args.c} (sfits_of c.before.before.before.side-of-arg.given) in
-    rw (ne_eqb s.args.s.bars 2 c.if1.false) (c.before.before.side-of.ensures ∙ ap (side_of s.args.low) kept)
+    let kept = to_z-of_z {w = w64} {z = first_bar values s.args.s s.args.c} (sfits_of c.before.before.before.side_of-arg-1.given) in
+    rw (ne_eqb s.args.s.bars 2 c.if-s-eq2.false) (c.before.before.side_of-first.ensures ∙ ap (side_of s.args.low) kept)
 
-pub slot-largest-spec : {M : Type 1} → statement M
-slot-largest-spec =
+pub slot_largest_spec : {M : Type 1} → statement M
+slot_largest_spec =
     tie.close
     (tie.spec
     (λ c. search rules)

@@ -10,32 +10,32 @@ use Rattle.positions.proofs.Sizes.{answer_most, factors_small}
 use Rattle.positions.proofs.put_position.Statement.{statement}
 use Rattle.positions.proofs.put_position.Tie as tie
 
-separate-requires : tie.Need-separate-requires
+separate-requires : tie.Need-separate-found-requires
 separate-requires c κs = search rules
 
-add-put-factors : tie.Need-overflow-add-put-factors
+add-put-factors : tie.Need-overflow_add-k
 add-put-factors c = search rules
 
 -- the square
 abbrev square : tie.Start → List (List ℤ)
 square s = cut_of s.args.rows.now s.args.first s.args.k
 
-put-factors-requires : tie.Need-put-factors-requires
+put-factors-requires : tie.Need-put_factors-requires
 put-factors-requires c κs =
-    let found = c.before.before.before.before.separate in
-    let s = c.before.before.before.before.before in
+    let found = c.before.before.before.separate-found in
+    let s = c.before.before.before.before in
     let q = square s in
     let both = factors_small q s.args.k in
     ((omega arith, omega arith), rw (found.ensures.0, found.ensures.1) (omega (arith, answer_most q s.args.k), (λ i. omega (arith, both.0 i, both.1 i), λ i. omega (arith, both.0 i, both.1 i))))
 
-same_length : tie.Need-same-length
+same_length : tie.Need-shape_of-out
 same_length c = search rules
 
 returns : tie.Need-returns
 unfolding separation_entries
 returns c =
-    let found = c.before.before.before.before.before.before.separate in
-    (c.before.put-factors.ensures.0, rw (found.ensures.0, found.ensures.1) at c.before.put-factors.ensures.1)
+    let found = c.before.before.before.before.before.separate-found in
+    (c.before.put_factors.ensures.0, rw (found.ensures.0, found.ensures.1) at c.before.put_factors.ensures.1)
 
-pub put-position-spec : {M : Type 1} → statement M
-put-position-spec = tie.close (tie.spec separate-requires add-put-factors put-factors-requires same_length returns)
+pub put_position_spec : {M : Type 1} → statement M
+put_position_spec = tie.close (tie.spec separate-requires add-put-factors put-factors-requires same_length returns)

@@ -6,24 +6,24 @@ use borrow.Author.Rules.{rules}
 use Rattle.printing.proofs.put_first.Statement.{statement}
 use Rattle.printing.proofs.put_first.Tie as tie
 
-slice-aggregate-write-all : tie.Need-slice-aggregate-write-all
+slice-aggregate-write-all : tie.Need-slice_bounds-write_all-end
 slice-aggregate-write-all c =
-    let s = c.before.before.before in
+    let s = c.before.before in
     sym (length-take-le s.args.n s.args.text.now (omega arith))
 
-write-all-requires : tie.Need-write-all-requires
+write-all-requires : tie.Need-write_all-requires
 write-all-requires c κs = search rules
 
-write-all-requires-2 : tie.Need-write-all-requires-2
+write-all-requires-2 : tie.Need-write_all-requires-else-n-text
 write-all-requires-2 c κs = search rules
 
-returns : tie.Need-returns
+returns : tie.Need-returns-then-n-text
 returns c = search rules
 
-returns-2 : tie.Need-returns-2
+returns-2 : tie.Need-returns-else-n-text
 returns-2 c = search rules
 
-pub put-first-spec : {M : Type 1} → statement M
-put-first-spec =
+pub put_first_spec : {M : Type 1} → statement M
+put_first_spec =
     tie.close
     (tie.spec slice-aggregate-write-all write-all-requires write-all-requires-2 returns returns-2)

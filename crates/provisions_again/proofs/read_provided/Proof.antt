@@ -4,7 +4,7 @@ use mathlib.Core.Path.{refl}
 use Rattle.provisions_again.proofs.read_provided.Statement.{statement}
 use Rattle.provisions_again.proofs.read_provided.Tie as tie
 
-read-again-requires : tie.Need-read-again-requires
+read-again-requires : tie.Need-read_again-weight-requires
 read-again-requires c κs =
     let s = c.before.before.before.before.before.before.before.before in
     let held = s.requires.1 in
@@ -12,8 +12,8 @@ read-again-requires c κs =
 
 returns : tie.Need-returns
 returns c =
-    let read = c.before.before.before.before.before.read_again.ensures in
-    (read.0, (read.1.0, (read.1.1.0, (read.1.1.1.0, (read.1.1.1.1.0, c.fill-provisions.ensures)))))
+    let read = c.before.before.before.before.read_again-weight.ensures in
+    (read.0, (read.1.0, (read.1.1.0, (read.1.1.1.0, (read.1.1.1.1.0, c.fill_provisions.ensures)))))
 
-pub read-provided-spec : {M : Type 1} → statement M
-read-provided-spec = tie.close (tie.spec read-again-requires (λ c κs. search rules) returns)
+pub read_provided_spec : {M : Type 1} → statement M
+read_provided_spec = tie.close (tie.spec read-again-requires (λ c κs. search rules) returns)

@@ -26,14 +26,14 @@ zero-over-zero : div binary64 (of_bits binary64 0) (of_bits binary64 0) ≡ nan
 unfolding div of_bits
 zero-over-zero = refl
 
-returns : tie.Need-returns
-returns c = zero-over-zero ∙ above c.before.args.bits c.if1.true
+returns : tie.Need-returns-then-bits-gt9218868437227405312
+returns c = zero-over-zero ∙ above c.before.args.bits c.if-bits-gt9218868437227405312.true
 
-float-from-bits-result : tie.Need-float-from-bits-result
-float-from-bits-result c = below c.before.args.bits c.if1.false
+float-from-bits-result : tie.Need-float_from_bits-result
+float-from-bits-result c = below c.before.args.bits c.if-bits-gt9218868437227405312.false
 
-returns-2 : tie.Need-returns-2
+returns-2 : tie.Need-returns
 returns-2 c = search rules
 
-pub float-of-spec : {M : Type 1} → statement M
-float-of-spec = tie.close (tie.spec returns float-from-bits-result returns-2)
+pub float_of_spec : {M : Type 1} → statement M
+float_of_spec = tie.close (tie.spec returns float-from-bits-result returns-2)

@@ -5,11 +5,11 @@ use borrow.Author.Rules.{rules}
 use Rattle.rate_text.proofs.is_rate.Statement.{statement}
 use Rattle.rate_text.proofs.is_rate.Tie as tie
 
-pub is-rate-spec : {M : Type 1} → statement M
-is-rate-spec =
+pub is_rate_spec : {M : Type 1} → statement M
+is_rate_spec =
     tie.close
     (tie.spec
     (λ c κs. search rules)
-    (λ c. rate_bits _ (sym c.before.is-bits.ensures ∙ c.if1.true))
+    (λ c. rate_bits _ (sym c.before.is_bits.ensures ∙ c.if-is_bits.true))
     (λ c κs. search rules)
-    (λ c. c.is-decimal.ensures ∙ rate_decimal _ (sym c.before.before.is-bits.ensures ∙ c.before.if1.false)))
+    (λ c. c.is_decimal.ensures ∙ rate_decimal _ (sym c.before.before.is_bits.ensures ∙ c.before.if-is_bits.false)))

@@ -6,30 +6,30 @@ use borrow.Author.Rules.{rules}
 use Rattle.rate_text.proofs.rate_of.Statement.{statement}
 use Rattle.rate_text.proofs.rate_of.Tie as tie
 
-bits-of-requires : tie.Need-bits-of-requires
-bits-of-requires c κs = sym c.before.is-bits.ensures ∙ c.if1.true
+bits-of-requires : tie.Need-bits_of-requires
+bits-of-requires c κs = sym c.before.is_bits.ensures ∙ c.if-is_bits.true
 
-returns : tie.Need-returns
+returns : tie.Need-returns-then-is_bits
 returns c =
     c.float_of.ensures
     ∙ ap (of_bits binary64) c.before.bits_of.ensures
-    ∙ bits_value _ (sym c.before.before.before.is-bits.ensures ∙ c.before.before.if1.true)
+    ∙ bits_value _ (sym c.before.before.before.is_bits.ensures ∙ c.before.before.if-is_bits.true)
 
-decimal-of-requires : tie.Need-decimal-of-requires
-decimal-of-requires c κs = sym c.before.is-decimal.ensures ∙ c.if2.true
+decimal-of-requires : tie.Need-decimal_of-requires
+decimal-of-requires c κs = sym c.before.is_decimal.ensures ∙ c.if-is_decimal.true
 
-returns-2 : tie.Need-returns-2
+returns-2 : tie.Need-returns-then-is_decimal
 returns-2 c =
     let d = c.before in
-    c.decimal-of.ensures ∙ decimal_value _ (sym d.before.before.before.is-bits.ensures ∙ d.before.before.if1.false) (sym d.before.is-decimal.ensures ∙ d.if2.true)
+    c.decimal_of.ensures ∙ decimal_value _ (sym d.before.before.before.is_bits.ensures ∙ d.before.before.if-is_bits.false) (sym d.before.is_decimal.ensures ∙ d.if-is_decimal.true)
 
-returns-3 : tie.Need-returns-3
+returns-3 : tie.Need-returns
 returns-3 c =
     let d = c.before in
-    c.float-of2.ensures ∙ no_rate _ (sym d.before.before.before.is-bits.ensures ∙ d.before.before.if1.false) (sym d.before.is-decimal.ensures ∙ d.if2.false)
+    c.float_of-2.ensures ∙ no_rate _ (sym d.before.before.before.is_bits.ensures ∙ d.before.before.if-is_bits.false) (sym d.before.is_decimal.ensures ∙ d.if-is_decimal.false)
 
-pub rate-of-spec : {M : Type 1} → statement M
-rate-of-spec =
+pub rate_of_spec : {M : Type 1} → statement M
+rate_of_spec =
     tie.close
     (tie.spec
     (λ c κs. search rules)

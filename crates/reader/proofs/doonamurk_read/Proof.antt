@@ -1,7 +1,7 @@
 -- Questions 1 and 2, then 3, then 4 and 5: the first that says no gives the answer (first_answer, later_answer). Assumes nothing.
 use borrow.Author.Rules.{rules}
 use native.Mathlib.Omega.{arith}
-use borrow.Author.Tests.{leb-true, not-true, not-false}
+use borrow.Author.Tests.{leb-true}
 use mathlib.Core.Path.{◌≡◌, refl, sym, ap, ◌∙◌}
 use mathlib.Core.Bool.{true, false}
 use mathlib.Core.List.{List, ◌∷◌}
@@ -53,48 +53,48 @@ module _ (s : List ℕ) (out : List ℤ) where
   unfolding has_room
   roomy e = leb-true (field_count (last_year_of s)) (length out) e
 
-yes-opened : (c : tie.Else1) → first_no (opening_questions c.before.before.before.args.packed.now) ≡ 0
-yes-opened c = sym c.before.opens.ensures ∙ c.if1.false
+yes-opened : (c : tie.Else-answer-ne-ACCEPTED) → first_no (opening_questions c.before.before.before.args.packed.now) ≡ 0
+yes-opened c = sym c.before.opens-answer.ensures ∙ c.if-answer-ne-ACCEPTED.false
 
-yes-room : (c : tie.Else2) → has_room c.before.before.before.before.before.args.packed.now (length c.before.before.before.before.before.args.list.now) ≡ true
-yes-room c = sym c.before.has_room.ensures ∙ not-false c.before.has_room.result c.if2.false
+yes-room : (c : tie.Else-not-has_room) → has_room c.before.before.before.before.before.args.packed.now (length c.before.before.before.before.before.args.list.now) ≡ true
+yes-room c = sym c.before.has_room.ensures ∙ c.if-not-has_room.false
 
-opens-requires : tie.Need-opens-requires
+opens-requires : tie.Need-opens-answer-requires
 opens-requires c κs = search rules
 
-returns : tie.Need-returns
+returns : tie.Need-returns-then-answer-ne-ACCEPTED
 returns c =
     let s = c.before.before.before.args.packed.now in
     let out = c.before.before.before.args.list.now in
-    let e = c.before.opens.ensures in
-    refused s out c.before.opens.result c.if1.true (e ∙ not_opened s out (λ z. c.if1.true (e ∙ z)))
+    let e = c.before.opens-answer.ensures in
+    refused s out c.before.opens-answer.result c.if-answer-ne-ACCEPTED.true (e ∙ not_opened s out (λ z. c.if-answer-ne-ACCEPTED.true (e ∙ z)))
 
-has-room-requires : tie.Need-has-room-requires
+has-room-requires : tie.Need-has_room-requires
 has-room-requires c κs =
     let s = c.before.before.before.args.packed.now in
     (years_known_lem s (opening_yes s (yes-opened c)).0).0
 
-returns-2 : tie.Need-returns-2
+returns-2 : tie.Need-returns-then-not-has_room
 returns-2 c =
     let s = c.before.before.before.before.before.args.packed.now in
     let out = c.before.before.before.before.before.args.list.now in
-    let no = sym c.before.has_room.ensures ∙ not-true c.before.has_room.result c.if2.true in
+    let no = sym c.before.has_room.ensures ∙ c.if-not-has_room.true in
     refused s out 3 (λ z. absurd (omega arith)) (no_room s out (yes-opened c.before.before) no)
 
-read-into-requires : tie.Need-read-into-requires
+read-into-requires : tie.Need-read_into-requires
 read-into-requires c κs =
     (yes-opened c.before.before.before, roomy c.before.before.before.before.before.before.args.packed.now c.before.before.before.before.before.before.args.list.now (yes-room c.before))
 
-same_length : tie.Need-same-length
+same_length : tie.Need-shape_of-list
 same_length c = search rules
 
-returns-3 : tie.Need-returns-3
+returns-3 : tie.Need-returns
 returns-3 c =
     let s = c.before.before.before.before.before.before.before.before.args.packed.now in
     let out = c.before.before.before.before.before.before.before.before.args.list.now in
-    asked s out c.before.read-into.ensures.0 c.before.read-into.ensures.1 (room s out (yes-opened c.before.before.before.before.before) (yes-room c.before.before.before))
+    asked s out c.before.read_into.ensures.0 c.before.read_into.ensures.1 (room s out (yes-opened c.before.before.before.before.before) (yes-room c.before.before.before))
 
-pub doonamurk-read-spec : {M : Type 1} → statement M
-doonamurk-read-spec =
+pub doonamurk_read_spec : {M : Type 1} → statement M
+doonamurk_read_spec =
     tie.close
     (tie.spec opens-requires returns has-room-requires returns-2 read-into-requires same_length returns-3)

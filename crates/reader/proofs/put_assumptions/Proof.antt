@@ -23,26 +23,26 @@ five-runs l at a b e y z {p} {q} {r} {t} i j k m =
     ∙ sets_append b (y ∷ rest) (sets l at a) p q j
     ∙ sets_append a (b ++ (y ∷ rest)) l at p i)
 
-add-n : tie.Need-overflow-add-n
+add-n : tie.Need-overflow_add-n
 add-n c = search rules
 
-put-naturals-requires : tie.Need-put-naturals-requires
+put-naturals-requires : tie.Need-put_naturals-a-requires
 put-naturals-requires c κs = (search rules, (search rules, λ i h. c.before.before.requires.1.0 i))
 
-put-naturals-requires-2 : tie.Need-put-naturals-requires-2
+put-naturals-requires-2 : tie.Need-put_naturals-b-requires
 put-naturals-requires-2 c κs = (search rules, (search rules, λ i h. c.before.before.before.before.before.before.requires.1.1.0 i))
 
-put-natural-requires : tie.Need-put-natural-requires
+put-natural-requires : tie.Need-put_natural-c-requires
 put-natural-requires c κs = search rules
 
-put-naturals-requires-3 : tie.Need-put-naturals-requires-3
+put-naturals-requires-3 : tie.Need-put_naturals-d-requires
 put-naturals-requires-3 c κs =
     (search rules, (search rules, λ i h. c.before.before.before.before.before.before.before.before.before.before.before.before.before.requires.1.1.1.1.0 i))
 
-put-natural-requires-2 : tie.Need-put-natural-requires-2
+put-natural-requires-2 : tie.Need-put_natural-requires
 put-natural-requires-2 c κs = search rules
 
-same_length : tie.Need-same-length
+same_length : tie.Need-shape_of-list
 same_length c = search rules
 
 returns : tie.Need-returns
@@ -58,22 +58,22 @@ returns c =
     let e = map pos (take n s.indices.now) in
     let b = map pos (take n s.reporting.now) in
     let u = map pos (take n s.ulae.now) in
-    let se : length e ≡ n = length_naturals n s.indices.now (omega (arith, after-indices.before.put-naturals-arg2.given.0, start.requires.0)) in
-    let sb : length b ≡ n = length_naturals n s.reporting.now (omega (arith, after-reporting.before.put-naturals-arg4.given.0, start.requires.0)) in
-    let su : length u ≡ n = length_naturals n s.ulae.now (omega (arith, after-ulae.before.put-naturals-arg6.given.0, start.requires.0)) in
+    let se : length e ≡ n = length_naturals n s.indices.now (omega (arith, after-indices.before.put_naturals-arg-2-1.given, start.requires.0)) in
+    let sb : length b ≡ n = length_naturals n s.reporting.now (omega (arith, after-reporting.before.put_naturals-arg-4-1.given, start.requires.0)) in
+    let su : length u ≡ n = length_naturals n s.ulae.now (omega (arith, after-ulae.before.put_naturals-arg-6-1.given, start.requires.0)) in
     rw (
-      c.before.put-natural2.ensures.1,
-      after-ulae.put-naturals3.ensures.1,
-      after-weight.put-natural.ensures.1,
-      after-reporting.put-naturals2.ensures.1,
-      after-indices.put-naturals.ensures.1,
+      c.before.put_natural.ensures.1,
+      after-ulae.put_naturals-d.ensures.1,
+      after-weight.put_natural-c.ensures.1,
+      after-reporting.put_naturals-b.ensures.1,
+      after-indices.put_naturals-a.ensures.1,
     )
-    (five-runs s.list.now s.at e b u (pos s.weight) (pos s.tail) (omega (arith, after-indices.put-naturals.ensures.0))
-    (omega (arith, after-reporting.put-naturals2.ensures.0)) (omega (arith, after-weight.put-natural.ensures.0))
-    (omega (arith, after-ulae.put-naturals3.ensures.0, after-weight.put-natural.ensures.0)))
+    (five-runs s.list-1.now s.at e b u (pos s.weight) (pos s.tail) (omega (arith, after-indices.put_naturals-a.ensures.0))
+    (omega (arith, after-reporting.put_naturals-b.ensures.0)) (omega (arith, after-weight.put_natural-c.ensures.0))
+    (omega (arith, after-ulae.put_naturals-d.ensures.0, after-weight.put_natural-c.ensures.0)))
 
-pub put-assumptions-spec : {M : Type 1} → statement M
-put-assumptions-spec =
+pub put_assumptions_spec : {M : Type 1} → statement M
+put_assumptions_spec =
     tie.close
     (tie.spec
     add-n

@@ -10,24 +10,24 @@ use Rattle.reading.proofs.AmountsRead.{amount_plus, amount_minus}
 use Rattle.reading.proofs.amount.Statement.{statement}
 use Rattle.reading.proofs.amount.Tie as tie
 
-cast-result : tie.Need-overflow-cast-result
+cast-result : tie.Need-overflow_cast-result
 cast-result c = search rules
 
-cast-result-2 : tie.Need-overflow-cast-result-2
+cast-result-2 : tie.Need-overflow_cast-result-else-code-lt-SIGN
 cast-result-2 c = search rules
 
-sub-result : tie.Need-overflow-sub-result
+sub-result : tie.Need-overflow_sub-result-else-code-lt-SIGN
 sub-result c = minus_fits (c.before.args.code - 2 ^ 34) (omega arith)
 
-returns : tie.Need-returns
+returns : tie.Need-returns-then-code-lt-SIGN
 returns c =
     let code = c.before.args.code in
-    to_z_pos w64 code (omega arith) ∙ sym (amount_plus code c.if1.true)
+    to_z_pos w64 code (omega arith) ∙ sym (amount_plus code c.if-code-lt-SIGN.true)
 
-returns-2 : tie.Need-returns-2
+returns-2 : tie.Need-returns-else-code-lt-SIGN
 returns-2 c =
     let code = c.before.args.code in
-    minus (code - 2 ^ 34) (omega arith) ∙ sym (amount_minus code c.if1.false c.before.requires)
+    minus (code - 2 ^ 34) (omega arith) ∙ sym (amount_minus code c.if-code-lt-SIGN.false c.before.requires)
 
-pub amount-spec : {M : Type 1} → statement M
-amount-spec = tie.close (tie.spec cast-result cast-result-2 sub-result returns returns-2)
+pub amount_spec : {M : Type 1} → statement M
+amount_spec = tie.close (tie.spec cast-result cast-result-2 sub-result returns returns-2)

@@ -1,6 +1,5 @@
 -- The loop's invariant: the first i increments are in range and stored; the first that is not ends them (Filling). Assumes nothing.
 use borrow.Author.Rules.{rules, sfits_of}
-use borrow.Author.Tests.{not-true, not-false}
 use mathlib.Core.Path.{◌≡◌, refl, sym, ap, ◌∙◌}
 use mathlib.Core.Bool.{true, false}
 use mathlib.Core.List.{List, map}
@@ -22,11 +21,11 @@ use Rattle.laws.proofs.Lists.{every_next, fails_at}
 use Rattle.reading.proofs.fill_increments.Statement.{statement}
 use Rattle.reading.proofs.fill_increments.Tie as tie
 
-abbrev invariant-loop : tie.invariant-loop
+abbrev invariant-loop : tie.invariant-loop-i
 invariant-loop s at n amounts₀ i₀ amounts i =
     (i ≤ n) × (amounts ≡ sets amounts₀ 0 (map (value_of increment) (row_at s at 35 i))) × (every (bits_in_range increment) (row_at s at 35 i) ≡ true)
 
-abbrev decreases-loop : tie.decreases-loop
+abbrev decreases-loop : tie.decreases-loop-i
 decreases-loop s at n amounts₀ i₀ amounts i = n - i
 
 module _ (s : List ℕ) (at : ℕ) (amounts : List ℤ) (i x : ℕ) (e : x ≡ field_at s (at + 35 * i) 35) (h : every (bits_in_range increment) (row_at s at 35 i) ≡ true) where
@@ -58,65 +57,65 @@ whole_row s at n amounts amounts' i e r h =
     let all = rw e at h in
     (sym all, rw (passing_all (bits_in_range increment) (row_at s at 35 n) all) (rw e at r))
 
-loop-holds : tie.Need-loop-init invariant-loop decreases-loop
+loop-holds : tie.Need-loop-i-init invariant-loop decreases-loop
 unfolding row_at up_to every
 loop-holds c = (omega arith, refl, refl)
 
-mul-field : tie.Need-overflow-mul-field invariant-loop decreases-loop
+mul-field : tie.Need-overflow_mul-i invariant-loop decreases-loop
 mul-field c = search rules
 
-add-field : tie.Need-overflow-add-field invariant-loop decreases-loop
+add-field : tie.Need-overflow_add-at invariant-loop decreases-loop
 add-field c = search rules
 
-field-requires : tie.Need-field-requires invariant-loop decreases-loop
+field-requires : tie.Need-field-code-requires invariant-loop decreases-loop
 field-requires c κs = search rules
 
 sound-requires : tie.Need-sound-requires invariant-loop decreases-loop
 sound-requires c κs =
     let a = c.before.before.before.before.args in
-    rw c.field.ensures (field_lt a.s.now (a.at + 35 * c.before.before.loop.i) 35)
+    rw c.field-code.ensures (field_lt a.s.now (a.at + 35 * c.before.before.loop-i.i) 35)
 
-returns : tie.Need-returns invariant-loop decreases-loop
+returns : tie.Need-returns-then-not-sound invariant-loop decreases-loop
 returns c =
     let a = c.before.before.before.before.before.before.args in
-    let l = c.before.before.before.before.loop in
-    let no = sym c.before.sound.ensures ∙ not-true c.before.sound.result c.if1.true in
-    outside a.s.now a.at a.amounts.now l.i c.before.before.field.result c.before.before.field.ensures l.invariant.2 a.n l.amounts (omega arith) l.invariant.1 no
+    let l = c.before.before.before.before.loop-i in
+    let no = sym c.before.sound.ensures ∙ c.if-not-sound.true in
+    outside a.s.now a.at a.amounts.now l.i c.before.before.field-code.result c.before.before.field-code.ensures l.invariant.2 a.n l.amounts (omega arith) l.invariant.1 no
 
 amount-requires : tie.Need-amount-requires invariant-loop decreases-loop
 amount-requires c κs =
     let a = c.before.before.before.before.before.before.args in
-    rw c.before.before.field.ensures (field_lt a.s.now (a.at + 35 * c.before.before.before.before.loop.i) 35)
+    rw c.before.before.field-code.ensures (field_lt a.s.now (a.at + 35 * c.before.before.before.before.loop-i.i) 35)
 
-mul-t9 : tie.Need-overflow-mul-t9 invariant-loop decreases-loop
+mul-t9 : tie.Need-offset_bounds-amounts-i invariant-loop decreases-loop
 mul-t9 c = search rules
 
-element-set-from-amounts : tie.Need-element-set-from-amounts invariant-loop decreases-loop
+element-set-from-amounts : tie.Need-bounds-amounts-i invariant-loop decreases-loop
 element-set-from-amounts c = search rules
 
-add-i : tie.Need-overflow-add-i invariant-loop decreases-loop
+add-i : tie.Need-overflow_step-i invariant-loop decreases-loop
 add-i c = search rules
 
-loop-less : tie.Need-loop-smaller invariant-loop decreases-loop
+loop-less : tie.Need-loop-i-smaller invariant-loop decreases-loop
 loop-less c = search rules
 
-loop-again : tie.Need-loop-preserved invariant-loop decreases-loop
+loop-again : tie.Need-loop-i-preserved invariant-loop decreases-loop
 loop-again c =
     let a = c.before.before.before.before.before.before.before.args in
-    let l = c.before.before.before.before.before.loop in
-    let ok = sym c.before.before.sound.ensures ∙ not-false c.before.before.sound.result c.before.if1.false in
-    let next = inside a.s.now a.at a.amounts.now l.i c.before.before.before.field.result c.before.before.before.field.ensures l.invariant.2 ok in
-    let kept = to_z-of_z {w = w64} {z = c.amount.result} (sfits_of c.amount.type-inv) in
+    let l = c.before.before.before.before.before.loop-i in
+    let ok = sym c.before.before.sound.ensures ∙ c.before.if-not-sound.false in
+    let next = inside a.s.now a.at a.amounts.now l.i c.before.before.before.field-code.result c.before.before.before.field-code.ensures l.invariant.2 ok in
+    let kept = to_z-of_z {w = w64} {z = c.amount.result} (sfits_of c.amount.type_inv) in
     (omega arith, rw (kept, c.amount.ensures, l.invariant.1) next.0, next.1)
 
-returns-2 : tie.Need-returns-2 invariant-loop decreases-loop
+returns-2 : tie.Need-returns invariant-loop decreases-loop
 returns-2 c =
     let a = c.before.before.before.args in
-    let l = c.before.loop in
+    let l = c.before.loop-i in
     whole_row a.s.now a.at a.n a.amounts.now l.amounts l.i (omega arith) l.invariant.1 l.invariant.2
 
-pub fill-increments-spec : {M : Type 1} → statement M
-fill-increments-spec =
+pub fill_increments_spec : {M : Type 1} → statement M
+fill_increments_spec =
     tie.close
     (tie.spec
     invariant-loop

@@ -9,18 +9,16 @@ returns : tie.Need-returns
 unfolding base_reason
 returns c =
     put_three
-    c.before.before.before.before.before.before.before.before.before.before.before.put-bytes.ensures
-    c.before.before.before.before.before.before.before.put-decimal.ensures
-    c.before.before.put-bytes2.ensures
+    c.before.before.before.before.before.before.before.before.before.before.before.before.put_bytes-a.ensures
+    c.before.before.before.before.before.before.before.before.put_decimal-b.ensures
+    c.before.before.put_bytes.ensures
 
-pub put-base-reason-spec : {M : Type 1} → statement M
-put-base-reason-spec =
+pub put_base_reason_spec : {M : Type 1} → statement M
+put_base_reason_spec =
     tie.close
     (tie.spec
-    (λ c. search rules)
     (λ c κs. search rules)
     (λ c κs. search rules)
-    (λ c. search rules)
     (λ c κs. search rules)
     (λ c. search rules)
     returns)

@@ -9,24 +9,21 @@ returns : tie.Need-returns
 unfolding factor_reason
 returns c =
     put_five
-    c.before.before.before.before.before.before.before.before.before.before.before.before.before.before.before.before.before.before.before.before.put-bytes.ensures
-    c.before.before.before.before.before.before.before.before.before.before.before.before.before.before.before.before.put-decimal.ensures
-    c.before.before.before.before.before.before.before.before.before.before.before.put-bytes2.ensures
-    c.before.before.before.before.before.before.before.put-decimal2.ensures
-    c.before.before.put-bytes3.ensures
+    c.before.before.before.before.before.before.before.before.before.before.before.before.before.before.before.before.before.before.before.before.before.before.put_bytes-a.ensures
+    c.before.before.before.before.before.before.before.before.before.before.before.before.before.before.before.before.before.before.put_decimal-b.ensures
+    c.before.before.before.before.before.before.before.before.before.before.before.before.put_bytes-c.ensures
+    c.before.before.before.before.before.before.before.before.put_decimal-d.ensures
+    c.before.before.put_bytes.ensures
 
-pub put-factor-reason-spec : {M : Type 1} → statement M
-put-factor-reason-spec =
+pub put_factor_reason_spec : {M : Type 1} → statement M
+put_factor_reason_spec =
     tie.close
     (tie.spec
-    (λ c. search rules)
     (λ c κs. search rules)
     (λ c κs. search rules)
-    (λ c. search rules)
     (λ c κs. search rules)
     (λ c. search rules)
     (λ c κs. search rules)
-    (λ c. search rules)
     (λ c κs. search rules)
     (λ c. search rules)
     returns)

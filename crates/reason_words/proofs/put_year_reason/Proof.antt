@@ -9,20 +9,18 @@ returns : tie.Need-returns
 unfolding year_reason
 returns c =
     put_four
-    c.before.before.before.before.before.before.before.before.before.before.before.before.before.before.before.put-bytes.ensures
-    c.before.before.before.before.before.before.before.before.before.before.before.put-bytes2.ensures
-    c.before.before.before.before.before.before.before.put-decimal.ensures
-    c.before.before.put-bytes3.ensures
+    c.before.before.before.before.before.before.before.before.before.before.before.before.before.before.before.before.put_bytes-a.ensures
+    c.before.before.before.before.before.before.before.before.before.before.before.before.put_bytes-b.ensures
+    c.before.before.before.before.before.before.before.before.put_decimal-c.ensures
+    c.before.before.put_bytes.ensures
 
-pub put-year-reason-spec : {M : Type 1} → statement M
-put-year-reason-spec =
+pub put_year_reason_spec : {M : Type 1} → statement M
+put_year_reason_spec =
     tie.close
     (tie.spec
-    (λ c. search rules)
     (λ c κs. search rules)
     (λ c κs. search rules)
     (λ c κs. search rules)
-    (λ c. search rules)
     (λ c κs. search rules)
     (λ c. search rules)
     returns)

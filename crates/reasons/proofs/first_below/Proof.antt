@@ -19,39 +19,39 @@ use Rattle.reasons.proofs.first_below.Tie as tie
 abbrev least : List ℤ → ℕ → Bool
 least totals i = le_z (pos 0) (get_or totals i (pos 0))
 
-abbrev invariant-loop : tie.invariant-loop
+abbrev invariant-loop : tie.invariant-loop-i
 invariant-loop totals k n i₀ i = (i ≤ n) × ((n ≡ k + 1) × (every (least totals) (below i) ≡ true))
 
-abbrev decreases-loop : tie.decreases-loop
+abbrev decreases-loop : tie.decreases-loop-i
 decreases-loop totals k n i₀ i = n - i
 
-loop-holds : tie.Need-loop-init invariant-loop decreases-loop
+loop-holds : tie.Need-loop-i-init invariant-loop decreases-loop
 unfolding up_to every
 loop-holds c = (omega arith, (refl, refl))
 
-returns : tie.Need-returns invariant-loop decreases-loop
+returns : tie.Need-returns-then-totals-i-lt0 invariant-loop decreases-loop
 unfolding first_below
 returns c =
-    let l = c.before.before.before.loop in
+    let l = c.before.before.before.loop-i in
     let s = c.before.before.before.before.args in
-    sym (leading_stop (least s.totals.now) (s.k + 1) l.i (omega arith) l.invariant.1.1 (zero_test_no (get_or s.totals.now l.i (pos 0)) (sfits_of c.before.if12.given) c.if1.true))
+    sym (leading_stop (least s.totals.now) (s.k + 1) l.i (omega arith) l.invariant.1.1 (zero_test_no (get_or s.totals.now l.i (pos 0)) (sfits_of c.before.t9-1.given) c.if-totals-i-lt0.true))
 
-loop-again : tie.Need-loop-preserved invariant-loop decreases-loop
+loop-again : tie.Need-loop-i-preserved invariant-loop decreases-loop
 loop-again c =
-    let l = c.before.before.before.loop in
+    let l = c.before.before.before.loop-i in
     let s = c.before.before.before.before.args in
-    (omega arith, (refl, every_next (least s.totals.now) (λ i. i) l.i l.invariant.1.1 (zero_test_yes (get_or s.totals.now l.i (pos 0)) (sfits_of c.before.if12.given) c.if1.false)))
+    (omega arith, (refl, every_next (least s.totals.now) (λ i. i) l.i l.invariant.1.1 (zero_test_yes (get_or s.totals.now l.i (pos 0)) (sfits_of c.before.t9-1.given) c.if-totals-i-lt0.false)))
 
-returns-2 : tie.Need-returns-2 invariant-loop decreases-loop
+returns-2 : tie.Need-returns invariant-loop decreases-loop
 unfolding first_below
 returns-2 c =
-    let l = c.before.loop in
+    let l = c.before.loop-i in
     let s = c.before.before.args in
     let e : l.i ≡ s.k + 1 = omega arith in
     sym (leading_all (least s.totals.now) (s.k + 1) (rw e at l.invariant.1.1))
 
-pub first-below-spec : {M : Type 1} → statement M
-first-below-spec =
+pub first_below_spec : {M : Type 1} → statement M
+first_below_spec =
     tie.close
     (tie.spec
     invariant-loop

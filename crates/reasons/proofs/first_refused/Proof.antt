@@ -11,7 +11,7 @@ use Rattle.reasons.proofs.first_refused.Tie as tie
 
 returns : tie.Need-returns
 returns c =
-    let ladder = c.before.before.development-factors in
+    let ladder = c.before.before.development_factors in
     let s = c.before.before.before.before in
     let v = s.args.columns.now in
     let k = s.args.k in
@@ -20,8 +20,8 @@ returns c =
     let e : c.first_above.result ≡ first_refused a b k = c.first_above.ensures ∙ first_stored a b k s.requires.0.few s.requires.1 _ ladder.ensures.1 in
     (e, omega (arith, e, refused_below a b k s.requires.1))
 
-pub first-refused-spec : {M : Type 1} → statement M
-first-refused-spec =
+pub first_refused_spec : {M : Type 1} → statement M
+first_refused_spec =
     tie.close
     (tie.spec
     (λ c. search rules)

@@ -12,5 +12,5 @@ returns : tie.Need-returns
 unfolding given_finding
 returns c = rw (to_z_pos w64 (length c.args.packed.now) (omega arith))
 
-pub given-finding-spec : {M : Type 1} → statement M
-given-finding-spec = tie.close (tie.spec (λ c. search rules) returns)
+pub given_finding_spec : {M : Type 1} → statement M
+given_finding_spec = tie.close (tie.spec (λ c. search rules) returns)

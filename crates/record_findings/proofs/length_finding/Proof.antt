@@ -11,14 +11,14 @@ use Rattle.record_findings.proofs.length_finding.Tie as tie
 returns : tie.Need-returns
 unfolding length_finding
 returns c =
-    let due = c.bytes_of.ensures in
+    let due = c.bytes_of-due.ensures in
     rw (
       to_z_pos w64 (length c.before.before.before.args.packed.now) (omega arith),
-      to_z_pos w64 c.bytes_of.result (omega (arith, due.1)),
+      to_z_pos w64 c.bytes_of-due.result (omega (arith, due.1)),
       due.0,
-      c.before.last-year-of.ensures.0,
+      c.before.last_year_of.ensures.0,
     )
 
-pub length-finding-spec : {M : Type 1} → statement M
-length-finding-spec =
+pub length_finding_spec : {M : Type 1} → statement M
+length_finding_spec =
     tie.close (tie.spec (λ c κs. search rules) (λ c κs. search rules) (λ c. search rules) (λ c. search rules) returns)

@@ -12,10 +12,10 @@ use borrow.Author.Rules.{rules}
 use Rattle.record_findings.proofs.sum_at.Statement.{statement}
 use Rattle.record_findings.proofs.sum_at.Tie as tie
 
-abbrev invariant-loop : tie.invariant-loop
+abbrev invariant-loop : tie.invariant-loop-i
 invariant-loop s at n sum₀ i₀ sum i = (i ≤ n) × (sum ≡ total (row_at s at 20 i))
 
-abbrev decreases-loop : tie.decreases-loop
+abbrev decreases-loop : tie.decreases-loop-i
 decreases-loop s at n sum₀ i₀ sum i = n - i
 
 module _ (s : List ℕ) (at : ℕ) where
@@ -31,30 +31,30 @@ module _ (s : List ℕ) (at : ℕ) where
   unfolding row_at
   most i = total_each (λ i. field_at s (at + 20 * i) 20) (2 ^ 20) i (λ j l. omega (arith, field_lt s (at + 20 * j) 20))
 
-loop-holds : tie.Need-loop-init invariant-loop decreases-loop
+loop-holds : tie.Need-loop-i-init invariant-loop decreases-loop
 loop-holds c = (omega arith, none c.before.args.s.now c.before.args.at)
 
-add-sum : tie.Need-overflow-add-sum invariant-loop decreases-loop
+add-sum : tie.Need-overflow_add-sum invariant-loop decreases-loop
 add-sum c =
     let a = c.before.before.before.before.args in
-    let l = c.before.before.loop in
-    omega (arith, l.invariant.1, most a.s.now a.at l.i, c.field.ensures, field_lt a.s.now (a.at + 20 * l.i) 20)
+    let l = c.before.before.loop-i in
+    omega (arith, l.invariant.1, most a.s.now a.at l.i, c.field-sum.ensures, field_lt a.s.now (a.at + 20 * l.i) 20)
 
-loop-again : tie.Need-loop-preserved invariant-loop decreases-loop
+loop-again : tie.Need-loop-i-preserved invariant-loop decreases-loop
 loop-again c =
     let a = c.before.before.before.before.args in
-    let l = c.before.before.loop in
-    (omega arith, omega (arith, l.invariant.1, more a.s.now a.at l.i, c.field.ensures))
+    let l = c.before.before.loop-i in
+    (omega arith, omega (arith, l.invariant.1, more a.s.now a.at l.i, c.field-sum.ensures))
 
 returns : tie.Need-returns invariant-loop decreases-loop
 returns c =
     let a = c.before.before.before.args in
-    let l = c.before.loop in
+    let l = c.before.loop-i in
     let e : l.i ≡ a.n = omega arith in
     (rw e at l.invariant.1, omega (arith, l.invariant.1, most a.s.now a.at l.i))
 
-pub sum-at-spec : {M : Type 1} → statement M
-sum-at-spec =
+pub sum_at_spec : {M : Type 1} → statement M
+sum_at_spec =
     tie.close
     (tie.spec
     invariant-loop

@@ -8,9 +8,14 @@ use Rattle.record_section.proofs.put_digits_text.Tie as tie
 returns : tie.Need-returns
 unfolding digits_text
 returns c =
-    put_three c.before.before.before.before.before.before.before.before.before.before.before.put-bytes.ensures c.before.before.before.before.before.before.before.put-decimal.ensures c.before.before.put-bytes2.ensures
+    put_three c.before.before.before.before.before.before.before.before.before.before.before.before.put_bytes-a.ensures c.before.before.before.before.before.before.before.before.put_decimal-b.ensures c.before.before.put_bytes.ensures
 
-pub put-digits-text-spec : {M : Type 1} → statement M
-put-digits-text-spec =
+pub put_digits_text_spec : {M : Type 1} → statement M
+put_digits_text_spec =
     tie.close
-    (tie.spec (λ c. search rules) (λ c κs. search rules) (λ c κs. search rules) (λ c. search rules) (λ c κs. search rules) (λ c. search rules) returns)
+    (tie.spec
+    (λ c κs. search rules)
+    (λ c κs. search rules)
+    (λ c κs. search rules)
+    (λ c. search rules)
+    returns)

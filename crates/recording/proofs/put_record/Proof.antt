@@ -44,7 +44,7 @@ abbrev start-8 : tie.After-put3 → tie.Start
 start-8 c = start-7 c.before.before.before.before
 
 -- the rows that are packed at the end of each row
-rows-1 : (c : tie.After-put) → FirstRows (from (start-1 c)) 1 (start-1 c).args.buffer.now c.put.new.0 c.put.result
+rows-1 : (c : tie.After-put) → FirstRows (from (start-1 c)) 1 (start-1 c).args.buffer.now c.put.new.out c.put.result
 rows-1 c =
     let s = start-1 c in
     record { long = c.put.auto.0; packed = packed_then (no_rows (from s) s.args.buffer.now s.pre).packed (packed_one c.put.ensures) }

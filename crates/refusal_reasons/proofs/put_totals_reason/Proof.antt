@@ -7,39 +7,36 @@ use borrow.Author.Rules.{rules}
 use Rattle.refusal_reasons.proofs.put_totals_reason.Statement.{statement}
 use Rattle.refusal_reasons.proofs.put_totals_reason.Tie as tie
 
-returns : tie.Need-returns
+returns : tie.Need-returns-then-j-n
 returns c =
-    let j = c.before.before.before.before.before.before.first_below in
-    put_same (column_reason (λ j. get_or c.before.before.before.before.before.before.before.before.args.columns.now j (pos 0)) (λ h. get_or c.before.before.before.before.before.before.before.before.args.diagonals.now h (pos 0)) c.before.before.before.before.before.before.before.before.args.k j.result j.ensures c.before.before.before.before.before.if1.true) c.before.before.put-year-reason.ensures
+    let j = c.before.before.before.before.before.before.before.first_below-j in
+    put_same (column_reason (λ j. get_or c.before.before.before.before.before.before.before.before.before.args.columns.now j (pos 0)) (λ h. get_or c.before.before.before.before.before.before.before.before.before.args.diagonals.now h (pos 0)) c.before.before.before.before.before.before.before.before.before.args.k j.result j.ensures c.before.before.before.before.before.before.if-j-n.true) c.before.before.put_year_reason.ensures
 
-returns-2 : tie.Need-returns-2
+returns-2 : tie.Need-returns-then-h-n
 returns-2 c =
-    let j = c.before.before.before.before.before.before.before.before.first_below in
-    let h = c.before.before.before.before.before.before.first-below2 in
-    put_same (diagonal_reason (λ j. get_or c.before.before.before.before.before.before.before.before.before.before.args.columns.now j (pos 0)) (λ h. get_or c.before.before.before.before.before.before.before.before.before.before.args.diagonals.now h (pos 0)) c.before.before.before.before.before.before.before.before.before.before.args.k j.result h.result j.ensures c.before.before.before.before.before.before.before.if1.false h.ensures c.before.before.before.before.before.if2.true) c.before.before.put-year-reason2.ensures
+    let j = c.before.before.before.before.before.before.before.before.before.first_below-j in
+    let h = c.before.before.before.before.before.before.before.first_below-h in
+    put_same (diagonal_reason (λ j. get_or c.before.before.before.before.before.before.before.before.before.before.before.args.columns.now j (pos 0)) (λ h. get_or c.before.before.before.before.before.before.before.before.before.before.before.args.diagonals.now h (pos 0)) c.before.before.before.before.before.before.before.before.before.before.before.args.k j.result h.result j.ensures c.before.before.before.before.before.before.before.before.if-j-n.false h.ensures c.before.before.before.before.before.before.if-h-n.true) c.before.before.put_year_reason-then-h-n.ensures
 
-returns-3 : tie.Need-returns-3
+returns-3 : tie.Need-returns
 returns-3 c =
-    let j = c.before.before.before.before.before.before.before.before.first_below in
-    let h = c.before.before.before.before.before.before.first-below2 in
-    put_same (sum_reason (λ j. get_or c.before.before.before.before.before.before.before.before.before.before.args.columns.now j (pos 0)) (λ h. get_or c.before.before.before.before.before.before.before.before.before.before.args.diagonals.now h (pos 0)) c.before.before.before.before.before.before.before.before.before.before.args.k j.result h.result j.ensures c.before.before.before.before.before.before.before.if1.false h.ensures c.before.before.before.before.before.if2.false) c.before.before.put-bytes.ensures
+    let j = c.before.before.before.before.before.before.before.before.before.first_below-j in
+    let h = c.before.before.before.before.before.before.before.first_below-h in
+    put_same (sum_reason (λ j. get_or c.before.before.before.before.before.before.before.before.before.before.before.args.columns.now j (pos 0)) (λ h. get_or c.before.before.before.before.before.before.before.before.before.before.before.args.diagonals.now h (pos 0)) c.before.before.before.before.before.before.before.before.before.before.before.args.k j.result h.result j.ensures c.before.before.before.before.before.before.before.before.if-j-n.false h.ensures c.before.before.before.before.before.before.if-h-n.false) c.before.before.put_bytes.ensures
 
-pub put-totals-reason-spec : {M : Type 1} → statement M
-put-totals-reason-spec =
+pub put_totals_reason_spec : {M : Type 1} → statement M
+put_totals_reason_spec =
     tie.close
     (tie.spec
     (λ c. search rules)
     (λ c κs. search rules)
-    (λ c. search rules)
     (λ c κs. search rules)
     (λ c. search rules)
     returns
     (λ c κs. search rules)
-    (λ c. search rules)
     (λ c κs. search rules)
     (λ c. search rules)
     returns-2
-    (λ c. search rules)
     (λ c κs. search rules)
     (λ c. search rules)
     returns-3)

@@ -11,51 +11,51 @@ use borrow.Author.Rules.{rules}
 use Rattle.refusals.proofs.put_reason.Statement.{statement}
 use Rattle.refusals.proofs.put_reason.Tie as tie
 
-read-again-requires : tie.Need-read-again-requires
+read-again-requires : tie.Need-read_again-requires
 read-again-requires c κs =
     let passed = c.before.before.before.before.before.before.before.before.before.requires.0 in
     (passed.0, (passed.1.0, (passed.1.1, (refl, (refl, (refl, (refl, refl)))))))
 
-abbrev start : tie.After-read-again → tie.Start
+abbrev start : tie.After-read_again → tie.Start
 start c = c.before.before.before.before.before.before.before.before.before.before
 
-last-year-of-requires : tie.Need-last-year-of-requires
+last-year-of-requires : tie.Need-last_year_of-k-requires
 last-year-of-requires c κs = let s = start c in (years_known_lem s.args.packed.now (opening_yes s.args.packed.now s.pre.0.0).0).0
 
-year_is : (c : tie.After-last-year-of) → c.last-year-of.result ≡ (figures_of (start c.before).args.packed.now).k
+year_is : (c : tie.After-last_year_of-k) → c.last_year_of-k.result ≡ (figures_of (start c.before).args.packed.now).k
 unfolding figures_of
-year_is c = c.last-year-of.ensures.0
+year_is c = c.last_year_of-k.ensures.0
 
-put-development-reason-requires : tie.Need-put-development-reason-requires
+put-development-reason-requires : tie.Need-put_development_reason-requires
 put-development-reason-requires c κs =
     let then = c.before.before.before in
     let year = then.before in
     let s = start year.before in
     let read = year.before.read_again.ensures in
-    ready (figures_of s.args.packed.now) (s.pre.1 then.if1.true) _ _ _ (year_is year) year.last-year-of.ensures.1 read.1.1.1.1.1.0 read.1.1.1.1.0 s.pre.0.1.1
+    ready (figures_of s.args.packed.now) (s.pre.1 then.if-development.true) _ _ _ (year_is year) year.last_year_of-k.ensures.1 read.1.1.1.1.1.0 read.1.1.1.1.0 s.pre.0.1.1
 
-returns : tie.Need-returns
+returns : tie.Need-returns-then-development
 unfolding development_of
 returns c =
     let then = c.before.before.before.before.before.before in
     let year = then.before in
     let s = start year.before in
     let read = year.before.read_again.ensures in
-    let same = development_is (figures_of s.args.packed.now) (s.pre.1 then.if1.true) _ _ _ (year_is year) year.last-year-of.ensures.1 read.1.1.1.1.1.0 read.1.1.1.1.0 in
-    rw then.if1.true (put_same same c.before.before.put-development-reason.ensures)
+    let same = development_is (figures_of s.args.packed.now) (s.pre.1 then.if-development.true) _ _ _ (year_is year) year.last_year_of-k.ensures.1 read.1.1.1.1.1.0 read.1.1.1.1.0 in
+    rw then.if-development.true (put_same same c.before.before.put_development_reason.ensures)
 
-returns-2 : tie.Need-returns-2
+returns-2 : tie.Need-returns
 unfolding totals_of
 returns-2 c =
     let else = c.before.before.before.before.before.before in
     let year = else.before in
     let s = start year.before in
     let totals = year.before.read_again.ensures.1.1.1.1.1.1 in
-    let same = reason_is (square_of (figures_of s.args.packed.now)) _ _ _ _ (year_is year) year.last-year-of.ensures.1 totals.0 totals.1 in
-    rw else.if1.false (put_same same c.before.before.put-totals-reason.ensures)
+    let same = reason_is (square_of (figures_of s.args.packed.now)) _ _ _ _ (year_is year) year.last_year_of-k.ensures.1 totals.0 totals.1 in
+    rw else.if-development.false (put_same same c.before.before.put_totals_reason.ensures)
 
-pub put-reason-spec : {M : Type 1} → statement M
-put-reason-spec =
+pub put_reason_spec : {M : Type 1} → statement M
+put_reason_spec =
     tie.close
     (tie.spec
     read-again-requires

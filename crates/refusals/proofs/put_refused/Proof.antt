@@ -9,23 +9,20 @@ returns : tie.Need-returns
 unfolding refusal_of
 returns c =
     put_five
-    c.before.before.before.before.before.before.before.before.before.before.before.before.before.before.before.before.before.before.before.before.put-bytes.ensures
-    c.before.before.before.before.before.before.before.before.before.before.before.before.before.before.before.before.put-decimal.ensures
-    c.before.before.before.before.before.before.before.before.before.before.before.put-bytes2.ensures
-    c.before.before.before.before.before.before.before.put-words.ensures
-    c.before.before.put-bytes3.ensures
+    c.before.before.before.before.before.before.before.before.before.before.before.before.before.before.before.before.before.before.before.before.before.before.put_bytes-number.ensures
+    c.before.before.before.before.before.before.before.before.before.before.before.before.before.before.before.before.before.before.put_decimal-colon.ensures
+    c.before.before.before.before.before.before.before.before.before.before.before.before.put_bytes-words.ensures
+    c.before.before.before.before.before.before.before.before.put_words-end.ensures
+    c.before.before.put_bytes.ensures
 
-pub put-refused-spec : {M : Type 1} → statement M
-put-refused-spec =
+pub put_refused_spec : {M : Type 1} → statement M
+put_refused_spec =
     tie.close
     (tie.spec
-    (λ c. search rules)
     (λ c κs. search rules)
     (λ c κs. search rules)
-    (λ c. search rules)
     (λ c κs. search rules)
     (λ c κs. search rules)
-    (λ c. search rules)
     (λ c κs. search rules)
     (λ c. search rules)
     returns)

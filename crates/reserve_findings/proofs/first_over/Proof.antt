@@ -17,45 +17,45 @@ use Rattle.reserve_findings.proofs.first_over.Tie as tie
 abbrev passes : List ℕ → List ℕ → ℕ → Bool
 passes c q i = leb (ultimate c q i) most_ultimate
 
-abbrev invariant-loop : tie.invariant-loop
+abbrev invariant-loop : tie.invariant-loop-i
 invariant-loop k paid provisions n i₀ i = (i ≤ n) × ((n ≡ k + 1) × (every (passes paid provisions) (below i) ≡ true))
 
-abbrev decreases-loop : tie.decreases-loop
+abbrev decreases-loop : tie.decreases-loop-i
 decreases-loop k paid provisions n i₀ i = n - i
 
-loop-holds : tie.Need-loop-init invariant-loop decreases-loop
+loop-holds : tie.Need-loop-i-init invariant-loop decreases-loop
 unfolding up_to every
 loop-holds c = (omega arith, (refl, refl))
 
-add-if1 : tie.Need-overflow-add-if1 invariant-loop decreases-loop
+add-if1 : tie.Need-overflow_add-paid invariant-loop decreases-loop
 add-if1 c =
-    let s = c.before.before.before.before in
-    let i = c.before.before.before.loop.i in
+    let s = c.before.before.before.before.before.before in
+    let i = c.before.before.before.before.before.loop-i.i in
     omega (arith, s.requires.1.0 i, s.requires.1.1 i)
 
-returns : tie.Need-returns invariant-loop decreases-loop
+returns : tie.Need-returns-then-paid-i-gt-MOST_ULTIMATE invariant-loop decreases-loop
 unfolding ultimate
 returns c =
-    let l = c.before.before.before.before.loop in
-    let s = c.before.before.before.before.before.args in
-    sym (leading_stop (passes s.paid.now s.provisions.now) (s.k + 1) l.i (omega arith) l.invariant.1.1 (lt-leb (ultimate s.paid.now s.provisions.now l.i) most_ultimate c.if1.true))
+    let l = c.before.before.before.before.before.before.loop-i in
+    let s = c.before.before.before.before.before.before.before.args in
+    sym (leading_stop (passes s.paid.now s.provisions.now) (s.k + 1) l.i (omega arith) l.invariant.1.1 (lt-leb (ultimate s.paid.now s.provisions.now l.i) most_ultimate c.if-paid-i-gt-MOST_ULTIMATE.true))
 
-loop-again : tie.Need-loop-preserved invariant-loop decreases-loop
+loop-again : tie.Need-loop-i-preserved invariant-loop decreases-loop
 unfolding ultimate
 loop-again c =
-    let l = c.before.before.before.before.loop in
-    let s = c.before.before.before.before.before.args in
-    (omega arith, (refl, every_next (passes s.paid.now s.provisions.now) (λ i. i) l.i l.invariant.1.1 (le-leb (ultimate s.paid.now s.provisions.now l.i) most_ultimate c.if1.false)))
+    let l = c.before.before.before.before.before.before.loop-i in
+    let s = c.before.before.before.before.before.before.before.args in
+    (omega arith, (refl, every_next (passes s.paid.now s.provisions.now) (λ i. i) l.i l.invariant.1.1 (le-leb (ultimate s.paid.now s.provisions.now l.i) most_ultimate c.if-paid-i-gt-MOST_ULTIMATE.false)))
 
-returns-2 : tie.Need-returns-2 invariant-loop decreases-loop
+returns-2 : tie.Need-returns invariant-loop decreases-loop
 returns-2 c =
-    let l = c.before.loop in
+    let l = c.before.loop-i in
     let s = c.before.before.args in
     let e : l.i ≡ s.k + 1 = omega arith in
     sym (leading_all (passes s.paid.now s.provisions.now) (s.k + 1) (rw e at l.invariant.1.1))
 
-pub first-over-spec : {M : Type 1} → statement M
-first-over-spec =
+pub first_over_spec : {M : Type 1} → statement M
+first_over_spec =
     tie.close
     (tie.spec
     invariant-loop

@@ -1,6 +1,5 @@
 -- Each stage leaves the figures' own arrays (Later), and each answer is that of a segment of the questions (first_refused_lem, later). Assumes nothing.
 use borrow.Author.Rules.{rules}
-use borrow.Author.Tests.{not-true, not-false}
 use native.Mathlib.Omega.{arith}
 use mathlib.Core.Path.{◌≡◌, refl, sym, ap, ◌∙◌}
 use mathlib.Core.Bool.{true}
@@ -36,13 +35,13 @@ separated s = s.requires.0
 tailed : (s : tie.Start) → Tailed (F s) s.args.tails.now
 tailed s = s.requires.1.0
 
-mul-fill-levels : tie.Need-overflow-mul-fill-levels
+mul-fill-levels : tie.Need-offset_bounds-levels-k
 mul-fill-levels c = search rules
 
-element-copy-out-fill-levels : tie.Need-element-copy-out-fill-levels
+element-copy-out-fill-levels : tie.Need-bounds-levels-k
 element-copy-out-fill-levels c = search rules
 
-fill-levels-requires : tie.Need-fill-levels-requires
+fill-levels-requires : tie.Need-fill_levels-requires
 fill-levels-requires c κs =
     let s = c.before.before in
     let h = separated s in
@@ -53,7 +52,7 @@ complete-requires c κs =
     let filled = c.before.before.before in
     let s = filled.before.before.before in
     let h = separated s in
-    (stage.completable (F s) _ _ _ _ _ h _ filled.fill-levels.ensures, (stage.tails-fit (F s) _ _ _ _ _ h _ (tailed s), stage.paid-fits (F s) _ _ _ _ _ h))
+    (stage.completable (F s) _ _ _ _ _ h _ filled.fill_levels.ensures, (stage.tails-fit (F s) _ _ _ _ _ h _ (tailed s), stage.paid-fits (F s) _ _ _ _ _ h))
 
 -- question 11
 abbrev start1 : tie.After-complete → tie.Start
@@ -62,42 +61,42 @@ start1 c = c.before.before.before.before.before.before.before
 eleven : (c : tie.After-complete) → c.complete.result ≡ ultimates_pass (F (start1 c)).k (paid_in (F (start1 c))) (provisions_in (F (start1 c)))
 eleven c =
     let filled = c.before.before.before.before in
-    c.complete.ensures.0 ∙ stage.eleven-is (F (start1 c)) _ _ _ _ _ (separated (start1 c)) _ filled.fill-levels.ensures _ (tailed (start1 c))
+    c.complete.ensures.0 ∙ stage.eleven-is (F (start1 c)) _ _ _ _ _ (separated (start1 c)) _ filled.fill_levels.ensures _ (tailed (start1 c))
 
-yes-eleven : (c : tie.Else1) → ultimates_pass (F (start1 c.before)).k (paid_in (F (start1 c.before))) (provisions_in (F (start1 c.before))) ≡ true
-yes-eleven c = sym (eleven c.before) ∙ not-false c.before.complete.result c.if1.false
+yes-eleven : (c : tie.Else-not-complete) → ultimates_pass (F (start1 c.before)).k (paid_in (F (start1 c.before))) (provisions_in (F (start1 c.before))) ≡ true
+yes-eleven c = sym (eleven c.before) ∙ c.if-not-complete.false
 
-returns : tie.Need-returns
+returns : tie.Need-returns-then-not-complete
 unfolding last_questions completion_questions
 returns c =
     let s = start1 c.before in
-    let no = sym (eleven c.before) ∙ not-true c.before.complete.result c.if1.true in
+    let no = sym (eleven c.before) ∙ c.if-not-complete.true in
     first_refused_lem (filled s.args.year (F s) s.args.out.now) s.args.out.now (completion_questions (F s)) _ 11 (one_no 11 _ no) (λ z. omega arith)
 
 -- the provisions are the figures' own
-provisions_are : (c : tie.Else1) → c.before.complete.new.1.1.1.1.1.1.1.0 ≡ provisions_in (F (start1 c.before))
+provisions_are : (c : tie.Else-not-complete) → c.before.complete.new.sums.1.1.1.1.1.1.0 ≡ provisions_in (F (start1 c.before))
 provisions_are c =
     let s = start1 c.before in
-    let filled = c.before.before.before.before.before.fill-levels.ensures in
+    let filled = c.before.before.before.before.before.fill_levels.ensures in
     stage.provisions-are (F s) _ _ _ _ _ (separated s) _ filled _ (tailed s) (yes-eleven c) _ c.before.complete.ensures.1.1
 
-ratio-of-requires : tie.Need-ratio-of-requires
+ratio-of-requires : tie.Need-ratio_of-used-requires
 ratio-of-requires c κs =
     let one = c.before in
     let s = start1 one.before in
     ((separated s).sound.increments, stage.rateable (F s) _ _ _ _ _ (separated s) _ (provisions_are one) (yes-eleven one))
 
 -- questions 12, 15, 16 and 17
-abbrev else1 : tie.After-ratio-of → tie.Else1
+abbrev else1 : tie.After-ratio_of-used → tie.Else-not-complete
 else1 c = c.before.before
 
-abbrev start2 : tie.After-ratio-of → tie.Start
+abbrev start2 : tie.After-ratio_of-used → tie.Start
 start2 c = start1 (else1 c).before
 
-asked : (c : tie.After-ratio-of) → first_no (ratio_questions (F (start2 c)) ++ correction_questions (start2 c).args.year (F (start2 c))) ≡ c.ratio-of.result.answer
-asked c = let s = start2 c in stage.asked_is (F s) _ _ _ _ _ (separated s) _ (provisions_are (else1 c)) s.args.year _ _ c.ratio-of.ensures
+asked : (c : tie.After-ratio_of-used) → first_no (ratio_questions (F (start2 c)) ++ correction_questions (start2 c).args.year (F (start2 c))) ≡ c.ratio_of-used.result.answer
+asked c = let s = start2 c in stage.asked_is (F s) _ _ _ _ _ (separated s) _ (provisions_are (else1 c)) s.args.year _ _ c.ratio_of-used.ensures
 
-returns-2 : tie.Need-returns-2
+returns-2 : tie.Need-returns-then-used-ne-ACCEPTED
 unfolding last_questions completion_questions ratio_questions every
 returns-2 c =
     let at = c.before.before in
@@ -105,37 +104,37 @@ returns-2 c =
     let f = F s in
     let year = s.args.year in
     let out = s.args.out.now in
-    let n = at.ratio-of.result.answer in
+    let n = at.ratio_of-used.result.answer in
     later (filled year f out) out (completion_questions f) _ out n refl (one_yes 11 _ (yes-eleven (else1 at)))
-    (first_refused_lem (filled year f out) out (ratio_questions f ++ correction_questions year f) _ n (asked at) c.if2.true)
+    (first_refused_lem (filled year f out) out (ratio_questions f ++ correction_questions year f) _ n (asked at) c.if-used-ne-ACCEPTED.true)
 
 -- they have said yes
-abbrev used2 : tie.Else2 → tie.After-ratio-of
+abbrev used2 : tie.Else-used-ne-ACCEPTED → tie.After-ratio_of-used
 used2 c = c.before.before
 
-yes_twelve : (c : tie.Else2) →
+yes_twelve : (c : tie.Else-used-ne-ACCEPTED) →
     let f = F (start2 (used2 c)) in
     ratio_pass (paid_total f.k f.increments) (ulae_total f.k f.ulae) ≡ true
 yes_twelve c =
     let at = used2 c in
     let s = start2 at in
-    stage.yes-twelve (F s) _ _ _ _ _ (separated s) _ (provisions_are (else1 at)) s.args.year _ _ at.ratio-of.ensures c.if2.false
+    stage.yes-twelve (F s) _ _ _ _ _ (separated s) _ (provisions_are (else1 at)) s.args.year _ _ at.ratio_of-used.ensures c.if-used-ne-ACCEPTED.false
 
-yes_correction : (c : tie.Else2) → first_no (correction_questions (start2 (used2 c)).args.year (F (start2 (used2 c)))) ≡ 0
+yes_correction : (c : tie.Else-used-ne-ACCEPTED) → first_no (correction_questions (start2 (used2 c)).args.year (F (start2 (used2 c)))) ≡ 0
 yes_correction c =
     let at = used2 c in
     let s = start2 at in
-    stage.yes-correction (F s) _ _ _ _ _ (separated s) _ (provisions_are (else1 at)) s.args.year _ _ at.ratio-of.ensures c.if2.false
+    stage.yes-correction (F s) _ _ _ _ _ (separated s) _ (provisions_are (else1 at)) s.args.year _ _ at.ratio_of-used.ensures c.if-used-ne-ACCEPTED.false
 
 -- the ratio is the one that the year uses
-used_is : (c : tie.Else2) → (used2 c).ratio-of.result.ratio ≡ used_ratio_in (start2 (used2 c)).args.year (F (start2 (used2 c)))
+used_is : (c : tie.Else-used-ne-ACCEPTED) → (used2 c).ratio-of.result.ratio ≡ used_ratio_in (start2 (used2 c)).args.year (F (start2 (used2 c)))
 used_is c =
     let at = used2 c in
     let s = start2 at in
-    stage.used-is (F s) _ _ _ _ _ (separated s) _ (provisions_are (else1 at)) s.args.year _ _ at.ratio-of.ensures c.if2.false
+    stage.used-is (F s) _ _ _ _ _ (separated s) _ (provisions_are (else1 at)) s.args.year _ _ at.ratio_of-used.ensures c.if-used-ne-ACCEPTED.false
 
 -- the questions before 14 have said yes
-before-14 : (c : tie.Else2) (left : List ℤ) (n : ℕ) →
+before-14 : (c : tie.Else-used-ne-ACCEPTED) (left : List ℤ) (n : ℕ) →
     let s = start2 (used2 c) in
     Answers (completed_ladder_questions (F s)) s.args.year (F s) s.args.out.now left n → Answers (last_questions s.args.year (F s)) s.args.year (F s) s.args.out.now left n
 unfolding last_questions completion_questions ratio_questions correction_questions growth_questions every
@@ -156,40 +155,40 @@ complete-requires-2 c κs =
     (h.sound.few, (stage.paid-fits (F s) _ _ _ _ _ h, stage.factors-fit (F s) _ _ _ _ _ h))
 
 -- question 14
-abbrev else2 : tie.After-complete2 → tie.Else2
+abbrev else2 : tie.After-complete-2 → tie.Else-used-ne-ACCEPTED
 else2 c = c.before.before
 
-abbrev start3 : tie.After-complete2 → tie.Start
+abbrev start3 : tie.After-complete-2 → tie.Start
 start3 c = start2 (used2 (else2 c))
 
-fourteen : (c : tie.After-complete2) →
+fourteen : (c : tie.After-complete-2) →
     let f = F (start3 c) in
-    c.complete2.result ≡ completed_pass (completed_all f.k (paid_in f) (development_in f))
-fourteen c = let s = start3 c in c.complete2.ensures.0 ∙ stage.fourteen-is (F s) _ _ _ _ _ (separated s)
+    c.complete-2.result ≡ completed_pass (completed_all f.k (paid_in f) (development_in f))
+fourteen c = let s = start3 c in c.complete-2.ensures.0 ∙ stage.fourteen-is (F s) _ _ _ _ _ (separated s)
 
-yes-fourteen : (c : tie.Else3) →
+yes-fourteen : (c : tie.Else-not-complete-2) →
     let f = F (start3 c.before) in
     completed_pass (completed_all f.k (paid_in f) (development_in f)) ≡ true
-yes-fourteen c = sym (fourteen c.before) ∙ not-false c.before.complete2.result c.if3.false
+yes-fourteen c = sym (fourteen c.before) ∙ c.if-not-complete-2.false
 
-returns-3 : tie.Need-returns-3
+returns-3 : tie.Need-returns-then-not-complete-2
 unfolding completed_ladder_questions
 returns-3 c =
     let at = c.before in
     let s = start3 at in
-    let no = sym (fourteen at) ∙ not-true at.complete2.result c.if3.true in
+    let no = sym (fourteen at) ∙ c.if-not-complete-2.true in
     before-14 (else2 at) _ 14 (refused (filled s.args.year (F s) s.args.out.now) s.args.out.now (completed_ladder_questions (F s)) 14 (one_no 14 _ no) (λ z. omega arith))
 
 -- all that was worked out
-work : (c : tie.Else3) →
+work : (c : tie.Else-not-complete-2) →
     let two = else2 c.before in
     let one = else1 (used2 two) in
-    Worked (start3 c.before).args.year (F (start3 c.before)) one.before.before.before.before.before.fill-levels.last.1.1.1.0 one.before.complete.last.1.1.1.1.1.1.0
-    one.before.complete.last.1.1.1.1.1.1.1.0 (used2 two).ratio-of.result.ratio c.before.complete2.new.1.1.1.0
+    Worked (start3 c.before).args.year (F (start3 c.before)) one.before.before.before.before.before.fill_levels.last.1.1.1.0 one.before.complete.last.1.1.1.1.1.1.0
+    one.before.complete.last.1.1.1.1.1.1.1.0 (used2 two).ratio-of.result.ratio c.before.complete-2.new.factors.1.1.0
 work c =
     let two = else2 c.before in
     let one = else1 (used2 two) in
-    let filled = one.before.before.before.before.before.fill-levels.ensures in
+    let filled = one.before.before.before.before.before.fill_levels.ensures in
     let s = start3 c.before in
     let f = F s in
     let h = separated s in
@@ -198,21 +197,21 @@ work c =
     (stage.payments-are f _ _ _ _ _ h _ filled _ (tailed s) (yes-eleven one) _ one.before.complete.ensures.1.0)
     (provisions_are one)
     (used_is two)
-    (stage.completed-are f _ _ _ _ _ h _ (yes-fourteen c) c.before.complete2.ensures.1)
+    (stage.completed-are f _ _ _ _ _ h _ (yes-fourteen c) c.before.complete-2.ensures.1)
 
-abbrev last : tie.After-completed2 → tie.Else3
+abbrev last : tie.After-completed-2-1 → tie.Else-not-complete-2
 last c = c.before.before.before.before.before
 
-put-results-requires : tie.Need-put-results-requires
+put-results-requires : tie.Need-put_results-requires
 put-results-requires c κs =
     let at = last c in
     let s = start3 at.before in
     (stage.printable (F s) _ _ _ _ _ (separated s) _ _ _ _ _ s.args.year (work at) _ (tailed s), s.pre.1.1)
 
-same_length : tie.Need-same-length
+same_length : tie.Need-shape_of-out
 same_length c = search rules
 
-returns-4 : tie.Need-returns-4
+returns-4 : tie.Need-returns
 unfolding completed_ladder_questions
 returns-4 c =
     let put = c.before in
@@ -221,11 +220,11 @@ returns-4 c =
     let f = F s in
     let year = s.args.year in
     let out = s.args.out.now in
-    let left = put.put-results.new.0 in
+    let left = put.put_results.new.out in
     let w = work at in
     before-14 (else2 at.before) left 0
     (accepted (filled year f out) out (completed_ladder_questions f) left (one_yes 14 _ w.fourteen)
-    (put.put-results.ensures ∙ ap (sets out 0) (stage.printed-is f _ _ _ _ _ (separated s) _ _ _ _ _ year w _ (tailed s))))
+    (put.put_results.ensures ∙ ap (sets out 0) (stage.printed-is f _ _ _ _ _ (separated s) _ _ _ _ _ year w _ (tailed s))))
 
 pub finish_spec : {M : Type 1} → statement M
 finish_spec =

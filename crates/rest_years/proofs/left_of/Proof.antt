@@ -31,7 +31,7 @@ subtract-requires c κs =
 returns : tie.Need-returns
 returns c =
     let s = c.before.before.before in
-    to_z-of_z (sfits_of c.subtract.type-inv)
+    to_z-of_z (sfits_of c.subtract.type_inv)
     ∙ c.subtract.ensures
     ∙ ap₂ (λ (x y : ℤ). x -ℤ y) (entry_held s.args.corners.now s.requires.1.0 s.args.h) (total_held s.args.columns.now s.requires.1.1 s.args.h)
 

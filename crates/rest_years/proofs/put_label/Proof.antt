@@ -11,7 +11,7 @@ use Rattle.rest_years.proofs.put_label.Tie as tie
 
 left-held : (c : tie.After-left-of)
     → held c.left-of.result ≡ left_of c.before.before.args.corners.now c.before.before.args.columns.now c.before.before.args.h
-left-held c = to_z-of_z (sfits_of c.left-of.type-inv) ∙ c.left-of.ensures
+left-held c = to_z-of_z (sfits_of c.left-of.type_inv) ∙ c.left-of.ensures
 
 returns : tie.Need-returns
 returns c =

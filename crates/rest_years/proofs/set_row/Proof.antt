@@ -25,7 +25,7 @@ three l at a b c x y z ys ex ey ez e =
     rw (ex, ey, ez, e, one, two)
 
 left-held : (c : tie.After-left-of) → held c.left-of.result ≡ left_of c.before.args.corners.now c.before.args.columns.now c.before.args.h
-left-held c = to_z-of_z (sfits_of c.left-of.type-inv) ∙ c.left-of.ensures
+left-held c = to_z-of_z (sfits_of c.left-of.type_inv) ∙ c.left-of.ensures
 
 returns : tie.Need-returns
 returns c =

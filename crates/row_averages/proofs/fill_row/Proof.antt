@@ -26,7 +26,7 @@ use Rattle.triangle.proofs.Square.{cells_bounded}
 use Rattle.row_averages.proofs.fill_row.Statement.{statement}
 use Rattle.row_averages.proofs.fill_row.Tie as tie
 
-abbrev invariant-loop : tie.invariant-loop
+abbrev invariant-loop : tie.invariant-loop-j
 invariant-loop row₀ sums₀ columns₀ diagonals₀ increments exposures k i at claims sum₀ cells j₀ row sums columns diagonals sum j =
     (j ≤ cells)
     × (sum ≡ of_z w64 (sum_to (paid_of k increments i) j))
@@ -34,7 +34,7 @@ invariant-loop row₀ sums₀ columns₀ diagonals₀ increments exposures k i a
     × (sums ≡ up_to (mixed (column_sum k increments i) (column_sum k increments (i + 1)) j) 16)
     × TotalsSoFar (averages_of k exposures increments) i j columns diagonals
 
-abbrev decreases-loop : tie.decreases-loop
+abbrev decreases-loop : tie.decreases-loop-j
 decreases-loop row₀ sums₀ columns₀ diagonals₀ increments exposures k i at claims sum₀ cells j₀ row sums columns diagonals sum j = cells - j
 
 -- the row's increments stand in the array, and the row passes
@@ -44,31 +44,31 @@ room s = rw s.requires.1.1.1.0 (row_room s.args.k s.args.i (omega arith) (omega 
 passes : (s : tie.Start invariant-loop decreases-loop) → row_passes s.args.k s.args.increments.now s.args.i ≡ true
 passes s = every_up_to (row_passes s.args.k s.args.increments.now) (λ (r : ℕ). r) (s.args.i + 1) s.args.i s.requires.1.1.1.1.1.0 (omega arith)
 
-loop-holds : tie.Need-loop-init invariant-loop decreases-loop
+loop-holds : tie.Need-loop-j-init invariant-loop decreases-loop
 unfolding sum_to up_to
 loop-holds c =
-    let s = c.before in
+    let s = c.before.before in
     (omega arith, refl, refl, s.requires.1.1.1.1.1.1.0 ∙ mixed_none (column_sum s.args.k s.args.increments.now s.args.i) (column_sum s.args.k s.args.increments.now (s.args.i + 1)) 16, s.requires.1.1.1.1.1.1.1)
 
-add-x : tie.Need-overflow-add-x invariant-loop decreases-loop
-add-x c = omega (arith, room c.before.before.before)
+add-x : tie.Need-overflow_add-x invariant-loop decreases-loop
+add-x c = omega (arith, room c.before.before.before.before)
 
-mul-x : tie.Need-overflow-mul-x invariant-loop decreases-loop
-mul-x c = omega (arith, room c.before.before.before)
+mul-x : tie.Need-offset_bounds-increments-at invariant-loop decreases-loop
+mul-x c = omega (arith, room c.before.before.before.before)
 
-element-copy-out-x : tie.Need-element-copy-out-x invariant-loop decreases-loop
-element-copy-out-x c = omega (arith, room c.before.before.before)
+element-copy-out-x : tie.Need-bounds-increments-at invariant-loop decreases-loop
+element-copy-out-x c = omega (arith, room c.before.before.before.before)
 
-add-sum : tie.Need-overflow-add-sum invariant-loop decreases-loop
+add-sum : tie.Need-overflow_add-sum invariant-loop decreases-loop
 add-sum c =
-    let s = c.before.before.before.before in
-    let l = c.before.before.loop in
+    let s = c.before.before.before.before.before in
+    let l = c.before.before.loop-j in
     more_fits s.args.k s.args.increments.now s.args.i s.requires.0 s.args.at s.requires.1.1.1.0 l.j l.sum (omega arith) l.invariant.1
 
-add-average-requires : tie.Need-add-average-requires invariant-loop decreases-loop
+add-average-requires : tie.Need-add_average-requires invariant-loop decreases-loop
 add-average-requires c κs =
-    let l = c.before.before.before.before.loop in
-    let s = c.before.before.before.before.before.before in
+    let l = c.before.before.before.before.loop-j in
+    let s = c.before.before.before.before.before.before.before in
     let k = s.args.k in
     let n = s.args.exposures.now in
     let p = s.args.increments.now in
@@ -81,90 +81,90 @@ add-average-requires c κs =
     )
 
 -- the cumulative with one increment more: what the code holds of it, and that it is a whole number
-abbrev sum : tie.After-add-average invariant-loop decreases-loop → ℤ
-sum c = let s = c.before.before.before.before.before.before.before in cumulative_of s.args.k s.args.increments.now s.args.i c.before.before.before.before.before.loop.j
+abbrev sum : tie.After-add_average invariant-loop decreases-loop → ℤ
+sum c = let s = c.before.before.before.before.before.before.before.before in cumulative_of s.args.k s.args.increments.now s.args.i c.before.before.before.before.before.loop-j.j
 
-abbrev number : tie.After-add-average invariant-loop decreases-loop → ℕ
-number c = let s = c.before.before.before.before.before.before.before in given_cumulative s.args.k s.args.increments.now s.args.i c.before.before.before.before.before.loop.j
+abbrev number : tie.After-add_average invariant-loop decreases-loop → ℕ
+number c = let s = c.before.before.before.before.before.before.before.before in given_cumulative s.args.k s.args.increments.now s.args.i c.before.before.before.before.before.loop-j.j
 
-sum_read : (c : tie.After-add-average invariant-loop decreases-loop)
-    → held (to_z w64 c.before.before.before.before.before.loop.sum +ℤ held (get_or c.before.before.before.before.before.before.before.args.increments.now (c.before.before.before.before.before.before.before.args.at + c.before.before.before.before.before.loop.j) (pos 0)))
+sum_read : (c : tie.After-add_average invariant-loop decreases-loop)
+    → held (to_z w64 c.before.before.before.before.before.loop-j.sum +ℤ held (get_or c.before.before.before.before.before.before.before.before.args.increments.now (c.before.before.before.before.before.before.before.before.args.at + c.before.before.before.before.before.loop-j.j) (pos 0)))
     ≡ sum c
 sum_read c =
-    let s = c.before.before.before.before.before.before.before in
-    let l = c.before.before.before.before.before.loop in
+    let s = c.before.before.before.before.before.before.before.before in
+    let l = c.before.before.before.before.before.loop-j in
     more_read s.args.k s.args.increments.now s.args.i s.requires.0 s.args.at s.requires.1.1.1.0 l.j l.sum (omega arith) l.invariant.1
 
-given : (c : tie.After-add-average invariant-loop decreases-loop) → (sum c ≡ pos (number c)) × (number c ≤ most_cumulative)
+given : (c : tie.After-add_average invariant-loop decreases-loop) → (sum c ≡ pos (number c)) × (number c ≤ most_cumulative)
 given c =
-    let s = c.before.before.before.before.before.before.before in
-    let j = c.before.before.before.before.before.loop.j in (
+    let s = c.before.before.before.before.before.before.before.before in
+    let j = c.before.before.before.before.before.loop-j.j in (
       cell_is s.args.k s.args.increments.now s.args.i (passes s) j (omega arith),
       cell_most_lem s.args.k s.args.increments.now s.args.i (passes s) j (omega arith),
     )
 
-cast-sums : tie.Need-overflow-cast-sums invariant-loop decreases-loop
+cast-sums : tie.Need-overflow_cast-sums invariant-loop decreases-loop
 cast-sums c = rw (sum_read c, (given c).0) (tt, record { fits = omega (arith, (given c).1) })
 
 -- what the sum of column j was
-was : (l : tie.At-loop invariant-loop decreases-loop) → l.loop.j < 16 → get_or l.loop.sums l.loop.j 0 ≡ column_sum l.before.before.args.k l.before.before.args.increments.now l.before.before.args.i l.loop.j
+was : (l : tie.At-loop-j invariant-loop decreases-loop) → l.loop-j.j < 16 → get_or l.loop-j.sums l.loop-j.j 0 ≡ column_sum l.before.before.before.args.k l.before.before.before.args.increments.now l.before.before.before.args.i l.loop-j.j
 was l h =
-    let s = l.before.before in
+    let s = l.before.before.before in
     let old = column_sum s.args.k s.args.increments.now s.args.i in
     let new = column_sum s.args.k s.args.increments.now (s.args.i + 1) in
-    let j = l.loop.j in
-    rw l.loop.invariant.3 (get_d_up_to (mixed old new j) 16 j 0 h ∙ mixed_after old new j j (omega arith))
+    let j = l.loop-j.j in
+    rw l.loop-j.invariant.3 (get_d_up_to (mixed old new j) 16 j 0 h ∙ mixed_after old new j j (omega arith))
 
-add-sums : tie.Need-overflow-add-sums invariant-loop decreases-loop
+add-sums : tie.Need-overflow_add-sums invariant-loop decreases-loop
 add-sums c =
-    let t = c.before in
-    let s = t.before.before.before.before.before.before.before in
-    let j = t.before.before.before.before.before.loop.j in
+    let t = c.before.before.before.before.before.before.before in
+    let s = t.before.before.before in
+    let j = t.loop-j.j in
     let most = column_most s.args.k s.args.increments.now (s.args.i + 1) j s.requires.1.1.1.1.1.0 in
     let more = sum_given s.args.k s.args.increments.now s.args.i j (omega arith) in
-    rw (sum_read t, (given t).0, was t.before.before.before.before.before (omega arith)) (record { fits = omega (arith, most, more) })
+    rw (sum_read t, (given t).0, was t (omega arith)) (record { fits = omega (arith, most, more) })
 
-loop-again : tie.Need-loop-preserved invariant-loop decreases-loop
+loop-again : tie.Need-loop-j-preserved invariant-loop decreases-loop
 unfolding given_cumulative
 loop-again c =
-    let t = c.before in
-    let s = t.before.before.before.before.before.before.before in
-    let l = t.before.before.before.before.before.loop in
+    let t = c.before.before in
+    let s = t.before.before.before.before.before.before.before.before in
+    let l = t.before.before.before.before.before.loop-j in
     let k = s.args.k in
     let n = s.args.exposures.now in
     let p = s.args.increments.now in
     let i = s.args.i in
-    let kept = to_z-of_z {w = w64} {z = t.add-average.result} (sfits_of t.add-average.type-inv) in
+    let kept = to_z-of_z {w = w64} {z = t.add_average.result} (sfits_of t.add_average.type_inv) in
     let read = increment_read k p i s.requires.0 s.args.at l.j s.requires.1.1.1.0 in
-    let value : get_or l.sums l.j 0 + nat_abs (sum t) ≡ column_sum k p (i + 1) l.j = rw (was t.before.before.before.before.before (omega arith)) (sum_given k p i l.j (omega arith)) in
+    let value : get_or l.sums-1 l.j 0 + nat_abs (sum t) ≡ column_sum k p (i + 1) l.j = rw (was t.before.before.before.before.before (omega arith)) (sum_given k p i l.j (omega arith)) in
     let cell : cell_of (averages_of k n p) i l.j ≡ average_of (held (get_or p (s.args.at + l.j) (pos 0))) (get_or n i 0)
     = rw read (cell_inside k n p i l.j (omega arith) s.requires.1.0) in (
       omega arith,
       more_is k p i s.requires.0 s.args.at s.requires.1.1.1.0 l.j l.sum (omega arith) l.invariant.1,
-      rw (kept, t.add-average.ensures.0, read, l.invariant.2) (first_more (λ r. average_of (paid_of k p i r) (get_or n i 0)) s.args.row.now l.j),
+      rw (kept, t.add_average.ensures.0, read, l.invariant.2) (first_more (λ r. average_of (paid_of k p i r) (get_or n i 0)) s.args.row.now l.j),
       rw (sum_read t, value, l.invariant.3) (mixed_more (column_sum k p i) (column_sum k p (i + 1)) 16 l.j (omega arith)),
-      t.add-average.ensures.1 (averages_of k n p) cell l.invariant.4,
+      t.add_average.ensures.1 (averages_of k n p) cell l.invariant.4,
     )
 
 -- the whole sum is the last cumulative
-last : (c : tie.After-loop invariant-loop decreases-loop) → to_z w64 c.before.loop.sum ≡ cumulative_of c.before.before.before.args.k c.before.before.before.args.increments.now c.before.before.before.args.i (c.before.before.before.args.k - c.before.before.before.args.i)
+last : (c : tie.After-loop-j invariant-loop decreases-loop) → to_z w64 c.before.loop-j.sum ≡ cumulative_of c.before.before.before.before.args.k c.before.before.before.before.args.increments.now c.before.before.before.before.args.i (c.before.before.before.before.args.k - c.before.before.before.before.args.i)
 last c =
-    let s = c.before.before.before in
-    let l = c.before.loop in
+    let s = c.before.before.before.before in
+    let l = c.before.loop-j in
     let e : l.j ≡ s.args.k + 1 - s.args.i = omega arith in
     last_read s.args.k s.args.increments.now s.args.i s.requires.0 l.sum (omega arith) (omega arith) (rw e at l.invariant.1)
 
-cast-result : tie.Need-overflow-cast-result invariant-loop decreases-loop
+cast-result : tie.Need-overflow_cast-result invariant-loop decreases-loop
 cast-result c =
-    let s = c.before.before.before in
+    let s = c.before.before.before.before in
     rw (last c, cell_is s.args.k s.args.increments.now s.args.i (passes s) (s.args.k - s.args.i) (omega arith))
     (tt, record { fits = omega (arith, cell_most_lem s.args.k s.args.increments.now s.args.i (passes s) (s.args.k - s.args.i) (omega arith)) })
 
 returns : tie.Need-returns invariant-loop decreases-loop
 unfolding paid_to given_cumulative
 returns c =
-    let s = c.before.before.before in
-    let l = c.before.loop in
+    let s = c.before.before.before.before in
+    let l = c.before.loop-j in
     let k = s.args.k in
     let n = s.args.exposures.now in
     let p = s.args.increments.now in
@@ -174,8 +174,8 @@ returns c =
     let totals : TotalsSoFar (averages_of k n p) (i + 1) 0 l.columns l.diagonals = rw (e, row_end (averages_of k n p) k (zero_outside k n p s.requires.1.0) i) at l.invariant.4 in
     (ap nat_abs (last c), (rw e at l.invariant.2, (l.invariant.3 ∙ all, totals)))
 
-pub fill-row-spec : {M : Type 1} → statement M
-fill-row-spec =
+pub fill_row_spec : {M : Type 1} → statement M
+fill_row_spec =
     tie.close
     (tie.spec
     invariant-loop

@@ -28,58 +28,58 @@ use Rattle.row_figures.proofs.put_row_sums.Tie as tie
 abbrev one : ℕ → ℕ → List ℤ → ℕ → ℤ
 one k a xs i = sum_to (λ j. figure_at xs (a + row_start k i + j)) (k + 1 - i)
 
-abbrev invariant-loop : tie.invariant-loop
+abbrev invariant-loop : tie.invariant-loop-i
 invariant-loop out₀ at a k n from₀ i₀ out from i = (i ≤ n) × ((from ≡ row_start k i) × (out ≡ sets out₀ at (up_to (one k a out₀) i)))
 
-abbrev decreases-loop : tie.decreases-loop
+abbrev decreases-loop : tie.decreases-loop-i
 decreases-loop out₀ at a k n from₀ i₀ out from i = n - i
 
-loop-holds : tie.Need-loop-init invariant-loop decreases-loop
+loop-holds : tie.Need-loop-i-init invariant-loop decreases-loop
 unfolding up_to row_start
 loop-holds c = (omega arith, (refl, refl))
 
 -- the row ends within the triangle
-within : (l : tie.At-loop invariant-loop decreases-loop) → l.loop.i ≤ l.before.args.k → l.loop.from + (l.before.args.k + 1 - l.loop.i) ≤ cells l.before.args.k
-within l h = omega (arith, row_within l.before.args.k l.loop.i h, l.loop.invariant.1.0)
+within : (l : tie.At-loop-i invariant-loop decreases-loop) → l.loop-i.i ≤ l.before.args.k → l.loop-i.from + (l.before.args.k + 1 - l.loop-i.i) ≤ cells l.before.args.k
+within l h = omega (arith, row_within l.before.args.k l.loop-i.i h, l.loop-i.invariant.1.0)
 
-sum-along-requires : tie.Need-sum-along-requires invariant-loop decreases-loop
+sum-along-requires : tie.Need-sum_along-sum-requires invariant-loop decreases-loop
 sum-along-requires c κs =
     let l = c.before.before.before in
     let s = l.before in
     let rows = within l (omega arith) in
-    let small = sized_row most_figure s.args.a s.args.k l.loop.i s.args.out.now (omega arith) s.requires.1.1.1 in
-    let done = up_to (one s.args.k s.args.a s.args.out.now) l.loop.i in
-    let long : 1310 ≤ length l.loop.out = search rules in
+    let small = sized_row most_figure s.args.a s.args.k l.loop-i.i s.args.out.now (omega arith) s.requires.1.1.1 in
+    let done = up_to (one s.args.k s.args.a s.args.out.now) l.loop-i.i in
+    let long : 1310 ≤ length l.loop-i.out = search rules in
     let kept =
-    sized_before most_figure (s.args.a + row_start s.args.k l.loop.i) (s.args.k + 1 - l.loop.i) s.args.out.now s.args.at done (omega (arith, rows, l.loop.invariant.1.0)) small in
-    (omega arith, (λ j h. rw (mul-one j, l.loop.invariant.1.0, l.loop.invariant.1.1) (kept j h), (search rules, λ j h. rw (mul-one j) (omega (arith, long, rows)))))
+    sized_before most_figure (s.args.a + row_start s.args.k l.loop-i.i) (s.args.k + 1 - l.loop-i.i) s.args.out.now s.args.at done (omega (arith, rows, l.loop-i.invariant.1.0)) small in
+    (omega arith, (λ j h. rw (mul-one j, l.loop-i.invariant.1.0, l.loop-i.invariant.1.1) (kept j h), (search rules, λ j h. rw (mul-one j) (omega (arith, long, rows)))))
 
-loop-again : tie.Need-loop-preserved invariant-loop decreases-loop
+loop-again : tie.Need-loop-i-preserved invariant-loop decreases-loop
 loop-again c =
     let l = c.before.before.before.before in
     let s = l.before in
     let rows = within l (omega arith) in
-    let done = up_to (one s.args.k s.args.a s.args.out.now) l.loop.i in
+    let done = up_to (one s.args.k s.args.a s.args.out.now) l.loop-i.i in
     let same =
-    sum_to_same (λ j. figure_at (sets s.args.out.now s.args.at done) (s.args.a + row_start s.args.k l.loop.i + j * 1))
-    (λ j. figure_at s.args.out.now (s.args.a + row_start s.args.k l.loop.i + j)) (s.args.k + 1 - l.loop.i)
-    (λ j h. rw (mul-one j) (sets_before s.args.out.now s.args.at done (s.args.a + row_start s.args.k l.loop.i + j) _ (omega (arith, rows, l.loop.invariant.1.0)))) in
-    let sum = to_z-of_z {w = w64} {z = c.sum-along.result} (sfits_of c.sum-along.type-inv) ∙ (rw (l.loop.invariant.1.0, l.loop.invariant.1.1, same) at c.sum-along.ensures) in (
+    sum_to_same (λ j. figure_at (sets s.args.out.now s.args.at done) (s.args.a + row_start s.args.k l.loop-i.i + j * 1))
+    (λ j. figure_at s.args.out.now (s.args.a + row_start s.args.k l.loop-i.i + j)) (s.args.k + 1 - l.loop-i.i)
+    (λ j h. rw (mul-one j) (sets_before s.args.out.now s.args.at done (s.args.a + row_start s.args.k l.loop-i.i + j) _ (omega (arith, rows, l.loop-i.invariant.1.0)))) in
+    let sum = to_z-of_z {w = w64} {z = c.sum_along-sum.result} (sfits_of c.sum_along-sum.type_inv) ∙ (rw (l.loop-i.invariant.1.0, l.loop-i.invariant.1.1, same) at c.sum_along-sum.ensures) in (
       omega arith,
       (
-        omega (arith, row_start_more s.args.k l.loop.i, l.loop.invariant.1.0),
-        rw (sum, l.loop.invariant.1.1) (sets_more (one s.args.k s.args.a s.args.out.now) s.args.out.now s.args.at l.loop.i),
+        omega (arith, row_start_more s.args.k l.loop-i.i, l.loop-i.invariant.1.0),
+        rw (sum, l.loop-i.invariant.1.1) (sets_more (one s.args.k s.args.a s.args.out.now) s.args.out.now s.args.at l.loop-i.i),
       ),
     )
 
 returns : tie.Need-returns invariant-loop decreases-loop
 unfolding row_sums
 returns c =
-    let e : c.before.loop.i ≡ c.before.before.args.k + 1 = omega arith in
-    rw e at c.before.loop.invariant.1.1
+    let e : c.before.loop-i.i ≡ c.before.before.args.k + 1 = omega arith in
+    rw e at c.before.loop-i.invariant.1.1
 
-pub put-row-sums-spec : {M : Type 1} → statement M
-put-row-sums-spec =
+pub put_row_sums_spec : {M : Type 1} → statement M
+put_row_sums_spec =
     tie.close
     (tie.spec
     invariant-loop

@@ -11,31 +11,31 @@ use Rattle.scanning.proofs.Parts.{before_found, before_more, before_none}
 use Rattle.scanning.proofs.find.Statement.{statement}
 use Rattle.scanning.proofs.find.Tie as tie
 
-abbrev invariant-loop : tie.invariant-loop
+abbrev invariant-loop : tie.invariant-loop-i
 invariant-loop text set wanted n i₀ i = (i ≤ n) × ((n ≡ length text) × (before (meets wanted set) text ≡ i + before (meets wanted set) (drop i text)))
 
-abbrev decreases-loop : tie.decreases-loop
+abbrev decreases-loop : tie.decreases-loop-i
 decreases-loop text set wanted n i₀ i = n - i
 
-abbrev test : tie.At-loop invariant-loop decreases-loop → ℕ → Bool
+abbrev test : tie.At-loop-i invariant-loop decreases-loop → ℕ → Bool
 test l = meets l.before.before.before.args.wanted l.before.before.before.args.set.now
 
-returns : tie.Need-returns invariant-loop decreases-loop
+returns : tie.Need-returns-then-is_met invariant-loop decreases-loop
 returns c =
     let m = c.before in
     let l = m.before.before.before in
-    (before_found (test l) 0 l.before.before.before.args.text.now l.loop.i (omega arith) l.loop.invariant.1.1 (sym m.is-met.ensures ∙ c.if1.true), omega arith)
+    (before_found (test l) 0 l.before.before.before.args.text.now l.loop-i.i (omega arith) l.loop-i.invariant.1.1 (sym m.is_met.ensures ∙ c.if-is_met.true), omega arith)
 
-loop-again : tie.Need-loop-preserved invariant-loop decreases-loop
+loop-again : tie.Need-loop-i-preserved invariant-loop decreases-loop
 loop-again c =
     let m = c.before in
     let l = m.before.before.before in
-    (omega arith, (refl, before_more (test l) 0 l.before.before.before.args.text.now l.loop.i (omega arith) l.loop.invariant.1.1 (sym m.is-met.ensures ∙ c.if1.false)))
+    (omega arith, (refl, before_more (test l) 0 l.before.before.before.args.text.now l.loop-i.i (omega arith) l.loop-i.invariant.1.1 (sym m.is_met.ensures ∙ c.if-is_met.false)))
 
-returns-2 : tie.Need-returns-2 invariant-loop decreases-loop
+returns-2 : tie.Need-returns invariant-loop decreases-loop
 returns-2 c =
     let l = c.before in
-    (before_none (test l) 0 l.before.before.before.args.text.now l.loop.i (omega arith) l.loop.invariant.1.1, le_refl _)
+    (before_none (test l) 0 l.before.before.before.args.text.now l.loop-i.i (omega arith) l.loop-i.invariant.1.1, le_refl _)
 
 pub find_spec : {M : Type 1} → statement M
 find_spec =

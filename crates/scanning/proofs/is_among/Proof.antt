@@ -9,29 +9,29 @@ use Rattle.scanning.proofs.Parts.{among_here, among_more, among_end}
 use Rattle.scanning.proofs.is_among.Statement.{statement}
 use Rattle.scanning.proofs.is_among.Tie as tie
 
-abbrev invariant-loop : tie.invariant-loop
+abbrev invariant-loop : tie.invariant-loop-i
 invariant-loop b set n i₀ i = (i ≤ n) × ((n ≡ length set) × (among set b ≡ among (drop i set) b))
 
-abbrev decreases-loop : tie.decreases-loop
+abbrev decreases-loop : tie.decreases-loop-i
 decreases-loop b set n i₀ i = n - i
 
-returns : tie.Need-returns invariant-loop decreases-loop
+returns : tie.Need-returns-then-set-i invariant-loop decreases-loop
 returns c =
     let l = c.before.before.before in
-    sym (l.loop.invariant.1.1 ∙ among_here l.before.args.set.now l.before.args.b l.loop.i (omega arith) c.if1.true)
+    sym (l.loop-i.invariant.1.1 ∙ among_here l.before.args.set.now l.before.args.b l.loop-i.i (omega arith) c.if-set-i.true)
 
-loop-again : tie.Need-loop-preserved invariant-loop decreases-loop
+loop-again : tie.Need-loop-i-preserved invariant-loop decreases-loop
 loop-again c =
     let l = c.before.before.before in
-    (omega arith, (refl, l.loop.invariant.1.1 ∙ among_more l.before.args.set.now l.before.args.b l.loop.i (omega arith) c.if1.false))
+    (omega arith, (refl, l.loop-i.invariant.1.1 ∙ among_more l.before.args.set.now l.before.args.b l.loop-i.i (omega arith) c.if-set-i.false))
 
-returns-2 : tie.Need-returns-2 invariant-loop decreases-loop
+returns-2 : tie.Need-returns invariant-loop decreases-loop
 returns-2 c =
     let l = c.before in
-    sym (l.loop.invariant.1.1 ∙ among_end l.before.args.set.now l.before.args.b l.loop.i (omega arith))
+    sym (l.loop-i.invariant.1.1 ∙ among_end l.before.args.set.now l.before.args.b l.loop-i.i (omega arith))
 
-pub is-among-spec : {M : Type 1} → statement M
-is-among-spec =
+pub is_among_spec : {M : Type 1} → statement M
+is_among_spec =
     tie.close
     (tie.spec
     invariant-loop

@@ -6,23 +6,23 @@ use borrow.Author.Rules.{rules}
 use Rattle.scanning.proofs.is_number.Statement.{statement}
 use Rattle.scanning.proofs.is_number.Tie as tie
 
-returns : tie.Need-returns
-returns c = sym (number_none c.before.before.args.word.now c.if1.true)
+returns : tie.Need-returns-then-word-eq0
+returns c = sym (number_none c.before.before.args.word.now c.if-word-eq0.true)
 
-returns-2 : tie.Need-returns-2
+returns-2 : tie.Need-returns-then-word-eq45
 returns-2 c =
     let d = c.before.before in
     let xs = d.before.before.before.before.args.word.now in
-    c.is-natural.ensures ∙ sym (number_minus xs (omega arith) d.if2.true)
+    c.is_natural.ensures ∙ sym (number_minus xs (omega arith) d.if-word-eq45.true)
 
-returns-3 : tie.Need-returns-3
+returns-3 : tie.Need-returns
 returns-3 c =
     let d = c.before in
     let xs = d.before.before.before.before.args.word.now in
-    c.is-natural2.ensures ∙ sym (number_plain xs (omega arith) d.if2.false)
+    c.is_natural-2.ensures ∙ sym (number_plain xs (omega arith) d.if-word-eq45.false)
 
-pub is-number-spec : {M : Type 1} → statement M
-is-number-spec =
+pub is_number_spec : {M : Type 1} → statement M
+is_number_spec =
     tie.close
     (tie.spec
     returns

@@ -9,29 +9,29 @@ use borrow.Author.Rules.{rules}
 use Rattle.scanning.proofs.size_from.Statement.{statement}
 use Rattle.scanning.proofs.size_from.Tie as tie
 
-abbrev invariant-loop : tie.invariant-loop
+abbrev invariant-loop : tie.invariant-loop-i
 invariant-loop start digits size₀ n i₀ size i = (i ≤ n) × ((n ≡ length digits) × ((size < 2 ^ 60) × (size_from start digits ≡ size_from size (drop i digits))))
 
-abbrev decreases-loop : tie.decreases-loop
+abbrev decreases-loop : tie.decreases-loop-i
 decreases-loop start digits size₀ n i₀ size i = n - i
 
-loop-holds : tie.Need-loop-init invariant-loop decreases-loop
+loop-holds : tie.Need-loop-i-init invariant-loop decreases-loop
 loop-holds c = (omega arith, (refl, (omega arith, refl)))
 
-loop-again : tie.Need-loop-preserved invariant-loop decreases-loop
+loop-again : tie.Need-loop-i-preserved invariant-loop decreases-loop
 loop-again c =
     let l = c.before.before.before in
     let xs = l.before.before.args.digits.now in
-    let d = c.with-digit in
-    (omega arith, (refl, (d.ensures.1, size_more l.before.before.args.start xs l.loop.i l.loop.size d.result (omega arith) l.loop.invariant.1.1.1 d.ensures.0)))
+    let d = c.with_digit-size in
+    (omega arith, (refl, (d.ensures.1, size_more l.before.before.args.start xs l.loop-i.i l.loop-i.size d.result (omega arith) l.loop-i.invariant.1.1.1 d.ensures.0)))
 
 returns : tie.Need-returns invariant-loop decreases-loop
 returns c =
     let l = c.before in
-    (size_end l.before.before.args.start l.before.before.args.digits.now l.loop.i l.loop.size (omega arith) l.loop.invariant.1.1.1, l.loop.invariant.1.1.0)
+    (size_end l.before.before.args.start l.before.before.args.digits.now l.loop-i.i l.loop-i.size (omega arith) l.loop-i.invariant.1.1.1, l.loop-i.invariant.1.1.0)
 
-pub size-from-spec : {M : Type 1} → statement M
-size-from-spec =
+pub size_from_spec : {M : Type 1} → statement M
+size_from_spec =
     tie.close
     (tie.spec
     invariant-loop

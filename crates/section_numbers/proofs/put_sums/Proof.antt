@@ -38,7 +38,7 @@ loop-again : tie.Need-loop-preserved invariant-loop decreases-loop
 loop-again c =
     let l = c.before.before.before.before in
     let s = l.before in
-    let made = to_z-of_z {w = w64} {z = c.section-sum.result} (sfits_of c.section-sum.type-inv) ∙ c.section-sum.ensures.0 in
+    let made = to_z-of_z {w = w64} {z = c.section-sum.result} (sfits_of c.section-sum.type_inv) ∙ c.section-sum.ensures.0 in
     (omega arith, (rw (made, l.loop.invariant.1.0) (sets_more (one s.args.starts.now s.args.counts.now s.args.figures.now) s.args.out.now s.args.at l.loop.j), simp length-set l.loop.invariant.1.1))
 
 returns : tie.Need-returns invariant-loop decreases-loop

@@ -26,7 +26,7 @@ returns c =
     let s = c.before.before in
     let xs = s.args.figures.now in
     let same = sum_to_same (λ i. figure_at xs (s.args.start + i * 1)) (λ i. figure_at xs (s.args.start + i)) s.args.n (λ i h. rw (mul-one i)) in
-    let is = to_z-of_z {w = w64} {z = c.sum-along.result} (sfits_of c.sum-along.type-inv) ∙ c.sum-along.ensures ∙ same in
+    let is = to_z-of_z {w = w64} {z = c.sum-along.result} (sfits_of c.sum-along.type_inv) ∙ c.sum-along.ensures ∙ same in
     (is, rw is (sum_most s.args.start s.args.n xs s.requires))
 
 pub section-sum-spec : {M : Type 1} → statement M

@@ -18,7 +18,7 @@ F s =
     figures s.args.k s.args.exposures.now s.args.increments.now s.args.indices.now s.args.reporting.now s.args.weight s.args.ulae.now s.args.tail
 
 -- questions 18 and 19
-carry-tail-requires : tie.Need-carry-tail-requires
+carry-tail-requires : tie.Need-carry_tail-carried-requires
 carry-tail-requires c κs =
     let good = c.before.requires.0.sound in
     record {
@@ -27,25 +27,25 @@ carry-tail-requires c κs =
       claims = (good.exposures 0 (omega arith)).0;
     }
 
-abbrev start : tie.After-carry-tail → tie.Start
+abbrev start : tie.After-carry_tail-carried → tie.Start
 start c = c.before.before
 
-returns : tie.Need-returns
+returns : tie.Need-returns-then-carried-ne-ACCEPTED
 unfolding later_questions first_tail_average_of
 returns c =
     let at = c.before in
     let s = start at in
     let f = F s in
-    let n = at.carry-tail.result in
-    first_refused_lem (filled s.args.year f s.args.out.now) s.args.out.now (tail_questions f.k (first_tail_average_of f) f.indices) _ n (sym at.carry-tail.ensures.0) c.if1.true
+    let n = at.carry_tail-carried.result in
+    first_refused_lem (filled s.args.year f s.args.out.now) s.args.out.now (tail_questions f.k (first_tail_average_of f) f.indices) _ n (sym at.carry_tail-carried.ensures.0) c.if-carried-ne-ACCEPTED.true
 
 -- the tail is carried on
-tailed-is : (c : tie.Else1) → Tailed (F (start c.before)) c.before.carry-tail.new.1.1.1.1.0
+tailed-is : (c : tie.Else-carried-ne-ACCEPTED) → Tailed (F (start c.before)) c.before.carry_tail-carried.new.indices.1.1.1.0
 unfolding first_tail_average_of
 tailed-is c =
     let at = c.before in
     let s = start at in
-    tails_are (F s) s.pre.0.sound.few _ at.carry-tail.ensures.1 (sym at.carry-tail.ensures.0 ∙ c.if1.false)
+    tails_are (F s) s.pre.0.sound.few _ at.carry_tail-carried.ensures.1 (sym at.carry_tail-carried.ensures.0 ∙ c.if-carried-ne-ACCEPTED.false)
 
 finish-requires : tie.Need-finish-requires
 finish-requires c κs =
@@ -53,10 +53,10 @@ finish-requires c κs =
     let s = start one.before in
     (s.pre.0, (tailed-is one, s.pre.1))
 
-same_length : tie.Need-same-length
+same_length : tie.Need-shape_of-out
 same_length c = search rules
 
-returns-2 : tie.Need-returns-2
+returns-2 : tie.Need-returns
 unfolding later_questions tail_questions every
 returns-2 c =
     let call = c.before in
@@ -65,8 +65,8 @@ returns-2 c =
     let f = F s in
     later (filled s.args.year f s.args.out.now) s.args.out.now (tail_questions f.k (first_tail_average_of f) f.indices) (last_questions s.args.year f) _ _ refl (tailed-is one).passed call.finish.ensures
 
-pub run-separated-spec : {M : Type 1} → statement M
-run-separated-spec =
+pub run_separated_spec : {M : Type 1} → statement M
+run_separated_spec =
     tie.close
     (tie.spec
     carry-tail-requires

@@ -6,5 +6,7 @@ use Rattle.separating.proofs.does_decide.Tie as tie
 returns : tie.Need-returns
 returns c = c.is_among.ensures
 
-pub does-decide-spec : {M : Type 1} → statement M
-does-decide-spec = tie.close (tie.spec (λ c. search rules) (λ c κs. search rules) returns)
+pub does_decide_spec : {M : Type 1} → statement M
+does_decide_spec = tie.close (tie.spec
+    (λ c κs. search rules)
+    returns)

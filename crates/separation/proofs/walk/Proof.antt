@@ -11,36 +11,36 @@ use Rattle.separation.proofs.Steps.{latest_running}
 use Rattle.separation.proofs.walk.Statement.{statement}
 use Rattle.separation.proofs.walk.Tie as tie
 
-totals-answer-requires : tie.Need-totals-answer-requires
+totals-answer-requires : tie.Need-totals_answer-requires
 totals-answer-requires c κs = search rules
 
-no-factors-requires : tie.Need-no-factors-requires
+no-factors-requires : tie.Need-no_factors-requires
 no-factors-requires c κs = search rules
 
-abbrev start : tie.After-totals-answer → tie.Start
+abbrev start : tie.After-totals_answer → tie.Start
 start c = c.before.before.before.before
 
-returns : tie.Need-returns
+returns : tie.Need-returns-then-totals_answer-ne-ACCEPTED
 returns c q of =
     let at = c.before.before in
-    c.no-factors.ensures ∙ sym (after_refusal _ _ _ (λ z. c.before.if1.true (at.totals-answer.ensures.number q of ∙ z)))
+    c.no_factors.ensures ∙ sym (after_refusal _ _ _ (λ z. c.before.if-totals_answer-ne-ACCEPTED.true (at.totals_answer.ensures.number q of ∙ z)))
 
-level-step-requires : tie.Need-level-step-requires
+level-step-requires : tie.Need-level_step-requires
 level-step-requires c κs =
     let at = c.before.before.before in
-    (at.before.totals-answer.ensures.ready at.if1.false, (omega arith, (start at.before).requires.0))
+    (at.before.totals_answer.ensures.ready at.if-totals_answer-ne-ACCEPTED.false, (omega arith, (start at.before).requires.0))
 
-returns-2 : tie.Need-returns-2
+returns-2 : tie.Need-returns
 unfolding factors_to factors_of after_call
 returns-2 c q of =
     let at = c.before.before.before.before in
-    let totals = at.before.totals-answer.ensures in
+    let totals = at.before.totals_answer.ensures in
     let k = (start at.before).args.k in
-    rw (sym (totals.number q of) ∙ at.if1.false)
-    (c.level-step.ensures q (totals.sizes q of at.if1.false) (totals.corners q of at.if1.false) (le_refl k) (latest_running q k))
+    rw (sym (totals.number q of) ∙ at.if-totals_answer-ne-ACCEPTED.false)
+    (c.level_step.ensures q (totals.sizes q of at.if-totals_answer-ne-ACCEPTED.false) (totals.corners-1 q of at.if-totals_answer-ne-ACCEPTED.false) (le_refl k) (latest_running q k))
 
-pub walk-spec : {M : Type 1} → statement M
-walk-spec =
+pub walk_spec : {M : Type 1} → statement M
+walk_spec =
     tie.close
     (tie.spec
     totals-answer-requires

@@ -14,80 +14,78 @@ use borrow.Author.Rules.{rules}
 use Rattle.settings_line.proofs.put_settings.Statement.{statement}
 use Rattle.settings_line.proofs.put_settings.Tie as tie
 
-abbrev invariant-loop : tie.invariant-loop
+abbrev invariant-loop : tie.invariant-loop-rest
 invariant-loop line settings₀ rest₀ n₀ t8 t9 settings rest n =
     (length (words_of line) ≡ n + length (words_of rest)) × (sets settings₀ 0 (settings_of line) ≡ sets settings n (settings_of rest))
 
-abbrev decreases-loop : tie.decreases-loop
+abbrev decreases-loop : tie.decreases-loop-rest
 decreases-loop line settings₀ rest₀ n₀ t8 t9 settings rest n = length rest
 
-loop-holds : tie.Need-loop-init invariant-loop decreases-loop
+loop-holds : tie.Need-loop-rest-init invariant-loop decreases-loop
 loop-holds c = (omega arith, refl)
 
 -- what is left, and its first piece
-abbrev rest : tie.After-until invariant-loop decreases-loop → List ℕ
-rest u = u.before.before.loop.rest.now
+abbrev rest : tie.After-until-piece invariant-loop decreases-loop → List ℕ
+rest u = u.before.before.before.loop-rest.rest.now
 
 -- the words of the first piece and those before it are no more than a line has
-few : (u : tie.After-until invariant-loop decreases-loop) → u.before.before.loop.n + length (words_in (until separates (rest u))) ≤ most_words
+few : (u : tie.After-until-piece invariant-loop decreases-loop) → u.before.before.before.loop-rest.n + length (words_in (until separates (rest u))) ≤ most_words
 few u =
-    let line = u.before.before.before.before.args.line.now in
-    omega (arith, u.before.before.loop.invariant.0, words_first (rest u), words_few (length line) line (omega arith), u.before.before.before.before.requires)
+    let line = u.before.before.before.before.before.args.line.now in
+    omega (arith, u.before.before.before.loop-rest.invariant.0, words_first (rest u), words_few (length line) line (omega arith), u.before.before.before.before.before.requires)
 
-put-word-requires : tie.Need-put-word-requires invariant-loop decreases-loop
-put-word-requires c κs = rw c.before.until.ensures (few c.before)
+put-word-requires : tie.Need-put_word-end-requires invariant-loop decreases-loop
+put-word-requires c κs = rw c.before.until-piece.ensures (few c.before)
 
 -- the first piece's words, put
-put : (p : tie.After-put-word invariant-loop decreases-loop) → (p.put_word.result ≡ p.before.before.before.before.loop.n + length (words_in (until separates (rest p.before.before))))
-    × (p.put_word.new.0 ≡ sets p.before.before.before.before.loop.settings p.before.before.before.before.loop.n (map (size_from 0) (words_in (until separates (rest p.before.before)))))
-put p = rw p.before.before.until.ensures at p.put_word.ensures
+put : (p : tie.After-put_word-end invariant-loop decreases-loop) → (p.put_word-end.result ≡ p.before.before.before.before.before.loop-rest.n + length (words_in (until separates (rest p.before.before))))
+    × (p.put_word-end.new.settings ≡ sets p.before.before.before.before.before.loop-rest.settings p.before.before.before.before.before.loop-rest.n (map (size_from 0) (words_in (until separates (rest p.before.before)))))
+put p = rw p.before.before.until-piece.ensures at p.put_word-end.ensures
 
-cut : (u : tie.After-until invariant-loop decreases-loop) → length u.until.result.now ≡ length (until separates (rest u))
-cut u = ap length u.until.ensures
+cut : (u : tie.After-until-piece invariant-loop decreases-loop) → length u.until-piece.result.now ≡ length (until separates (rest u))
+cut u = ap length u.until-piece.ensures
 
-returns : tie.Need-returns invariant-loop decreases-loop
+returns : tie.Need-returns-then-piece-rest invariant-loop decreases-loop
 returns c =
     let p = c.before in
     let u = p.before.before in
-    let l = u.before.before in
+    let l = u.before.before.before in
     let line = l.before.before.args.line.now in
-    let end = settings_last (rest u) (omega (arith, cut u, c.if1.true)) in (
-      omega (arith, (put p).0, l.loop.invariant.0, settings_count line, settings_count (rest u), ap length end, length-map (words_in (until separates (rest u))) (size_from 0)),
-      (omega (arith, (put p).0, few u), (put p).1 ∙ sym (l.loop.invariant.1 ∙ ap (sets l.loop.settings l.loop.n) end)),
+    let end = settings_last (rest u) (omega (arith, cut u, c.if-piece-rest.true)) in (
+      omega (arith, (put p).0, l.loop-rest.invariant.0, settings_count line, settings_count (rest u), ap length end, length-map (words_in (until separates (rest u))) (size_from 0)),
+      (omega (arith, (put p).0, few u), (put p).1 ∙ sym (l.loop-rest.invariant.1 ∙ ap (sets l.loop-rest.settings l.loop-rest.n) end)),
     )
 
 -- another piece follows
-more : (e : tie.Else1 invariant-loop decreases-loop) → length (until separates (rest e.before.before.before)) < length (rest e.before.before.before)
-more e = let u = e.before.before.before in omega (arith, cut u, e.if1.false, until_most separates (rest u))
+more : (e : tie.Else-piece-rest invariant-loop decreases-loop) → length (until separates (rest e.before.before.before)) < length (rest e.before.before.before)
+more e = let u = e.before.before.before in omega (arith, cut u, e.if-piece-rest.false, until_most separates (rest u))
 
-loop-less : tie.Need-loop-smaller invariant-loop decreases-loop
+loop-less : tie.Need-loop-rest-smaller invariant-loop decreases-loop
 loop-less c =
     let e = c.before.before in
     let u = e.before.before.before in
-    rw c.past.ensures (omega (arith, past_length (rest u) (more e)))
+    rw c.past-next.ensures (omega (arith, past_length (rest u) (more e)))
 
-loop-again : tie.Need-loop-preserved invariant-loop decreases-loop
+loop-again : tie.Need-loop-rest-preserved invariant-loop decreases-loop
 loop-again c =
     let e = c.before.before in
     let p = e.before in
-    let u = p.before.before in
-    let l = u.before.before.loop in
+    let u = p.before.before.before.before.before.before in
+    let l = u.loop-rest in
     let first = words_in (until separates (rest u)) in
-    rw (c.past.ensures, (put p).0, (put p).1)
+    rw (c.past-next.ensures, (put p).0, (put p).1)
     (omega (arith, l.invariant.0, ap length (words_more (rest u) (more e)), length-append first (words_of (past separates (rest u)))), l.invariant.1 ∙ settings_more (rest u) l.settings l.n (more e))
 
-pub put-settings-spec : {M : Type 1} → statement M
-put-settings-spec =
+pub put_settings_spec : {M : Type 1} → statement M
+put_settings_spec =
     tie.close
     (tie.spec
     invariant-loop
     decreases-loop
     loop-holds
-    (λ c. search rules)
     (λ c κs. search rules)
     put-word-requires
     returns
-    (λ c. search rules)
     (λ c κs. search rules)
     loop-less
     loop-again)

@@ -7,20 +7,20 @@ use borrow.Author.Rules.{rules}
 use Rattle.settings_line.proofs.put_word.Statement.{statement}
 use Rattle.settings_line.proofs.put_word.Tie as tie
 
-returns : tie.Need-returns
-returns c = rw (words_none c.before.before.args.piece.now c.if1.true) (omega arith, refl)
+returns : tie.Need-returns-then-piece-eq0
+returns c = rw (words_none c.before.before.args.piece.now c.if-piece-eq0.true) (omega arith, refl)
 
-element-write-settings : tie.Need-element-write-settings
+element-write-settings : tie.Need-bounds-settings-at
 element-write-settings c =
-    let s = c.before.before.before in
-    omega (arith, s.requires, ap length (words_one s.args.piece.now (omega (arith, c.before.if1.false))))
+    let s = c.before.before.before.before in
+    omega (arith, s.requires, ap length (words_one s.args.piece.now (omega (arith, c.before.before.if-piece-eq0.false))))
 
-returns-2 : tie.Need-returns-2
+returns-2 : tie.Need-returns
 returns-2 c =
-    let s = c.before.before.before in
-    rw (words_one s.args.piece.now (omega (arith, c.before.if1.false)), c.size-from.ensures.0) (refl, refl)
+    let s = c.before.before.before.before in
+    rw (words_one s.args.piece.now (omega (arith, c.before.before.if-piece-eq0.false)), c.before.size_from.ensures.0) (refl, refl)
 
-pub put-word-spec : {M : Type 1} → statement M
-put-word-spec =
+pub put_word_spec : {M : Type 1} → statement M
+put_word_spec =
     tie.close
     (tie.spec returns (λ c κs. search rules) (λ c. search rules) element-write-settings (λ c. search rules) returns-2)

@@ -7,10 +7,10 @@ use Rattle.shapes.proofs.put_numbered.Tie as tie
 
 returns : tie.Need-returns
 unfolding numbered
-returns c = put_append c.before.before.before.before.before.before.put-bytes.ensures c.before.before.put-decimal.ensures
+returns c = put_append c.before.before.before.before.before.before.put_bytes-end.ensures c.before.before.put_decimal.ensures
 
-pub put-numbered-spec : {M : Type 1} → statement M
-put-numbered-spec =
+pub put_numbered_spec : {M : Type 1} → statement M
+put_numbered_spec =
     tie.close
     (tie.spec
     (λ c κs. search rules)

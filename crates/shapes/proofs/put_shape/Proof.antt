@@ -9,27 +9,21 @@ returns : tie.Need-returns
 unfolding shape
 returns c =
     put_append
-    c.before.before.before.before.before.before.before.before.before.before.before.before.before.before.before.before.before.before.before.before.before.before.before.before.before.before.before.before.before.before.before.put-bytes.ensures
+    c.before.before.before.before.before.before.before.before.before.before.before.before.before.before.before.before.before.before.before.before.before.before.before.before.before.before.before.before.before.before.before.before.before.before.before.before.put_bytes-a.ensures
     (put_append
-    c.before.before.before.before.before.before.before.before.before.before.before.before.before.before.before.before.before.before.before.before.before.before.before.before.before.before.before.put_byte.ensures
-    (put_five c.before.before.before.before.before.before.before.before.before.before.before.before.before.before.before.before.before.before.before.before.before.before.put-numbered.ensures c.before.before.before.before.before.before.before.before.before.before.before.before.before.before.before.before.before.put-numbered2.ensures c.before.before.before.before.before.before.before.before.before.before.before.before.put-numbered3.ensures c.before.before.before.before.before.before.before.put-numbered4.ensures c.before.before.put-bytes2.ensures))
+    c.before.before.before.before.before.before.before.before.before.before.before.before.before.before.before.before.before.before.before.before.before.before.before.before.before.before.before.before.before.before.before.before.put_byte-b.ensures
+    (put_five c.before.before.before.before.before.before.before.before.before.before.before.before.before.before.before.before.before.before.before.before.before.before.before.before.before.before.put_numbered-c.ensures c.before.before.before.before.before.before.before.before.before.before.before.before.before.before.before.before.before.before.before.before.put_numbered-d.ensures c.before.before.before.before.before.before.before.before.before.before.before.before.before.before.put_numbered-e.ensures c.before.before.before.before.before.before.before.before.put_numbered-f.ensures c.before.before.put_bytes.ensures))
 
-pub put-shape-spec : {M : Type 1} → statement M
-put-shape-spec =
+pub put_shape_spec : {M : Type 1} → statement M
+put_shape_spec =
     tie.close
     (tie.spec
-    (λ c. search rules)
     (λ c κs. search rules)
     (λ c κs. search rules)
-    (λ c. search rules)
     (λ c κs. search rules)
-    (λ c. search rules)
     (λ c κs. search rules)
-    (λ c. search rules)
     (λ c κs. search rules)
-    (λ c. search rules)
     (λ c κs. search rules)
-    (λ c. search rules)
     (λ c κs. search rules)
     (λ c. search rules)
     returns)

@@ -7,19 +7,15 @@ use Rattle.shapes.proofs.put_slot_label.Tie as tie
 
 returns : tie.Need-returns
 unfolding slot_label
-returns c = put_four c.before.before.before.before.before.before.before.before.before.before.before.before.before.before.before.before.before.put-numbered.ensures c.before.before.before.before.before.before.before.before.before.before.before.before.put-numbered2.ensures c.before.before.before.before.before.before.before.put-numbered3.ensures c.before.before.put-bytes.ensures
+returns c = put_four c.before.before.before.before.before.before.before.before.before.before.before.before.before.before.before.before.before.before.before.before.put_numbered-a.ensures c.before.before.before.before.before.before.before.before.before.before.before.before.before.before.put_numbered-b.ensures c.before.before.before.before.before.before.before.before.put_numbered-c.ensures c.before.before.put_bytes.ensures
 
-pub put-slot-label-spec : {M : Type 1} → statement M
-put-slot-label-spec =
+pub put_slot_label_spec : {M : Type 1} → statement M
+put_slot_label_spec =
     tie.close
     (tie.spec
-    (λ c. search rules)
     (λ c κs. search rules)
-    (λ c. search rules)
     (λ c κs. search rules)
-    (λ c. search rules)
     (λ c κs. search rules)
-    (λ c. search rules)
     (λ c κs. search rules)
     (λ c. search rules)
     returns)

@@ -7,17 +7,14 @@ use Rattle.shapes.proofs.put_tick_line.Tie as tie
 
 returns : tie.Need-returns
 unfolding tick_line
-returns c = put_three c.before.before.before.before.before.before.before.before.before.before.before.before.put-numbered.ensures c.before.before.before.before.before.before.before.put-numbered2.ensures c.before.before.put-numbered3.ensures
+returns c = put_three c.before.before.before.before.before.before.before.before.before.before.before.before.before.before.put_numbered-a.ensures c.before.before.before.before.before.before.before.before.put_numbered-b.ensures c.before.before.put_numbered.ensures
 
-pub put-tick-line-spec : {M : Type 1} → statement M
-put-tick-line-spec =
+pub put_tick_line_spec : {M : Type 1} → statement M
+put_tick_line_spec =
     tie.close
     (tie.spec
-    (λ c. search rules)
     (λ c κs. search rules)
-    (λ c. search rules)
     (λ c κs. search rules)
-    (λ c. search rules)
     (λ c. search rules)
     (λ c κs. search rules)
     (λ c. search rules)

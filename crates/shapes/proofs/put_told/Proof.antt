@@ -9,18 +9,15 @@ use Rattle.shapes.proofs.put_told.Tie as tie
 returns : tie.Need-returns
 unfolding told
 returns c =
-    put_four c.before.before.before.before.before.before.before.before.before.before.before.before.before.before.before.before.put-numbered.ensures c.before.before.before.before.before.before.before.before.before.before.before.put-bytes.ensures (rw (to_z-of_z c.before.before.before.before.before.before.before.before.before.before.before.before.before.before.before.before.before.before.before.before.ranges.z) at c.before.before.before.before.before.before.before.put-spaced.ensures) c.before.before.put-bytes2.ensures
+    put_four c.before.before.before.before.before.before.before.before.before.before.before.before.before.before.before.before.before.before.put_numbered-a.ensures c.before.before.before.before.before.before.before.before.before.before.before.before.put_bytes-b.ensures (rw (to_z-of_z c.before.before.before.before.before.before.before.before.before.before.before.before.before.before.before.before.before.before.before.before.before.before.before.ranges.z) at c.before.before.before.before.before.before.before.before.put_spaced-c.ensures) c.before.before.put_bytes.ensures
 
-pub put-told-spec : {M : Type 1} → statement M
-put-told-spec =
+pub put_told_spec : {M : Type 1} → statement M
+put_told_spec =
     tie.close
     (tie.spec
-    (λ c. search rules)
-    (λ c κs. search rules)
-    (λ c. search rules)
     (λ c κs. search rules)
     (λ c κs. search rules)
-    (λ c. search rules)
+    (λ c κs. search rules)
     (λ c κs. search rules)
     (λ c. search rules)
     returns)

@@ -11,7 +11,7 @@ use Rattle.share_section.proofs.put_level_plot.Tie as tie
 put-plot-requires : tie.Need-put-plot-requires
 put-plot-requires c κs =
     let s = c.before.before.before.before.before.before in
-    rw c.before.before.before.starts-of.ensures (omega arith, (omega arith, level_plotted s.args.k _ s.args.figures.now s.requires.0 s.requires.1.1 c.put-plot-arg3.given.0))
+    rw c.before.before.before.starts-of.ensures (omega arith, (omega arith, level_plotted s.args.k _ s.args.figures.now s.requires.0 s.requires.1.1 c.put-plot-arg3.given))
 
 returns : tie.Need-returns
 unfolding level_plot level_plot_words level_series only either

@@ -50,7 +50,7 @@ loop-holds c = ((years c).1, (refl, (omega arith, (refl, put_none _ _))))
 
 put-line-requires : tie.Need-put-line-requires invariant-loop decreases-loop
 put-line-requires c κs =
-    let long : length c.before.before.before.before.before.before.before.before.args.list.now ≡ most_fields = c.put-line-arg2.given.0 in
+    let long : length c.before.before.before.before.before.before.before.before.args.list.now ≡ most_fields = c.put-line-arg2.given in
     omega (arith, room c.before.before)
 
 add-from : tie.Need-overflow-add-from invariant-loop decreases-loop

@@ -5,7 +5,7 @@ use Rattle.signed_sums.proofs.Sums.{sum_fits}
 use Rattle.signed_sums.proofs.add.Statement.{statement}
 use Rattle.signed_sums.proofs.add.Tie as tie
 
-add-result : tie.Need-overflow-add-result
+add-result : tie.Need-overflow_add-result
 add-result c = rw (to_z-of_z c.ranges.x, to_z-of_z c.ranges.y) (sum_fits c.args.x c.args.y c.requires.0 c.requires.1)
 
 returns : tie.Need-returns

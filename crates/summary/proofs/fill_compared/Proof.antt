@@ -31,9 +31,9 @@ returns : tie.Need-returns
 unfolding compared_of
 returns c =
     let s = c.before.before.before in
-    let apart = to_z-of_z {w = w64} {z = c.before.before.sections-apart.result} (sfits_of c.before.before.sections-apart.type-inv) in
-    let together = to_z-of_z {w = w64} {z = c.before.sections-together.result} (sfits_of c.before.sections-together.type-inv) in
-    let tails = to_z-of_z {w = w64} {z = c.tail_allowance_lem.result} (sfits_of c.tail_allowance_lem.type-inv) in
+    let apart = to_z-of_z {w = w64} {z = c.before.before.sections-apart.result} (sfits_of c.before.before.sections-apart.type_inv) in
+    let together = to_z-of_z {w = w64} {z = c.before.sections-together.result} (sfits_of c.before.sections-together.type_inv) in
+    let tails = to_z-of_z {w = w64} {z = c.tail_allowance_lem.result} (sfits_of c.tail_allowance_lem.type_inv) in
     rw (
       apart ∙ (rw s.requires.1.0 at c.before.before.sections-apart.ensures),
       together ∙ (rw s.requires.1.0 at c.before.sections-together.ensures),

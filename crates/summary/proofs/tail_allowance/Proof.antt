@@ -22,7 +22,7 @@ section-sum-requires c κs =
 
 add-requires : tie.Need-add-requires
 add-requires c κs =
-    let claims = to_z-of_z {w = w64} {z = c.section-sum.result} (sfits_of c.section-sum.type-inv) in
+    let claims = to_z-of_z {w = w64} {z = c.section-sum.result} (sfits_of c.section-sum.type_inv) in
     let years = to_z_pos w64 (100 * (c.before.args.k + 1)) (omega (arith, c.before.requires.0)) in
     (rw claims (omega (arith, c.section-sum.ensures.1, c.before.requires.0)), rw years (omega (arith, c.before.requires.0)))
 
@@ -30,9 +30,9 @@ returns : tie.Need-returns
 unfolding tail_allowance
 returns c =
     let s = c.before.before in
-    let claims = to_z-of_z {w = w64} {z = c.before.section-sum.result} (sfits_of c.before.section-sum.type-inv) in
+    let claims = to_z-of_z {w = w64} {z = c.before.section-sum.result} (sfits_of c.before.section-sum.type_inv) in
     let years = to_z_pos w64 (100 * (s.args.k + 1)) (omega (arith, s.requires.0)) in
-    let sum = to_z-of_z {w = w64} {z = c.add.result} (sfits_of c.add.type-inv) in
+    let sum = to_z-of_z {w = w64} {z = c.add.result} (sfits_of c.add.type_inv) in
     sum ∙ c.add.ensures ∙ ap₂ ◌+ℤ◌ (claims ∙ (rw s.requires.1.0 at c.before.section-sum.ensures.0)) years
 
 pub tail-allowance-spec : {M : Type 1} → statement M

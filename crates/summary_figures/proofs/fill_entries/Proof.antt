@@ -49,7 +49,7 @@ returns c =
     let t = three s in
     let p = kept s s.args.starts.provision t.provision in
     let q = kept s s.args.starts.reserve t.reserve in
-    let sum = to_z-of_z {w = w64} {z = c.add.result} (sfits_of c.add.type-inv) in
+    let sum = to_z-of_z {w = w64} {z = c.add.result} (sfits_of c.add.type_inv) in
     rw (sum ∙ c.add.ensures, p, q, kept s s.args.starts.ratio t.ratio, s.requires.1.0)
 
 pub fill-entries-spec : {M : Type 1} → statement M

@@ -9,11 +9,11 @@ use Rattle.table_cells.proofs.cell_length_at.Tie as tie
 
 returns : tie.Need-returns
 returns c =
-    let s = c.before.before.before in
-    let kept = to_z-of_z {w = w64} {z = get_or s.args.values.now s.args.p (pos 0)} (sfits_of c.before.cell-length-arg2.given) in
-    rw kept at c.cell-length.ensures
+    let s = c.before.before.before.before in
+    let kept = to_z-of_z {w = w64} {z = get_or s.args.values.now s.args.p (pos 0)} (sfits_of c.before.cell_length-arg-2-1.given) in
+    rw kept at c.cell_length.ensures
 
-pub cell-length-at-spec : {M : Type 1} → statement M
-cell-length-at-spec =
+pub cell_length_at_spec : {M : Type 1} → statement M
+cell_length_at_spec =
     tie.close
     (tie.spec (λ c. search rules) (λ c. search rules) (λ c. search rules) (λ c κs. search rules) returns)

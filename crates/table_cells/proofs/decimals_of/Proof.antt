@@ -5,15 +5,15 @@ use borrow.Author.Rules.{rules}
 use Rattle.table_cells.proofs.decimals_of.Statement.{statement}
 use Rattle.table_cells.proofs.decimals_of.Tie as tie
 
-returns : tie.Need-returns
+returns : tie.Need-returns-then-style-eq0
 unfolding decimals_of
 returns c = (omega arith, omega arith)
 
-returns-2 : tie.Need-returns-2
+returns-2 : tie.Need-returns-else-style-eq0
 unfolding decimals_of
 returns-2 c = (omega arith, omega arith)
 
-pub decimals-of-spec : {M : Type 1} → statement M
-decimals-of-spec =
+pub decimals_of_spec : {M : Type 1} → statement M
+decimals_of_spec =
     tie.close
     (tie.spec (λ c. search rules) (λ c. search rules) returns returns-2)

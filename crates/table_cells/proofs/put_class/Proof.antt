@@ -12,9 +12,12 @@ use Rattle.table_cells.proofs.put_class.Tie as tie
 
 returns : tie.Need-returns
 unfolding class_names class_name written first_line line_of every passing
-returns c = put_same (line_is class_names (written class_names) c.before.before.before.before.before.before.args.mark refl) c.before.before.put-line.ensures
+returns c = put_same (line_is class_names (written class_names) c.before.before.before.before.before.before.before.args.mark refl) c.before.before.put_line.ensures
 
-pub put-class-spec : {M : Type 1} → statement M
-put-class-spec =
+pub put_class_spec : {M : Type 1} → statement M
+put_class_spec =
     tie.close
-    (tie.spec (λ c. search rules) (λ c κs. search rules) (λ c. search rules) returns)
+    (tie.spec
+    (λ c κs. search rules)
+    (λ c. search rules)
+    returns)

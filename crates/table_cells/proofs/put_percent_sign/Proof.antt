@@ -6,15 +6,15 @@ use borrow.Author.Rules.{rules}
 use Rattle.table_cells.proofs.put_percent_sign.Statement.{statement}
 use Rattle.table_cells.proofs.put_percent_sign.Tie as tie
 
-returns : tie.Need-returns
+returns : tie.Need-returns-then-mark-eq1
 unfolding percent_sign
-returns c = rw (eq-eqb c.before.before.before.before.before.before.args.mark 1 c.before.before.before.before.if1.true) c.before.before.put_byte.ensures
+returns c = rw (eq-eqb c.before.before.before.before.before.before.args.mark 1 c.before.before.before.before.if-mark-eq1.true) c.before.before.put_byte.ensures
 
-returns-2 : tie.Need-returns-2
+returns-2 : tie.Need-returns-else-mark-eq1
 unfolding percent_sign
-returns-2 c = rw (ne_eqb c.before.before.args.mark 1 c.if1.false) (put_none _ _)
+returns-2 c = rw (ne_eqb c.before.before.args.mark 1 c.if-mark-eq1.false) (put_none _ _)
 
-pub put-percent-sign-spec : {M : Type 1} → statement M
-put-percent-sign-spec =
+pub put_percent_sign_spec : {M : Type 1} → statement M
+put_percent_sign_spec =
     tie.close
     (tie.spec (λ c κs. search rules) (λ c. search rules) returns returns-2)

@@ -9,7 +9,7 @@ returns : tie.Need-returns
 unfolding styled
 returns c = refl
 
-pub styled-spec : {M : Type 1} → statement M
-styled-spec =
+pub styled_spec : {M : Type 1} → statement M
+styled_spec =
     tie.close
     (tie.spec (λ c. search rules) (λ c. search rules) (λ c. search rules) returns)

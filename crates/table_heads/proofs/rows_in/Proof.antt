@@ -7,19 +7,19 @@ use borrow.Author.Rules.{rules}
 use Rattle.table_heads.proofs.rows_in.Statement.{statement}
 use Rattle.table_heads.proofs.rows_in.Tie as tie
 
-returns : tie.Need-returns
+returns : tie.Need-returns-then-total-eq0
 unfolding rows_in
 returns c =
     let s = c.before.args in
-    rw (eq-eqb (length s.total.now) 0 c.if1.true) (omega arith)
+    rw (eq-eqb (length s.total.now) 0 c.if-total-eq0.true) (omega arith)
 
-returns-2 : tie.Need-returns-2
+returns-2 : tie.Need-returns-else-total-eq0
 unfolding rows_in
 returns-2 c =
     let s = c.before.before.args in
-    rw (ne_eqb (length s.total.now) 0 c.before.if1.false) (omega arith)
+    rw (ne_eqb (length s.total.now) 0 c.before.if-total-eq0.false) (omega arith)
 
-pub rows-in-spec : {M : Type 1} → statement M
-rows-in-spec =
+pub rows_in_spec : {M : Type 1} → statement M
+rows_in_spec =
     tie.close
     (tie.spec (λ c. search rules) returns returns-2)

@@ -18,44 +18,44 @@ use Rattle.table_width.proofs.measure_of.Tie as tie
 abbrev added : List ℤ → List ℕ → ℕ → ℕ → ℕ → ℕ
 added values styles columns n j = 2 + max 4 (column_places values styles columns n j)
 
-abbrev invariant-loop : tie.invariant-loop
+abbrev invariant-loop : tie.invariant-loop-j
 invariant-loop values styles columns n width₀ j₀ width j = (j ≤ columns) × (width ≡ 6 + total (up_to (added values styles columns n) j)) × (width ≤ 6 + 34 * j)
 
-abbrev decreases-loop : tie.decreases-loop
+abbrev decreases-loop : tie.decreases-loop-j
 decreases-loop values styles columns n width₀ j₀ width j = columns - j
 
-loop-holds : tie.Need-loop-init invariant-loop decreases-loop
+loop-holds : tie.Need-loop-j-init invariant-loop decreases-loop
 loop-holds c = (omega arith, omega (arith, total_none (added c.args.values.now c.args.styles.now c.args.columns c.args.n)), omega arith)
 
-add-width : tie.Need-overflow-add-width invariant-loop decreases-loop
+add-width : tie.Need-overflow_add-width invariant-loop decreases-loop
 add-width c =
     let a = c.before.before.before.before.args in
-    let e = c.larger.ensures ∙ ap (max 4) c.before.column-places.ensures in
-    omega (arith, e, column_most a.values.now a.styles.now a.columns a.n c.before.before.before.loop.j)
+    let e = c.larger.ensures ∙ ap (max 4) c.before.column_places.ensures in
+    omega (arith, e, column_most a.values.now a.styles.now a.columns a.n c.before.before.before.loop-j.j)
 
-add-width-2 : tie.Need-overflow-add-width-2 invariant-loop decreases-loop
+add-width-2 : tie.Need-overflow_add-width-in-loop-j invariant-loop decreases-loop
 add-width-2 c =
     let a = c.before.before.before.before.args in
-    let e = c.larger.ensures ∙ ap (max 4) c.before.column-places.ensures in
-    omega (arith, e, c.before.before.before.loop.invariant.2, column_most a.values.now a.styles.now a.columns a.n c.before.before.before.loop.j, c.before.before.before.before.requires.0)
+    let e = c.larger.ensures ∙ ap (max 4) c.before.column_places.ensures in
+    omega (arith, e, c.before.before.before.loop-j.invariant.2, column_most a.values.now a.styles.now a.columns a.n c.before.before.before.loop-j.j, c.before.before.before.before.requires.0)
 
-loop-again : tie.Need-loop-preserved invariant-loop decreases-loop
+loop-again : tie.Need-loop-j-preserved invariant-loop decreases-loop
 loop-again c =
     let a = c.before.before.before.before.args in
     let f = added a.values.now a.styles.now a.columns a.n in
-    let e = c.larger.ensures ∙ ap (max 4) c.before.column-places.ensures in (
+    let e = c.larger.ensures ∙ ap (max 4) c.before.column_places.ensures in (
       omega arith,
-      rw (add-one c.before.before.before.loop.j) (omega (arith, e, c.before.before.before.loop.invariant.1, total_more f c.before.before.before.loop.j)),
-      omega (arith, e, c.before.before.before.loop.invariant.2, column_most a.values.now a.styles.now a.columns a.n c.before.before.before.loop.j),
+      rw (add-one c.before.before.before.loop-j.j) (omega (arith, e, c.before.before.before.loop-j.invariant.1, total_more f c.before.before.before.loop-j.j)),
+      omega (arith, e, c.before.before.before.loop-j.invariant.2, column_most a.values.now a.styles.now a.columns a.n c.before.before.before.loop-j.j),
     )
 
 returns : tie.Need-returns invariant-loop decreases-loop
 unfolding measure
 returns c =
-    let e : c.before.loop.j ≡ c.before.before.args.columns = omega arith in
-    rw e at c.before.loop.invariant.1
+    let e : c.before.loop-j.j ≡ c.before.before.args.columns = omega arith in
+    rw e at c.before.loop-j.invariant.1
 
-pub measure-of-spec : {M : Type 1} → statement M
-measure-of-spec =
+pub measure_of_spec : {M : Type 1} → statement M
+measure_of_spec =
     tie.close
     (tie.spec invariant-loop decreases-loop loop-holds (λ c κs. search rules) (λ c κs. search rules) add-width add-width-2 (λ c. search rules) (λ c. search rules) loop-again returns)

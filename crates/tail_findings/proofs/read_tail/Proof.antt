@@ -11,19 +11,19 @@ use Rattle.reading.proofs.FiguresRead.{Filled, figures_filled}
 use Rattle.tail_findings.proofs.read_tail.Statement.{statement}
 use Rattle.tail_findings.proofs.read_tail.Tie as tie
 
-abbrev start : tie.After-read → tie.Start
+abbrev start : tie.After-read-opened → tie.Start
 start c = c.before.before.before.before.before.before.before
 
-bytes : (c : tie.After-read) → Fit 8 (start c).args.packed.now
-bytes c i = omega (arith, c.before.before.before.before.before.before.shared-slice-known.given i)
+bytes : (c : tie.After-read-opened) → Fit 8 (start c).args.packed.now
+bytes c i = omega (arith, c.before.before.before.before.before.before.shared_slice_known-1.given i)
 
-arrays : (c : tie.After-read) → Filled (start c).args.packed.now
+arrays : (c : tie.After-read-opened) → Filled (start c).args.packed.now
 arrays c = let s = start c in figures_filled s.args.packed.now (bytes c) s.pre.0 s.pre.1.0
 
 returns : tie.Need-returns
 returns c =
     let s = start c in
-    let read = c.read.ensures in
+    let read = c.read-opened.ensures in
     let held : ℕ → List ℕ → List ℕ = λ i l. sets l 0 (row_read s.args.packed.now i) in (
       read.1.1.1.1.1.1.1 ∙ (arrays c).tail,
       (
@@ -32,5 +32,5 @@ returns c =
       ),
     )
 
-pub read-tail-spec : {M : Type 1} → statement M
-read-tail-spec = tie.close (tie.spec (λ c κs. search rules) returns)
+pub read_tail_spec : {M : Type 1} → statement M
+read_tail_spec = tie.close (tie.spec (λ c κs. search rules) returns)

@@ -7,15 +7,15 @@ use Rattle.rules.specs.Tail.{tail_average}
 use Rattle.tail_findings.proofs.tail_average.Statement.{statement}
 use Rattle.tail_findings.proofs.tail_average.Tie as tie
 
-product : tie.Need-overflow-mul-result-2
-product c = omega (arith, mul-le-mul c.before.requires.1.0 c.before.requires.1.1.1)
+product : tie.Need-overflow_mul-result
+product c = omega (arith, mul-le-mul c.before.before.requires.1.0 c.before.before.requires.1.1.1)
 
 returns : tie.Need-returns
 unfolding tail_average
 returns c = refl
 
-pub tail-average-spec : {M : Type 1} → statement M
-tail-average-spec =
+pub tail_average_spec : {M : Type 1} → statement M
+tail_average_spec =
     tie.close
     (tie.spec
     (λ c. search rules)

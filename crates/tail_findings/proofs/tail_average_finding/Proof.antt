@@ -18,92 +18,92 @@ use Rattle.tail_findings.proofs.tail_average_finding.Tie as tie
 run : (s : tie.Start) → passed.Late s.args.year s.args.packed.now
 run s = answered s.args.year s.args.packed.now 19 (omega arith) s.requires
 
-read-tail-requires : tie.Need-read-tail-requires
+read-tail-requires : tie.Need-read_tail-tail-requires
 read-tail-requires c κs =
     let s = c.before.before.before in
     (passed.opening s.args.year s.args.packed.now (run s), (passed.fields s.args.year s.args.packed.now (run s), (refl, refl)))
 
-abbrev start : tie.After-read-tail → tie.Start
+abbrev start : tie.After-read_tail-tail → tie.Start
 start c = c.before.before.before.before
 
-abbrev F : tie.After-read-tail → Figures
+abbrev F : tie.After-read_tail-tail → Figures
 F c = figures_of (start c).args.packed.now
 
-good : (c : tie.After-read-tail) → Sound (F c)
+good : (c : tie.After-read_tail-tail) → Sound (F c)
 good c =
     let s = start c in
-    passed.sound s.args.year s.args.packed.now (run s) (λ i. omega (arith, c.before.before.before.shared-slice-known.given i))
+    passed.sound s.args.year s.args.packed.now (run s) (λ i. omega (arith, c.before.before.before.shared_slice_known-1.given i))
 
-first-tail-average-requires : tie.Need-first-tail-average-requires
+first-tail-average-requires : tie.Need-first_tail_average-first-requires
 first-tail-average-requires c κs =
     let at = c.before in
-    let read = at.read-tail.ensures in
+    let read = at.read_tail-tail.ensures in
     rw (read.0, read.1.0) ((good at).tail, (good at).exposures 0 (omega arith))
 
 -- t_0, which question 18 has passed
-average : (c : tie.After-first-tail-average) → c.first-tail-average.result ≡ first_tail_average_of (F c.before.before)
+average : (c : tie.After-first_tail_average-first) → c.first_tail_average-first.result ≡ first_tail_average_of (F c.before.before)
 average c =
     let at = c.before.before in
-    let read = at.read-tail.ensures in
-    c.first-tail-average.ensures ∙ average_is (F at) _ _ read.0 read.1.0
+    let read = at.read_tail-tail.ensures in
+    c.first_tail_average-first.ensures ∙ average_is (F at) _ _ read.0 read.1.0
 
-low : (c : tie.After-first-tail-average) → first_tail_average_of (F c.before.before) ≤ billion
+low : (c : tie.After-first_tail_average-first) → first_tail_average_of (F c.before.before) ≤ billion
 low c =
     let at = c.before.before in
     let s = start at in
     average_low (F at) (tail_yes s.args.year s.args.packed.now 19 refl s.pre)
 
-last-year-of-requires : tie.Need-last-year-of-requires
+last-year-of-requires : tie.Need-last_year_of-requires
 last-year-of-requires c κs =
     let s = start c.before.before in
     passed.some s.args.year s.args.packed.now (run s)
 
-last-year : (c : tie.After-last-year-of) → c.last-year-of.result ≡ (F c.before.before.before).k
+last-year : (c : tie.After-last_year_of) → c.last_year_of.result ≡ (F c.before.before.before).k
 unfolding figures_of
-last-year c = c.last-year-of.ensures.0
+last-year c = c.last_year_of.ensures.0
 
-first-over-requires : tie.Need-first-over-requires
+first-over-requires : tie.Need-first_over-i-requires
 first-over-requires c κs =
     let first = c.before.before in
     let at = first.before.before in
-    let read = at.read-tail.ensures in
-    (c.before.last-year-of.ensures.1, (rw (average first) (low first), rw read.1.1 ((good at).first_index, (good at).indices)))
+    let read = at.read_tail-tail.ensures in
+    (c.before.last_year_of.ensures.1, (rw (average first) (low first), rw read.1.1 ((good at).first_index, (good at).indices)))
 
 -- the year that is named
-abbrev years : tie.After-first-over → tie.After-last-year-of
+abbrev years : tie.After-first_over-i → tie.After-last_year_of
 years c = c.before.before
 
-over : (c : tie.After-first-over) → c.first-over.result ≡ first_average_over (F (years c).before.before.before)
+over : (c : tie.After-first_over-i) → c.first_over-i.result ≡ first_average_over (F (years c).before.before.before)
 over c =
     let first = (years c).before in
     let at = first.before.before in
-    c.first-over.ensures ∙ year_is (F at) _ _ _ (last-year (years c)) (average first) at.read-tail.ensures.1.1
+    c.first_over-i.ensures ∙ year_is (F at) _ _ _ (last-year (years c)) (average first) at.read_tail-tail.ensures.1.1
 
-few : (c : tie.After-first-over) → c.first-over.result < 16
+few : (c : tie.After-first_over-i) → c.first_over-i.result < 16
 few c =
     let at = (years c).before.before.before in
     let s = start at in
     omega (arith, over c, over_year (F at) (tails_no s.args.year s.args.packed.now s.pre), (good at).few)
 
-tail-average-requires : tie.Need-tail-average-requires
+tail-average-requires : tie.Need-tail_average-requires
 tail-average-requires c κs =
     let first = (years c.before).before in
     let at = first.before.before in
-    let read = at.read-tail.ensures in
-    (few c.before, (rw (average first) (low first), rw read.1.1 ((good at).first_index, (good at).indices c.before.first-over.result)))
+    let read = at.read_tail-tail.ensures in
+    (few c.before, (rw (average first) (low first), rw read.1.1 ((good at).first_index, (good at).indices c.before.first_over-i.result)))
 
-mul-of-naturals : tie.Need-overflow-mul-of-naturals
+mul-of-naturals : tie.Need-offset_bounds-indices-i
 mul-of-naturals c = omega (arith, few c.before.before)
 
-array-read-of-naturals : tie.Need-array-read-of-naturals
+array-read-of-naturals : tie.Need-bounds-indices-i
 array-read-of-naturals c = few c.before.before
 
-of-naturals-requires : tie.Need-of-naturals-requires
+of-naturals-requires : tie.Need-of_naturals-requires
 of-naturals-requires c κs =
     let i = c.before.before in
     let first = (years i).before in
     let at = first.before.before in
-    carried_fits (F at) (good at) _ _ i.first-over.result _ (average first) at.read-tail.ensures.1.1 (low first) c.tail-average.ensures
+    carried_fits (F at) (good at) _ _ i.first_over-i.result _ (average first) at.read_tail-tail.ensures.1.1 (low first) c.tail_average.ensures
 
 returns : tie.Need-returns
 returns c =
@@ -111,14 +111,14 @@ returns c =
     let i = at.before.before in
     let first = (years i).before in
     let read = first.before.before in
-    let made = c.of-naturals.ensures in
-    let same = carried_is (F read) _ _ _ _ (last-year (years i)) (average first) read.read-tail.ensures.1.1 i.first-over.ensures in (
-      made ∙ rw at.tail-average.ensures same,
+    let made = c.of_naturals.ensures in
+    let same = carried_is (F read) _ _ _ _ (last-year (years i)) (average first) read.read_tail-tail.ensures.1.1 i.first_over-i.ensures in (
+      made ∙ rw at.tail_average.ensures same,
       (rw made (few i), rw made (omega arith)),
     )
 
-pub tail-average-finding-spec : {M : Type 1} → statement M
-tail-average-finding-spec =
+pub tail_average_finding_spec : {M : Type 1} → statement M
+tail_average_finding_spec =
     tie.close
     (tie.spec
     read-tail-requires

@@ -4,13 +4,13 @@ use borrow.Author.Rules.{rules}
 use Rattle.text_cells.proofs.filled_after.Statement.{statement}
 use Rattle.text_cells.proofs.filled_after.Tie as tie
 
-returns : tie.Need-returns
-returns c = rw (eq-eqb c.before.args.style 0 c.if1.true)
+returns : tie.Need-returns-then-style-eq0
+returns c = rw (eq-eqb c.before.args.style 0 c.if-style-eq0.true)
 
-returns-2 : tie.Need-returns-2
-returns-2 c = rw (ne_eqb c.before.args.style 0 c.if1.false)
+returns-2 : tie.Need-returns-else-style-eq0
+returns-2 c = rw (ne_eqb c.before.args.style 0 c.if-style-eq0.false)
 
-pub filled-after-spec : {M : Type 1} → statement M
-filled-after-spec =
+pub filled_after_spec : {M : Type 1} → statement M
+filled_after_spec =
     tie.close
     (tie.spec (λ c. search rules) returns returns-2)

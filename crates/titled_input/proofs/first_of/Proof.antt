@@ -8,10 +8,10 @@ use Rattle.titled_input.proofs.first_of.Tie as tie
 
 returns : tie.Need-returns
 unfolding first_in pair_at
-returns c = (omega (arith, c.before.byte_at.ensures.0, c.byte-at2.ensures.0), omega (arith, c.before.byte_at.ensures.1, c.byte-at2.ensures.1))
+returns c = (omega (arith, c.before.byte_at-high.ensures.0, c.byte_at-low.ensures.0), omega (arith, c.before.byte_at-high.ensures.1, c.byte_at-low.ensures.1))
 
-pub first-of-spec : {M : Type 1} → statement M
-first-of-spec =
+pub first_of_spec : {M : Type 1} → statement M
+first_of_spec =
     tie.close
     (tie.spec
     (λ c κs. search rules)

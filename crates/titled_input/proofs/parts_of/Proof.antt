@@ -12,10 +12,10 @@ returns c =
     let t = z.before in
     let size = t.before in
     let title = size.before in
-    split_here title.before.before.args.input.now t.smaller.result z.smaller2.result r.smaller3.result c.smaller4.result _ size.byte-at2.result (omega (arith, title.byte_at.ensures.0)) (omega (arith, title.byte_at.ensures.0, title.byte_at.ensures.1)) (rw title.byte_at.ensures.0 at size.byte-at2.ensures.0) size.byte-at2.ensures.1 t.smaller.ensures z.smaller2.ensures r.smaller3.ensures c.smaller4.ensures
+    split_here title.before.before.args.input.now t.smaller.result z.smaller-2.result r.smaller-3.result c.smaller-4.result _ size.byte_at-size.result (omega (arith, title.byte_at-end.ensures.0)) (omega (arith, title.byte_at-end.ensures.0, title.byte_at-end.ensures.1)) (rw title.byte_at-end.ensures.0 at size.byte_at-size.ensures.0) size.byte_at-size.ensures.1 t.smaller.ensures z.smaller-2.ensures r.smaller-3.ensures c.smaller-4.ensures
 
-pub parts-of-spec : {M : Type 1} → statement M
-parts-of-spec =
+pub parts_of_spec : {M : Type 1} → statement M
+parts_of_spec =
     tie.close
     (tie.spec
     (λ c κs. search rules)

@@ -5,33 +5,30 @@ use borrow.Author.Rules.{rules}
 use Rattle.titles.proofs.put_escaped.Statement.{statement}
 use Rattle.titles.proofs.put_escaped.Tie as tie
 
-returns : tie.Need-returns
+returns : tie.Need-returns-then-b-eq38
 unfolding escaped_byte
-returns c = rw (eq-eqb c.before.before.before.before.before.before.before.args.b 38 c.before.before.before.before.before.if1.true) c.before.before.put-bytes.ensures
+returns c = rw (eq-eqb c.before.before.before.before.before.before.before.before.args.b 38 c.before.before.before.before.before.before.if-b-eq38.true) c.before.before.put_bytes.ensures
 
-returns-2 : tie.Need-returns-2
+returns-2 : tie.Need-returns-then-b-eq60
 unfolding escaped_byte
-returns-2 c = rw (ne_eqb c.before.before.before.before.before.before.before.before.args.b 38 c.before.before.before.before.before.before.if1.false, eq-eqb c.before.before.before.before.before.before.before.before.args.b 60 c.before.before.before.before.before.if2.true) c.before.before.put-bytes2.ensures
+returns-2 c = rw (ne_eqb c.before.before.before.before.before.before.before.before.before.args.b 38 c.before.before.before.before.before.before.before.if-b-eq38.false, eq-eqb c.before.before.before.before.before.before.before.before.before.args.b 60 c.before.before.before.before.before.before.if-b-eq60.true) c.before.before.put_bytes-then-b-eq60.ensures
 
-returns-3 : tie.Need-returns-3
+returns-3 : tie.Need-returns-then-b-eq62
 unfolding escaped_byte
-returns-3 c = rw (ne_eqb c.before.before.before.before.before.before.before.before.before.args.b 38 c.before.before.before.before.before.before.before.if1.false, ne_eqb c.before.before.before.before.before.before.before.before.before.args.b 60 c.before.before.before.before.before.before.if2.false, eq-eqb c.before.before.before.before.before.before.before.before.before.args.b 62 c.before.before.before.before.before.if3.true) c.before.before.put-bytes3.ensures
+returns-3 c = rw (ne_eqb c.before.before.before.before.before.before.before.before.before.before.args.b 38 c.before.before.before.before.before.before.before.before.if-b-eq38.false, ne_eqb c.before.before.before.before.before.before.before.before.before.before.args.b 60 c.before.before.before.before.before.before.before.if-b-eq60.false, eq-eqb c.before.before.before.before.before.before.before.before.before.before.args.b 62 c.before.before.before.before.before.before.if-b-eq62.true) c.before.before.put_bytes-then-b-eq62.ensures
 
-returns-4 : tie.Need-returns-4
+returns-4 : tie.Need-returns-else-b-eq62
 unfolding escaped_byte
 returns-4 c =
-    rw (ne_eqb c.before.before.before.before.before.before.before.before.before.args.b 38 c.before.before.before.before.before.before.before.if1.false, ne_eqb c.before.before.before.before.before.before.before.before.before.args.b 60 c.before.before.before.before.before.before.if2.false, ne_eqb c.before.before.before.before.before.before.before.before.before.args.b 62 c.before.before.before.before.before.if3.false)
+    rw (ne_eqb c.before.before.before.before.before.before.before.before.before.args.b 38 c.before.before.before.before.before.before.before.if-b-eq38.false, ne_eqb c.before.before.before.before.before.before.before.before.before.args.b 60 c.before.before.before.before.before.before.if-b-eq60.false, ne_eqb c.before.before.before.before.before.before.before.before.before.args.b 62 c.before.before.before.before.before.if-b-eq62.false)
     (rw c.before.before.before.plain_byte.ensures at c.before.before.put_byte.ensures)
 
-pub put-escaped-spec : {M : Type 1} → statement M
-put-escaped-spec =
+pub put_escaped_spec : {M : Type 1} → statement M
+put_escaped_spec =
     tie.close
     (tie.spec
-    (λ c. search rules)
     (λ c κs. search rules)
-    (λ c. search rules)
     (λ c κs. search rules)
-    (λ c. search rules)
     (λ c κs. search rules)
     (λ c κs. search rules)
     (λ c κs. search rules)

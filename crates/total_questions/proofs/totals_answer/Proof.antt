@@ -4,7 +4,6 @@ use mathlib.Core.Bool.{true}
 use Prim.Native.Nat.{ℕ, ◌≤◌}
 use native.Mathlib.Omega.{arith}
 use borrow.Author.Rules.{rules}
-use borrow.Author.Tests.{not-true, not-false}
 use mathlib.Core.List.{List}
 use lib.Dec.{eqb}
 use lib.IntN.{ℤ, pos, nat_abs}
@@ -22,7 +21,7 @@ use Rattle.total_questions.proofs.TotalQuestions.{seven, answer_seven, answer_ei
 use Rattle.total_questions.proofs.totals_answer.Statement.{statement}
 use Rattle.total_questions.proofs.totals_answer.Tie as tie
 
-add-totals-pass : tie.Need-overflow-add-totals-pass
+add-totals-pass : tie.Need-overflow_add-k
 add-totals-pass c = search rules
 
 -- q is a square whose totals these are; there is one
@@ -40,38 +39,38 @@ column_most : (s : List (List ℤ)) → Cells s → (j : ℕ) → nat_abs (colum
 unfolding column_total
 column_most s cells j = cells_size s cells (λ r c. eqb c j)
 
-totals-pass-requires : tie.Need-totals-pass-requires
+totals-pass-requires : tie.Need-totals_pass-requires
 totals-pass-requires c κs =
     let s = c.before.before in
     let one = s.requires.1.0 in
     (omega arith, (λ i l. rw (column_at s one.0 one.1 i (omega arith)) (column_most one.0 one.1.cells i), (s.requires.1.1.0, s.requires.1.1.1.0)))
 
 -- what question 7 answers
-abbrev start : tie.After-totals-pass → tie.Start
+abbrev start : tie.After-totals_pass → tie.Start
 start c = c.before.before.before
 
-asked : (c : tie.After-totals-pass) (q : List (List ℤ)) → Whose (start c) q → c.totals-pass.result ≡ totals_pass q (start c).args.k
+asked : (c : tie.After-totals_pass) (q : List (List ℤ)) → Whose (start c) q → c.totals_pass.result ≡ totals_pass q (start c).args.k
 asked c q of =
     let s = start c in
-    c.totals-pass.ensures.0
+    c.totals_pass.ensures.0
     ∙ seven q s.args.k s.pre.0 of.outside s.args.columns.now s.args.diagonals.now (column_at s q of) (diagonal_at s q of)
 
-returns : tie.Need-returns
+returns : tie.Need-returns-then-not-totals_pass
 returns c =
     record {
-      number = λ q of. answer_seven q _ (sym (asked c.before q of) ∙ not-true _ c.if1.true);
+      number = λ q of. answer_seven q _ (sym (asked c.before q of) ∙ c.if-not-totals_pass.true);
       sizes = λ q of z. absurd (omega arith);
       corners = λ q of z. absurd (omega arith);
       ready = λ z. absurd (omega arith);
     }
 
 -- where it says yes, the lists hold the sizes of the totals
-totals : (c : tie.Else1) (q : List (List ℤ)) → Whose (start c.before) q → TotalsOf q (start c.before).args.k c.before.totals-pass.new.1.1.1.0 c.before.totals-pass.new.1.1.1.1.0
+totals : (c : tie.Else-not-totals_pass) (q : List (List ℤ)) → Whose (start c.before) q → TotalsOf q (start c.before).args.k c.before.totals_pass.new.d.1.1.0 c.before.totals_pass.new.d.1.1.1.0
 unfolding column_of diagonal_of
 totals c q of =
     let s = start c.before in
-    let pass = not-false _ c.if1.false in
-    let sizes = c.before.totals-pass.ensures.1 pass in
+    let pass = c.if-not-totals_pass.false in
+    let sizes = c.before.totals_pass.ensures.1 pass in
     record {
       few = s.pre.0;
       outside = of.outside;
@@ -81,48 +80,48 @@ totals c q of =
     }
 
 -- those of the one square
-abbrev some : (c : tie.Else1) → TotalsOf (start c.before).requires.1.0.0 (start c.before).args.k c.before.totals-pass.new.1.1.1.0 c.before.totals-pass.new.1.1.1.1.0
+abbrev some : (c : tie.Else-not-totals_pass) → TotalsOf (start c.before).requires.1.0.0 (start c.before).args.k c.before.totals_pass.new.d.1.1.0 c.before.totals_pass.new.d.1.1.1.0
 some c = totals c (start c.before).requires.1.0.0 (start c.before).requires.1.0.1
 
-diagonals_most : (c : tie.Else1) (i : ℕ) → i ≤ (start c.before).args.k → get_or c.before.totals-pass.new.1.1.1.1.0 i 0 ≤ billion
+diagonals_most : (c : tie.Else-not-totals_pass) (i : ℕ) → i ≤ (start c.before).args.k → get_or c.before.totals_pass.new.d.1.1.1.0 i 0 ≤ billion
 diagonals_most c i l =
     let s = start c.before in
     let of = some c in
     rw (of.diagonal i l) (diagonal_most s.pre.1.0.0 s.args.k s.pre.0 of.outside of.pass i l)
 
-fill-corners-requires : tie.Need-fill-corners-requires
+fill-corners-requires : tie.Need-fill_corners-requires
 fill-corners-requires c κs =
     let at = c.before.before.before in
     let s = start at.before in
     (s.pre.0, (diagonals_most at, s.pre.1.1.1.1))
 
 -- what question 8 answers
-abbrev passed : tie.After-fill-corners → tie.Else1
+abbrev passed : tie.After-fill_corners → tie.Else-not-totals_pass
 passed c = c.before.before.before.before
 
-returns-2 : tie.Need-returns-2
+returns-2 : tie.Need-returns-then-not-fill_corners
 returns-2 c =
     let at = passed c.before in
     record {
       number = λ q of.
           let summed = totals at q of in
-          answer_eight q _ summed.pass (sym (c.before.fill-corners.ensures q summed).0 ∙ not-true _ c.if2.true);
+          answer_eight q _ summed.pass (sym (c.before.fill_corners.ensures q summed).0 ∙ c.if-not-fill_corners.true);
       sizes = λ q of z. absurd (omega arith);
       corners = λ q of z. absurd (omega arith);
       ready = λ z. absurd (omega arith);
     }
 
 -- where it says yes, the list holds the totals T
-abbrev begun : tie.Else2 → tie.Start
+abbrev begun : tie.Else-not-fill_corners → tie.Start
 begun c = start (passed c.before).before
 
-yes-eight : (c : tie.Else2) (q : List (List ℤ)) → Whose (begun c) q → rests_pass q (begun c).args.k ≡ true
-yes-eight c q of = sym (c.before.fill-corners.ensures q (totals (passed c.before) q of)).0 ∙ not-false _ c.if2.false
+yes-eight : (c : tie.Else-not-fill_corners) (q : List (List ℤ)) → Whose (begun c) q → rests_pass q (begun c).args.k ≡ true
+yes-eight c q of = sym (c.before.fill_corners.ensures q (totals (passed c.before) q of)).0 ∙ c.if-not-fill_corners.false
 
-corners-found : (c : tie.Else2) (q : List (List ℤ)) → Whose (begun c) q → CornersOf q (begun c).args.k c.before.fill-corners.new.1.1.1.0
-corners-found c q of = (c.before.fill-corners.ensures q (totals (passed c.before) q of)).1 (not-false _ c.if2.false)
+corners-found : (c : tie.Else-not-fill_corners) (q : List (List ℤ)) → Whose (begun c) q → CornersOf q (begun c).args.k c.before.fill_corners.new.diagonals.1.1.0
+corners-found c q of = (c.before.fill_corners.ensures q (totals (passed c.before) q of)).1 (c.if-not-fill_corners.false)
 
-returns-3 : tie.Need-returns-3
+returns-3 : tie.Need-returns
 returns-3 c =
     let at = passed c.before in
     let one = (begun c).requires.1.0 in
@@ -133,8 +132,8 @@ returns-3 c =
       ready = λ z. ready one.0 (begun c).args.k _ _ _ (some at) (yes-eight c one.0 one.1) (corners-found c one.0 one.1);
     }
 
-pub totals-answer-spec : {M : Type 1} → statement M
-totals-answer-spec =
+pub totals_answer_spec : {M : Type 1} → statement M
+totals_answer_spec =
     tie.close
     (tie.spec
     add-totals-pass

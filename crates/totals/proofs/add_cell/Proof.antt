@@ -12,29 +12,29 @@ use Rattle.totals.proofs.SoFar.{added}
 use Rattle.totals.proofs.add_cell.Statement.{statement}
 use Rattle.totals.proofs.add_cell.Tie as tie
 
-diagonal-of-requires : tie.Need-diagonal-of-requires
+diagonal-of-requires : tie.Need-diagonal_of-h-requires
 diagonal-of-requires c κs = search rules
 
 -- the cell as it was read
 read : (s : tie.Start) → held s.args.cell ≡ s.args.cell
 read s = to_z-of_z s.ranges.cell
 
-add-to-requires : tie.Need-add-to-requires
+add-to-requires : tie.Need-add_to-requires
 add-to-requires c κs = let s = c.before.before in (omega arith, (rw (read s) s.requires.1.0, s.requires.1.1.0))
 
-add-to-requires-2 : tie.Need-add-to-requires-2
+add-to-requires-2 : tie.Need-add_to-requires-2
 add-to-requires-2 c κs = let s = c.before.before.before.before in (omega arith, (rw (read s) s.requires.1.0, s.requires.1.1.1))
 
 -- the totals with the cell
-columns-are : (c : tie.After-add-to2) →
+columns-are : (c : tie.After-add_to-2) →
     let s = c.before.before.before.before.before in
-    c.before.before.add-to.new.0 ≡ set s.args.columns.now s.args.j (get_or s.args.columns.now s.args.j (pos 0) +ℤ s.args.cell)
-columns-are c = rw (read c.before.before.before.before.before) at c.before.before.add-to.ensures
+    c.before.before.add_to.new.totals ≡ set s.args.columns.now s.args.j (get_or s.args.columns.now s.args.j (pos 0) +ℤ s.args.cell)
+columns-are c = rw (read c.before.before.before.before.before) at c.before.before.add_to.ensures
 
-diagonals-are : (c : tie.After-add-to2) →
+diagonals-are : (c : tie.After-add_to-2) →
     let s = c.before.before.before.before.before in
-    c.add-to2.new.0 ≡ set s.args.diagonals.now (s.args.i + s.args.j) (get_or s.args.diagonals.now (s.args.i + s.args.j) (pos 0) +ℤ s.args.cell)
-diagonals-are c = let at = c.before.before.before.before.diagonal-of.ensures in rw (read c.before.before.before.before.before, at) at c.add-to2.ensures
+    c.add_to-2.new.totals ≡ set s.args.diagonals.now (s.args.i + s.args.j) (get_or s.args.diagonals.now (s.args.i + s.args.j) (pos 0) +ℤ s.args.cell)
+diagonals-are c = let at = c.before.before.before.before.diagonal_of-h.ensures in rw (read c.before.before.before.before.before, at) at c.add_to-2.ensures
 
 returns : tie.Need-returns
 unfolding column_total diagonal_total
@@ -50,8 +50,8 @@ returns c =
       ),
     )
 
-pub add-cell-spec : {M : Type 1} → statement M
-add-cell-spec =
+pub add_cell_spec : {M : Type 1} → statement M
+add_cell_spec =
     tie.close
     (tie.spec
     diagonal-of-requires

@@ -15,34 +15,34 @@ use Rattle.totals.proofs.SoFar.{row_end, totals_small}
 use Rattle.totals.proofs.add_row.Statement.{statement}
 use Rattle.totals.proofs.add_row.Tie as tie
 
-abbrev invariant-loop : tie.invariant-loop
+abbrev invariant-loop : tie.invariant-loop-j
 invariant-loop rows first k i columns₀ diagonals₀ at count j₀ columns diagonals j = (j ≤ count) × TotalsSoFar (cut_of rows first k) i j columns diagonals
 
-abbrev decreases-loop : tie.decreases-loop
+abbrev decreases-loop : tie.decreases-loop-j
 decreases-loop rows first k i columns₀ diagonals₀ at count j₀ columns diagonals j = count - j
 
-add_at : tie.Need-overflow-add-at invariant-loop decreases-loop
+add_at : tie.Need-overflow_add-at invariant-loop decreases-loop
 add_at c = search rules
 
-add-count : tie.Need-overflow-add-count invariant-loop decreases-loop
+add-count : tie.Need-overflow_add-count invariant-loop decreases-loop
 add-count c = search rules
 
-sub-count : tie.Need-overflow-sub-count invariant-loop decreases-loop
+sub-count : tie.Need-overflow_sub-count invariant-loop decreases-loop
 sub-count c = search rules
 
-loop-holds : tie.Need-loop-init invariant-loop decreases-loop
+loop-holds : tie.Need-loop-j-init invariant-loop decreases-loop
 loop-holds c = (omega arith, c.requires.1.1.1)
 
-mul-add-cell : tie.Need-overflow-mul-add-cell invariant-loop decreases-loop
+mul-add-cell : tie.Need-offset_bounds-rows-at invariant-loop decreases-loop
 mul-add-cell c = search rules
 
-mul-add-cell-2 : tie.Need-overflow-mul-add-cell-2 invariant-loop decreases-loop
+mul-add-cell-2 : tie.Need-offset_bounds-rows-j invariant-loop decreases-loop
 mul-add-cell-2 c = search rules
 
-index-1-add-cell : tie.Need-bounds-1-add-cell invariant-loop decreases-loop
+index-1-add-cell : tie.Need-bounds-rows-at invariant-loop decreases-loop
 index-1-add-cell c = search rules
 
-index-2-add-cell : tie.Need-bounds-2-add-cell invariant-loop decreases-loop
+index-2-add-cell : tie.Need-bounds-rows-j invariant-loop decreases-loop
 index-2-add-cell c = search rules
 
 -- the cell as it was read
@@ -50,10 +50,10 @@ cell-read : (s : tie.Start invariant-loop decreases-loop) (j : ℕ) → held (ge
 unfolding cell_of
 cell-read s j = to_z-of_z (size_fits (cell_of s.args.rows.now (s.args.first + s.args.i) j) (omega (arith, s.requires.0.0 (s.args.first + s.args.i) j)))
 
-add-cell-requires : tie.Need-add-cell-requires invariant-loop decreases-loop
+add-cell-requires : tie.Need-add_cell-requires invariant-loop decreases-loop
 add-cell-requires c κs =
     let s = c.before.before.before.before.before in
-    let l = c.before.before.before.before.loop in
+    let l = c.before.before.before.before.loop-j in
     let square = cut_of s.args.rows.now s.args.first s.args.k in (
       omega arith,
       (
@@ -62,29 +62,29 @@ add-cell-requires c κs =
       ),
     )
 
-add-j : tie.Need-overflow-add-j invariant-loop decreases-loop
+add-j : tie.Need-overflow_step-j invariant-loop decreases-loop
 add-j c = search rules
 
-loop-less : tie.Need-loop-smaller invariant-loop decreases-loop
+loop-less : tie.Need-loop-j-smaller invariant-loop decreases-loop
 loop-less c = search rules
 
-loop-again : tie.Need-loop-preserved invariant-loop decreases-loop
+loop-again : tie.Need-loop-j-preserved invariant-loop decreases-loop
 loop-again c =
     let at = c.before.before.before.before.before in
     let s = at.before in
     let square = cut_of s.args.rows.now s.args.first s.args.k in
-    let cell = cut_inside s.args.rows.now s.args.first s.args.k s.args.i at.loop.j (omega arith) in
-    (omega arith, c.add-cell.ensures.1.1 square (cell ∙ sym (cell-read s at.loop.j)) at.loop.invariant.1)
+    let cell = cut_inside s.args.rows.now s.args.first s.args.k s.args.i at.loop-j.j (omega arith) in
+    (omega arith, c.add_cell.ensures.1.1 square (cell ∙ sym (cell-read s at.loop-j.j)) at.loop-j.invariant.1)
 
 returns : tie.Need-returns invariant-loop decreases-loop
 returns c =
     let s = c.before.before in
     let square = cut_of s.args.rows.now s.args.first s.args.k in
-    let e : c.before.loop.j ≡ s.args.k + 1 - s.args.i = omega arith in
-    rw (e, row_end square s.args.k (cut_outside s.args.rows.now s.args.first s.args.k) s.args.i) at c.before.loop.invariant.1
+    let e : c.before.loop-j.j ≡ s.args.k + 1 - s.args.i = omega arith in
+    rw (e, row_end square s.args.k (cut_outside s.args.rows.now s.args.first s.args.k) s.args.i) at c.before.loop-j.invariant.1
 
-pub add-row-spec : {M : Type 1} → statement M
-add-row-spec =
+pub add_row_spec : {M : Type 1} → statement M
+add_row_spec =
     tie.close
     (tie.spec
     invariant-loop

@@ -6,18 +6,18 @@ use Rattle.totals_row.specs.Totals.{total_value}
 use Rattle.totals_row.proofs.total_value.Statement.{statement}
 use Rattle.totals_row.proofs.total_value.Tie as tie
 
-column-sum-requires : tie.Need-column-sum-requires
+column-sum-requires : tie.Need-column_sum-requires
 column-sum-requires c κs = c.before.before.requires
 
-returns : tie.Need-returns
+returns : tie.Need-returns-then-has_total
 unfolding total_value
-returns c = rw (sym c.before.before.has-total.ensures ∙ c.before.if1.true) (to_z-of_z (sfits_of c.column-sum.type-inv) ∙ c.column-sum.ensures)
+returns c = rw (sym c.before.before.has_total.ensures ∙ c.before.if-has_total.true) (to_z-of_z (sfits_of c.column_sum.type_inv) ∙ c.column_sum.ensures)
 
-returns-2 : tie.Need-returns-2
+returns-2 : tie.Need-returns-else-has_total
 unfolding total_value
-returns-2 c = rw (sym c.before.has-total.ensures ∙ c.if1.false)
+returns-2 c = rw (sym c.before.has_total.ensures ∙ c.if-has_total.false)
 
-pub total-value-spec : {M : Type 1} → statement M
-total-value-spec =
+pub total_value_spec : {M : Type 1} → statement M
+total_value_spec =
     tie.close
     (tie.spec (λ c κs. search rules) column-sum-requires returns returns-2)

@@ -23,10 +23,10 @@ use Rattle.triangle.proofs.row_passes.Tie as tie
 abbrev passes : ℕ → List ℤ → ℕ → ℕ → Bool
 passes k p i j = le_z (pos 0) (cumulative_of k p i j) && le_z (cumulative_of k p i j) (pos most_cumulative)
 
-abbrev invariant-loop : tie.invariant-loop
+abbrev invariant-loop : tie.invariant-loop-j
 invariant-loop increments k i at sum₀ count j₀ sum j = (j ≤ count) × (sum ≡ of_z w64 (sum_to (paid_of k increments i) j)) × (every (passes k increments i) (below j) ≡ true)
 
-abbrev decreases-loop : tie.decreases-loop
+abbrev decreases-loop : tie.decreases-loop-j
 decreases-loop increments k i at sum₀ count j₀ sum j = count - j
 
 -- the row's increments stand in the array
@@ -38,86 +38,86 @@ fails : (s : tie.Start invariant-loop decreases-loop) (j : ℕ) → j < s.args.k
 unfolding row_passes
 fails s j h e = sym (fails_at (passes s.args.k s.args.increments.now s.args.i) (λ (j : ℕ). j) (s.args.k + 1 - s.args.i) j h e)
 
-add-count : tie.Need-overflow-add-count invariant-loop decreases-loop
+add-count : tie.Need-overflow_add-count invariant-loop decreases-loop
 add-count c = omega arith
 
-sub-count : tie.Need-overflow-sub-count invariant-loop decreases-loop
+sub-count : tie.Need-overflow_sub-count invariant-loop decreases-loop
 sub-count c = omega arith
 
-loop-holds : tie.Need-loop-init invariant-loop decreases-loop
+loop-holds : tie.Need-loop-j-init invariant-loop decreases-loop
 unfolding sum_to up_to every
 loop-holds c = (omega arith, refl, refl)
 
-add-sum : tie.Need-overflow-add-sum invariant-loop decreases-loop
+add-sum : tie.Need-overflow_add-sum invariant-loop decreases-loop
 add-sum c = omega (arith, room c.before.before)
 
-mul-sum : tie.Need-overflow-mul-sum invariant-loop decreases-loop
+mul-sum : tie.Need-offset_bounds-increments-at invariant-loop decreases-loop
 mul-sum c = omega (arith, room c.before.before)
 
-element-copy-out-sum : tie.Need-element-copy-out-sum invariant-loop decreases-loop
+element-copy-out-sum : tie.Need-bounds-increments-at invariant-loop decreases-loop
 element-copy-out-sum c = omega (arith, room c.before.before)
 
-add-sum-2 : tie.Need-overflow-add-sum-2 invariant-loop decreases-loop
+add-sum-2 : tie.Need-overflow_add-sum-in-loop-j invariant-loop decreases-loop
 add-sum-2 c =
     let s = c.before.before.before in
-    let l = c.before.before.loop in
-    more_fits s.args.k s.args.increments.now s.args.i s.requires.0 s.args.at s.requires.1.1.1 l.j l.sum (omega arith) l.invariant.1
+    let l = c.before.before.loop-j in
+    more_fits s.args.k s.args.increments.now s.args.i s.requires.0 s.args.at s.requires.1.1.1 l.j l.sum-bits (omega arith) l.invariant.1
 
 -- the cumulative with one increment more, and what the code holds of it
-abbrev sum : tie.After-sum invariant-loop decreases-loop → ℤ
+abbrev sum : tie.After-sum-1 invariant-loop decreases-loop → ℤ
 sum c =
     let s = c.before.before.before in
-    cumulative_of s.args.k s.args.increments.now s.args.i c.before.before.loop.j
+    cumulative_of s.args.k s.args.increments.now s.args.i c.before.before.loop-j.j
 
-sum_read : (c : tie.After-sum invariant-loop decreases-loop)
-    → held (to_z w64 c.before.before.loop.sum +ℤ held (get_or c.before.before.before.args.increments.now (c.before.before.before.args.at + c.before.before.loop.j) (pos 0)))
+sum_read : (c : tie.After-sum-1 invariant-loop decreases-loop)
+    → held (to_z w64 c.before.before.loop-j.sum-bits +ℤ held (get_or c.before.before.before.args.increments.now (c.before.before.before.args.at + c.before.before.loop-j.j) (pos 0)))
     ≡ sum c
 sum_read c =
     let s = c.before.before.before in
-    let l = c.before.before.loop in
-    more_read s.args.k s.args.increments.now s.args.i s.requires.0 s.args.at s.requires.1.1.1 l.j l.sum (omega arith) l.invariant.1
+    let l = c.before.before.loop-j in
+    more_read s.args.k s.args.increments.now s.args.i s.requires.0 s.args.at s.requires.1.1.1 l.j l.sum-bits (omega arith) l.invariant.1
 
-returns : tie.Need-returns invariant-loop decreases-loop
+returns : tie.Need-returns-then-sum-lt0 invariant-loop decreases-loop
 returns c =
     let t = c.before in
     let s = t.before.before.before in
-    fails s t.before.before.loop.j (omega arith) (under (pos 0) (pos most_cumulative) (sum t) (rw (sum_read t) at c.if1.true))
+    fails s t.before.before.loop-j.j (omega arith) (under (pos 0) (pos most_cumulative) (sum t) (rw (sum_read t) at c.if-sum-lt0.true))
 
-cast-if2 : tie.Need-overflow-cast-if2 invariant-loop decreases-loop
+cast-if2 : tie.Need-overflow_cast-t-14 invariant-loop decreases-loop
 cast-if2 c = omega arith
 
-returns-2 : tie.Need-returns-2 invariant-loop decreases-loop
+returns-2 : tie.Need-returns-then-sum invariant-loop decreases-loop
 returns-2 c =
     let t = c.before.before in
     let s = t.before.before.before in
-    fails s t.before.before.loop.j (omega arith) (over (pos 0) (pos most_cumulative) (sum t) (rw (sum_read t) at c.if2.true))
+    fails s t.before.before.loop-j.j (omega arith) (over (pos 0) (pos most_cumulative) (sum t) (rw (sum_read t) at c.if-sum.true))
 
-add-j : tie.Need-overflow-add-j invariant-loop decreases-loop
+add-j : tie.Need-overflow_step-j invariant-loop decreases-loop
 add-j c = omega arith
 
-loop-less : tie.Need-loop-smaller invariant-loop decreases-loop
+loop-less : tie.Need-loop-j-smaller invariant-loop decreases-loop
 loop-less c = omega arith
 
-loop-again : tie.Need-loop-preserved invariant-loop decreases-loop
+loop-again : tie.Need-loop-j-preserved invariant-loop decreases-loop
 loop-again c =
     let t = c.before.before in
     let s = t.before.before.before in
-    let l = t.before.before.loop in
-    let passed = inside (pos 0) (pos most_cumulative) (sum t) (rw (sum_read t) at c.before.if1.false) (rw (sum_read t) at c.if2.false) in (
+    let l = t.before.before.loop-j in
+    let passed = inside (pos 0) (pos most_cumulative) (sum t) (rw (sum_read t) at c.before.if-sum-lt0.false) (rw (sum_read t) at c.if-sum.false) in (
       omega arith,
-      more_is s.args.k s.args.increments.now s.args.i s.requires.0 s.args.at s.requires.1.1.1 l.j l.sum (omega arith) l.invariant.1,
+      more_is s.args.k s.args.increments.now s.args.i s.requires.0 s.args.at s.requires.1.1.1 l.j l.sum-bits (omega arith) l.invariant.1,
       every_next (passes s.args.k s.args.increments.now s.args.i) (λ (j : ℕ). j) l.j l.invariant.2 passed,
     )
 
-returns-3 : tie.Need-returns-3 invariant-loop decreases-loop
+returns-3 : tie.Need-returns invariant-loop decreases-loop
 unfolding row_passes
 returns-3 c =
     let s = c.before.before in
-    let e : c.before.loop.j ≡ s.args.k + 1 - s.args.i = omega arith in
-    sym (rw e at c.before.loop.invariant.2)
+    let e : c.before.loop-j.j ≡ s.args.k + 1 - s.args.i = omega arith in
+    sym (rw e at c.before.loop-j.invariant.2)
 
-pub row-passes-spec : {M : Type 1} → statement M
-row-passes-spec =
+pub row_passes_spec : {M : Type 1} → statement M
+row_passes_spec =
     tie.close
     (tie.spec
     invariant-loop

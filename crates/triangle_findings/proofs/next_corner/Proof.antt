@@ -15,13 +15,13 @@ add-requires : tie.Need-add-requires
 add-requires c κs =
     let s = c.before in
     let e : c.subtract.result ≡ s.args.t -ℤ s.args.d = c.subtract.ensures ∙ ap₂ (λ (a b : ℤ). a -ℤ b) (to_z-of_z s.ranges.t) (to_z-of_z s.ranges.d) in
-    rw (to_z-of_z (sfits_of c.subtract.type-inv), to_z-of_z s.ranges.v, e) (omega (arith, difference_size s.args.t s.args.d, s.requires.0, s.requires.1.0), omega (arith, s.requires.1.1))
+    rw (to_z-of_z (sfits_of c.subtract.type_inv), to_z-of_z s.ranges.v, e) (omega (arith, difference_size s.args.t s.args.d, s.requires.0, s.requires.1.0), omega (arith, s.requires.1.1))
 
 returns : tie.Need-returns
 returns c =
     let s = c.before.before in
     let e : c.before.subtract.result ≡ s.args.t -ℤ s.args.d = c.before.subtract.ensures ∙ ap₂ (λ (a b : ℤ). a -ℤ b) (to_z-of_z s.ranges.t) (to_z-of_z s.ranges.d) in
-    to_z-of_z (sfits_of c.add.type-inv) ∙ c.add.ensures ∙ ap₂ (λ (a b : ℤ). a +ℤ b) (to_z-of_z (sfits_of c.before.subtract.type-inv) ∙ e) (to_z-of_z s.ranges.v)
+    to_z-of_z (sfits_of c.add.type_inv) ∙ c.add.ensures ∙ ap₂ (λ (a b : ℤ). a +ℤ b) (to_z-of_z (sfits_of c.before.subtract.type_inv) ∙ e) (to_z-of_z s.ranges.v)
 
-pub next-corner-spec : {M : Type 1} → statement M
-next-corner-spec = tie.close (tie.spec subtract-requires add-requires returns)
+pub next_corner_spec : {M : Type 1} → statement M
+next_corner_spec = tie.close (tie.spec subtract-requires add-requires returns)

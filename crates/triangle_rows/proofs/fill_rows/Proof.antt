@@ -5,7 +5,6 @@ use mathlib.Core.Bool.{true, false}
 use mathlib.Core.List.{List, []}
 use Prim.Native.Nat.{ℕ, ◌+◌, ◌-◌, ◌≤◌, ◌<◌}
 use native.Mathlib.Omega.{arith}
-use borrow.Author.Tests.{not-true, not-false}
 use lib.IntN.{ℤ, pos}
 use lib.ListN.{get_or, set, replicate}
 use lib.Seq.{sets}
@@ -39,7 +38,7 @@ more_rows k n p i h l q r e f =
     = f ∙ rw was (sets_filled 16 (pos 0) _ (omega (arith, length_up_to (λ j. average_of (paid_of k p i j) (get_or n i 0)) (k + 1 - i)))) in
     rw (row, e) (filled_more 16 (replicate 16 (pos 0)) (average_row k n p) i l)
 
-abbrev invariant-loop : tie.invariant-loop
+abbrev invariant-loop : tie.invariant-loop-i
 invariant-loop k exposures increments square₀ sums₀ paid₀ columns₀ diagonals₀ at₀ n i₀ square sums paid columns diagonals at i =
     (i ≤ n)
     × (at ≡ row_start k i)
@@ -49,13 +48,13 @@ invariant-loop k exposures increments square₀ sums₀ paid₀ columns₀ diago
     × (paid ≡ padded 16 0 (up_to (paid_to k increments) i))
     × TotalsSoFar (averages_of k exposures increments) i 0 columns diagonals
 
-abbrev decreases-loop : tie.decreases-loop
+abbrev decreases-loop : tie.decreases-loop-i
 decreases-loop k exposures increments square₀ sums₀ paid₀ columns₀ diagonals₀ at₀ n i₀ square sums paid columns diagonals at i = n - i
 
-add-n : tie.Need-overflow-add-n invariant-loop decreases-loop
+add-n : tie.Need-overflow_add-n invariant-loop decreases-loop
 add-n c = omega arith
 
-loop-holds : tie.Need-loop-init invariant-loop decreases-loop
+loop-holds : tie.Need-loop-i-init invariant-loop decreases-loop
 unfolding row_start up_to every column_sum total
 loop-holds c =
     let s = c.before.before in
@@ -71,91 +70,91 @@ loop-holds c =
       none_passed (averages_of k n p),
     )
 
-row-passes-requires : tie.Need-row-passes-requires invariant-loop decreases-loop
+row-passes-requires : tie.Need-row_passes-requires invariant-loop decreases-loop
 row-passes-requires c κs =
     let s = c.before.before.before.before in
-    (s.requires.1.1.0, (omega arith, (omega arith, c.before.loop.invariant.1)))
+    (s.requires.1.1.0, (omega arith, (omega arith, c.before.loop-i.invariant.1)))
 
-returns : tie.Need-returns invariant-loop decreases-loop
+returns : tie.Need-returns-then-not-row_passes invariant-loop decreases-loop
 unfolding cumulatives_pass
 returns c =
     let t = c.before in
     let s = t.before.before.before.before.before in
-    let l = t.before.before.loop in
-    let failed = sym t.row-passes.ensures ∙ not-true t.row-passes.result c.if1.true in
+    let l = t.before.before.loop-i in
+    let failed = sym t.row_passes.ensures ∙ c.if-not-row_passes.true in
     let rows = stops s.args.k s.args.increments.now l.i (omega arith) l.invariant.2 failed in (
       sym (fails_at (row_passes s.args.k s.args.increments.now) (λ (j : ℕ). j) (s.args.k + 1) l.i (omega arith) failed),
       (rw rows l.invariant.3, (rw rows l.invariant.4, (rw rows l.invariant.5, rw rows l.invariant.6))),
     )
 
 -- row i passes where the loop goes on
-passed : (c : tie.Else1 invariant-loop decreases-loop) → row_passes c.before.before.before.before.before.before.args.k c.before.before.before.before.before.before.args.increments.now c.before.before.before.loop.i ≡ true
-passed c = sym c.before.row-passes.ensures ∙ not-false c.before.row-passes.result c.if1.false
+passed : (c : tie.Else-not-row_passes invariant-loop decreases-loop) → row_passes c.before.before.before.before.before.before.args.k c.before.before.before.before.before.before.args.increments.now c.before.before.before.loop-i.i ≡ true
+passed c = sym c.before.row_passes.ensures ∙ c.if-not-row_passes.false
 
-mul-fill-row : tie.Need-overflow-mul-fill-row invariant-loop decreases-loop
+mul-fill-row : tie.Need-offset_bounds-square-i invariant-loop decreases-loop
 mul-fill-row c = omega arith
 
-index-1-fill-row : tie.Need-bounds-1-fill-row invariant-loop decreases-loop
+index-1-fill-row : tie.Need-bounds-square-i invariant-loop decreases-loop
 index-1-fill-row c = omega arith
 
-fill-row-requires : tie.Need-fill-row-requires invariant-loop decreases-loop
+fill-row-requires : tie.Need-fill_row-requires invariant-loop decreases-loop
 fill-row-requires c κs =
-    let e = c.before.before.before.before in
-    let s = e.before.before.before.before.before.before in
-    let l = e.before.before.before.loop in
+    let e = c.before.before.before.before.before.before.before in
+    let s = e.before.before.before in
+    let l = e.loop-i in
     let passing = every_next (row_passes s.args.k s.args.increments.now) (λ (j : ℕ). j) l.i l.invariant.2 (passed e) in
     (s.requires.1.1.0, (omega arith, (omega arith, (l.invariant.1, (s.requires.1.0, (passing, (l.invariant.4, l.invariant.6)))))))
 
-mul-paid : tie.Need-overflow-mul-paid invariant-loop decreases-loop
+mul-paid : tie.Need-offset_bounds-paid-i invariant-loop decreases-loop
 mul-paid c = omega arith
 
-element-write-paid : tie.Need-element-write-paid invariant-loop decreases-loop
+element-write-paid : tie.Need-bounds-paid-i invariant-loop decreases-loop
 element-write-paid c = omega arith
 
-sub_at : tie.Need-overflow-sub-at invariant-loop decreases-loop
+sub_at : tie.Need-overflow_sub-at invariant-loop decreases-loop
 sub_at c = omega arith
 
-add_at : tie.Need-overflow-add-at invariant-loop decreases-loop
+add_at : tie.Need-overflow_add-at invariant-loop decreases-loop
 add_at c =
-    let e = c.before.before.before.before.before in
-    let l = e.before.before.before.loop in
-    omega (arith, l.invariant.1, row_room e.before.before.before.before.before.before.args.k l.i (omega arith) (omega arith))
+    let e = c.before.before.before.before.before.before.before.before.before in
+    let l = e.loop-i in
+    omega (arith, l.invariant.1, row_room e.before.before.before.args.k l.i (omega arith) (omega arith))
 
-add-i : tie.Need-overflow-add-i invariant-loop decreases-loop
+add-i : tie.Need-overflow_step-i invariant-loop decreases-loop
 add-i c = omega arith
 
-loop-less : tie.Need-loop-smaller invariant-loop decreases-loop
+loop-less : tie.Need-loop-i-smaller invariant-loop decreases-loop
 loop-less c = omega arith
 
-loop-again : tie.Need-loop-preserved invariant-loop decreases-loop
+loop-again : tie.Need-loop-i-preserved invariant-loop decreases-loop
 loop-again c =
-    let e = c.before.before.before.before.before in
-    let s = e.before.before.before.before.before.before in
-    let l = e.before.before.before.loop in
+    let e = c.before.before.before.before.before.before.before.before.before in
+    let s = e.before.before.before in
+    let l = e.loop-i in
     let k = s.args.k in
     let n = s.args.exposures.now in
     let p = s.args.increments.now in (
       omega arith,
       rw l.invariant.1 (sym (row_start_more k l.i)),
       every_next (row_passes k p) (λ (j : ℕ). j) l.i l.invariant.2 (passed e),
-      more_rows k n p l.i (omega arith) (omega arith) l.square _ l.invariant.3 c.fill-row.ensures.1.0,
-      c.fill-row.ensures.1.1.0,
-      rw (c.fill-row.ensures.0, l.invariant.5) (filled_more 16 0 (paid_to k p) l.i (omega arith)),
-      c.fill-row.ensures.1.1.1,
+      more_rows k n p l.i (omega arith) (omega arith) l.square _ l.invariant.3 c.before.fill_row.ensures.1.0,
+      c.before.fill_row.ensures.1.1.0,
+      rw (c.before.fill_row.ensures.0, l.invariant.5) (filled_more 16 0 (paid_to k p) l.i (omega arith)),
+      c.before.fill_row.ensures.1.1.1,
     )
 
-returns-2 : tie.Need-returns-2 invariant-loop decreases-loop
+returns-2 : tie.Need-returns invariant-loop decreases-loop
 unfolding cumulatives_pass
 returns-2 c =
     let s = c.before.before.before.before in
-    let l = c.before.loop in
+    let l = c.before.loop-i in
     let all : l.i ≡ s.args.k + 1 = omega arith in
     let pass : every (row_passes s.args.k s.args.increments.now) (below (s.args.k + 1)) ≡ true = rw all at l.invariant.2 in
     let rows = rows_all s.args.k s.args.increments.now pass in
     (sym pass, (rw (rows, ← all) l.invariant.3, (rw (rows, ← all) l.invariant.4, (rw (rows, ← all) l.invariant.5, rw (rows, ← all) l.invariant.6))))
 
-pub fill-rows-spec : {M : Type 1} → statement M
-fill-rows-spec =
+pub fill_rows_spec : {M : Type 1} → statement M
+fill_rows_spec =
     tie.close
     (tie.spec
     invariant-loop

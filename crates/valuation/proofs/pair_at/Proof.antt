@@ -7,10 +7,10 @@ use Rattle.valuation.proofs.pair_at.Tie as tie
 
 returns : tie.Need-returns
 unfolding pair_at
-returns c = let high = c.before.before.wide.ensures in (omega (arith, high.0, c.wide2.ensures.0), omega (arith, high.1, c.wide2.ensures.1))
+returns c = let high = c.before.before.wide-high.ensures in (omega (arith, high.0, c.wide-low.ensures.0), omega (arith, high.1, c.wide-low.ensures.1))
 
-pub pair-at-spec : {M : Type 1} → statement M
-pair-at-spec =
+pub pair_at_spec : {M : Type 1} → statement M
+pair_at_spec =
     tie.close
     (tie.spec
     (λ c. search rules)

@@ -7,12 +7,12 @@ use Rattle.valuation.proofs.Inputs.{no_record}
 use Rattle.valuation.proofs.record_start.Statement.{statement}
 use Rattle.valuation.proofs.record_start.Tie as tie
 
-returns : tie.Need-returns
+returns : tie.Need-returns-then-n-lt2
 returns c = let s = c.before.args.input.now in (omega arith, drop-length s ∙ sym (no_record s (omega arith)))
 
-returns-2 : tie.Need-returns-2
+returns-2 : tie.Need-returns-else-n-lt2
 unfolding record_in
 returns-2 c = (omega arith, refl)
 
-pub record-start-spec : {M : Type 1} → statement M
-record-start-spec = tie.close (tie.spec returns returns-2)
+pub record_start_spec : {M : Type 1} → statement M
+record_start_spec = tie.close (tie.spec returns returns-2)

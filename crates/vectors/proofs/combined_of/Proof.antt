@@ -7,19 +7,19 @@ use Rattle.vectors.specs.Vectors.{combined}
 use Rattle.vectors.proofs.combined_of.Statement.{statement}
 use Rattle.vectors.proofs.combined_of.Tie as tie
 
-returns : tie.Need-returns
+returns : tie.Need-returns-then-less
 unfolding combined
 returns c =
     let s = c.before.before in
-    let e = to_z-of_z {w = w64} {z = c.subtract.result} (sfits_of c.subtract.type-inv) ∙ c.subtract.ensures in
-    rw (c.before.if1.true, e, to_z-of_z s.ranges.x, to_z-of_z s.ranges.y)
+    let e = to_z-of_z {w = w64} {z = c.subtract.result} (sfits_of c.subtract.type_inv) ∙ c.subtract.ensures in
+    rw (c.before.if-less.true, e, to_z-of_z s.ranges.x, to_z-of_z s.ranges.y)
 
-returns-2 : tie.Need-returns-2
+returns-2 : tie.Need-returns
 unfolding combined
 returns-2 c =
     let s = c.before.before in
-    let e = to_z-of_z {w = w64} {z = c.add.result} (sfits_of c.add.type-inv) ∙ c.add.ensures in
-    rw (c.before.if1.false, e, to_z-of_z s.ranges.x, to_z-of_z s.ranges.y)
+    let e = to_z-of_z {w = w64} {z = c.add.result} (sfits_of c.add.type_inv) ∙ c.add.ensures in
+    rw (c.before.if-less.false, e, to_z-of_z s.ranges.x, to_z-of_z s.ranges.y)
 
-pub combined-of-spec : {M : Type 1} → statement M
-combined-of-spec = tie.close (tie.spec (λ c κs. search rules) returns (λ c κs. search rules) returns-2)
+pub combined_of_spec : {M : Type 1} → statement M
+combined_of_spec = tie.close (tie.spec (λ c κs. search rules) returns (λ c κs. search rules) returns-2)

@@ -22,52 +22,52 @@ use Rattle.vectors.proofs.put_combined.Tie as tie
 abbrev one : List ℤ → Bool → ℕ → ℕ → ℕ → ℤ
 one xs less a b i = combined less (figure_at xs (a + i)) (figure_at xs (b + i))
 
-abbrev invariant-loop : tie.invariant-loop
+abbrev invariant-loop : tie.invariant-loop-i
 invariant-loop out₀ at less a b n i₀ out i = (i ≤ n) × (out ≡ sets out₀ at (up_to (one out₀ less a b) i))
 
-abbrev decreases-loop : tie.decreases-loop
+abbrev decreases-loop : tie.decreases-loop-i
 decreases-loop out₀ at less a b n i₀ out i = n - i
 
-loop-holds : tie.Need-loop-init invariant-loop decreases-loop
+loop-holds : tie.Need-loop-i-init invariant-loop decreases-loop
 unfolding up_to
 loop-holds c = (omega arith, refl)
 
 -- a figure before the place is read as it was
-read : (l : tie.At-loop invariant-loop decreases-loop) (p : ℕ) → p < l.before.args.at → nat_abs (figure_at l.before.args.out.now p) ≤ most_figure
-    → held (figure_at l.loop.out p) ≡ figure_at l.before.args.out.now p
+read : (l : tie.At-loop-i invariant-loop decreases-loop) (p : ℕ) → p < l.before.args.at → nat_abs (figure_at l.before.args.out.now p) ≤ most_figure
+    → held (figure_at l.loop-i.out p) ≡ figure_at l.before.args.out.now p
 read l p h small =
     let s = l.before in
-    figure_read s.args.out.now l.loop.out s.args.at (up_to (one s.args.out.now s.args.less s.args.a s.args.b) l.loop.i) l.loop.invariant.1 p h small
+    figure_read s.args.out.now l.loop-i.out s.args.at (up_to (one s.args.out.now s.args.less s.args.a s.args.b) l.loop-i.i) l.loop-i.invariant.1 p h small
 
-combined-of-requires : tie.Need-combined-of-requires invariant-loop decreases-loop
+combined-of-requires : tie.Need-combined_of-requires invariant-loop decreases-loop
 combined-of-requires c κs =
     let l = c.before.before.before in
     let s = l.before in
-    let x = s.requires.1.1.1.0 l.loop.i (omega arith) in
-    let y = s.requires.1.1.1.1 l.loop.i (omega arith) in
-    (rw (read l (s.args.a + l.loop.i) (omega arith) x) (omega arith), rw (read l (s.args.b + l.loop.i) (omega arith) y) (omega arith))
+    let x = s.requires.1.1.1.0 l.loop-i.i (omega arith) in
+    let y = s.requires.1.1.1.1 l.loop-i.i (omega arith) in
+    (rw (read l (s.args.a + l.loop-i.i) (omega arith) x) (omega arith), rw (read l (s.args.b + l.loop-i.i) (omega arith) y) (omega arith))
 
-loop-again : tie.Need-loop-preserved invariant-loop decreases-loop
+loop-again : tie.Need-loop-i-preserved invariant-loop decreases-loop
 loop-again c =
     let l = c.before.before.before.before in
     let s = l.before in
-    let fits = to_z-of_z {w = w64} {z = c.combined-of.result} (sfits_of c.combined-of.type-inv) in
-    let x = read l (s.args.a + l.loop.i) (omega arith) (s.requires.1.1.1.0 l.loop.i (omega arith)) in
-    let y = read l (s.args.b + l.loop.i) (omega arith) (s.requires.1.1.1.1 l.loop.i (omega arith)) in
-    let made = fits ∙ c.combined-of.ensures ∙ ap₂ (combined s.args.less) x y in (
+    let fits = to_z-of_z {w = w64} {z = c.combined_of.result} (sfits_of c.combined_of.type_inv) in
+    let x = read l (s.args.a + l.loop-i.i) (omega arith) (s.requires.1.1.1.0 l.loop-i.i (omega arith)) in
+    let y = read l (s.args.b + l.loop-i.i) (omega arith) (s.requires.1.1.1.1 l.loop-i.i (omega arith)) in
+    let made = fits ∙ c.combined_of.ensures ∙ ap₂ (combined s.args.less) x y in (
       omega arith,
-      rw (made, l.loop.invariant.1)
-          (sets_more (one s.args.out.now s.args.less s.args.a s.args.b) s.args.out.now s.args.at l.loop.i),
+      rw (made, l.loop-i.invariant.1)
+          (sets_more (one s.args.out.now s.args.less s.args.a s.args.b) s.args.out.now s.args.at l.loop-i.i),
     )
 
 returns : tie.Need-returns invariant-loop decreases-loop
 unfolding combined_all
 returns c =
-    let e : c.before.loop.i ≡ c.before.before.args.n = omega arith in
-    rw e at c.before.loop.invariant.1
+    let e : c.before.loop-i.i ≡ c.before.before.args.n = omega arith in
+    rw e at c.before.loop-i.invariant.1
 
-pub put-combined-spec : {M : Type 1} → statement M
-put-combined-spec =
+pub put_combined_spec : {M : Type 1} → statement M
+put_combined_spec =
     tie.close
     (tie.spec
     invariant-loop

@@ -34,28 +34,28 @@ unfolding reserve_sections joined
 reserves-length k n q p i j =
     omega (arith, length-append (map pos n) (map pos q ++ (pos (total q) ∷ pos p ∷ [])), length-append (map pos q) (pos (total q) ∷ pos p ∷ []), length-map n pos, length-map q pos)
 
-put-separation-requires : tie.Need-put-separation-requires
+put-separation-requires : tie.Need-put_separation-a-requires
 put-separation-requires c κs =
     let s = c.before in
     let p = s.requires.0 in
     (p.few, (omega (arith, results_count s.args.k, s.requires.1), (p.shares, p.levels)))
 
-put-completion-requires : tie.Need-put-completion-requires
+put-completion-requires : tie.Need-put_completion-b-requires
 put-completion-requires c κs =
     let first = c.before.before in
     let s = first.before.before in
     let p = s.requires.0 in
-    (p.few, (omega (arith, first.put-separation.ensures.0, results_count s.args.k, s.requires.1), (p.ahead, (p.payments, p.provisions))))
+    (p.few, (omega (arith, first.put_separation-a.ensures.0, results_count s.args.k, s.requires.1), (p.ahead, (p.payments, p.provisions))))
 
-put-reserves-requires : tie.Need-put-reserves-requires
+put-reserves-requires : tie.Need-put_reserves-c-requires
 put-reserves-requires c κs =
     let second = c.before.before in
     let first = second.before.before.before in
     let s = first.before.before in
     let k = s.args.k in
-    (s.requires.0.reserves, omega (arith, first.put-separation.ensures.0, second.put-completion.ensures.0, results_count k, cells_least k, s.requires.1))
+    (s.requires.0.reserves, omega (arith, first.put_separation-a.ensures.0, second.put_completion-b.ensures.0, results_count k, cells_least k, s.requires.1))
 
-put-last-requires : tie.Need-put-last-requires
+put-last-requires : tie.Need-put_last-requires
 put-last-requires c κs =
     let third = c.before.before in
     let second = third.before.before.before in
@@ -65,12 +65,12 @@ put-last-requires c κs =
     let p = s.requires.0 in (
       p.few,
       (
-        omega (arith, first.put-separation.ensures.0, second.put-completion.ensures.0, third.put-reserves.ensures.0, results_count k, cells_least k, s.requires.1),
+        omega (arith, first.put_separation-a.ensures.0, second.put_completion-b.ensures.0, third.put_reserves-c.ensures.0, results_count k, cells_least k, s.requires.1),
         (p.factors, (p.completed, p.tails)),
       ),
     )
 
-same_length : tie.Need-same-length
+same_length : tie.Need-shape_of-out
 same_length c = search rules
 
 returns : tie.Need-returns
@@ -87,18 +87,18 @@ returns c =
     let q = s.args.provisions.now in
     let rest = up_to (not_reported k b d q) (k + 1) in
     let amounts = up_to (reserve k s.args.ratio s.args.weight b d q) (k + 1) in
-    rw (last.put_last.ensures.1, third.put-reserves.ensures.1, second.put-completion.ensures.1.1, first.put-separation.ensures.1.1)
+    rw (last.put_last.ensures.1, third.put_reserves-c.ensures.1, second.put_completion-b.ensures.1.1, first.put_separation-a.ensures.1.1)
     (four_runs
     (separation_sections k s.args.square.now (take (k + 1) s.args.shares.now) (take (k + 1) s.args.levels.now))
     (completion_sections (take k s.args.ahead.now) (take (cells k - (k + 1)) s.args.payments.now) (take (k + 1) q))
     (reserve_sections rest amounts s.args.ratio)
     (ladder_sections (take k s.args.factors.now) (take (cells k - (k + 1)) s.args.completed.now) ++ tail_sections (take (k + 1) s.args.tails.now))
     s.args.out.now
-    first.put-separation.ensures.1.0 second.put-completion.ensures.1.0
-    (omega (arith, third.put-reserves.ensures.0, reserves-length k rest amounts s.args.ratio (length_up_to _ (k + 1)) (length_up_to _ (k + 1)))))
+    first.put_separation-a.ensures.1.0 second.put_completion-b.ensures.1.0
+    (omega (arith, third.put_reserves-c.ensures.0, reserves-length k rest amounts s.args.ratio (length_up_to _ (k + 1)) (length_up_to _ (k + 1)))))
 
-pub put-results-spec : {M : Type 1} → statement M
-put-results-spec =
+pub put_results_spec : {M : Type 1} → statement M
+put_results_spec =
     tie.close
     (tie.spec
     put-separation-requires

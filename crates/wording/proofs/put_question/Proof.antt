@@ -12,8 +12,11 @@ use Rattle.wording.proofs.put_question.Tie as tie
 
 returns : tie.Need-returns
 unfolding question_texts question_text written first_line line_of every passing
-returns c = put_same (line_is question_texts (written question_texts) c.before.before.before.before.before.before.args.n refl) c.before.before.put-line.ensures
+returns c = put_same (line_is question_texts (written question_texts) c.before.before.before.before.before.before.before.args.n refl) c.before.before.put_line.ensures
 
-pub put-question-spec : {M : Type 1} → statement M
-put-question-spec =
-    tie.close (tie.spec (λ c. search rules) (λ c κs. search rules) (λ c. search rules) returns)
+pub put_question_spec : {M : Type 1} → statement M
+put_question_spec =
+    tie.close (tie.spec
+    (λ c κs. search rules)
+    (λ c. search rules)
+    returns)

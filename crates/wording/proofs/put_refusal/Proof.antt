@@ -8,20 +8,17 @@ use Rattle.wording.proofs.put_refusal.Tie as tie
 returns : tie.Need-returns
 unfolding refusal_text
 returns c =
-    put_five c.before.before.before.before.before.before.before.before.before.before.before.before.before.before.before.before.before.before.before.before.put-bytes.ensures c.before.before.before.before.before.before.before.before.before.before.before.before.before.before.before.before.put-decimal.ensures c.before.before.before.before.before.before.before.before.before.before.before.put-bytes2.ensures c.before.before.before.before.before.before.before.put-question.ensures
-    c.before.before.put-bytes3.ensures
+    put_five c.before.before.before.before.before.before.before.before.before.before.before.before.before.before.before.before.before.before.before.before.before.before.put_bytes-number.ensures c.before.before.before.before.before.before.before.before.before.before.before.before.before.before.before.before.before.before.put_decimal-colon.ensures c.before.before.before.before.before.before.before.before.before.before.before.before.put_bytes-words.ensures c.before.before.before.before.before.before.before.before.put_question-end.ensures
+    c.before.before.put_bytes.ensures
 
-pub put-refusal-spec : {M : Type 1} → statement M
-put-refusal-spec =
+pub put_refusal_spec : {M : Type 1} → statement M
+put_refusal_spec =
     tie.close
     (tie.spec
-    (λ c. search rules)
     (λ c κs. search rules)
     (λ c κs. search rules)
-    (λ c. search rules)
     (λ c κs. search rules)
     (λ c κs. search rules)
-    (λ c. search rules)
     (λ c κs. search rules)
     (λ c. search rules)
     returns)
