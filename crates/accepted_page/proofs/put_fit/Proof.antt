@@ -11,12 +11,12 @@ use Rattle.accepted_page.proofs.put_fit.Tie as tie
 returns : tie.Need-returns
 unfolding fit_of
 returns c =
-    let p = c.before.before.before.before.before.before.before in
-    let z = p.before.before.args.singles.now in
+    let p = c.before.before.before.before.before.before in
+    let z = p.before.before.before.args.singles.now in
     let averages = to_z-of_z {w = w64} {z = get_or z 9 (pos 0)} (sfits_of c.before.before.before.before.put_fit_section-arg-2-1.given) in
     let gaps = to_z-of_z {w = w64} {z = get_or z 24 (pos 0)} (sfits_of c.before.before.before.put_fit_section-arg-3-1.given) in
-    let lost = to_z-of_z {w = w64} {z = get_or z 25 (pos 0)} (sfits_of p.size_of-arg-1.given) in
-    rw (averages, gaps, p.before.type_size.ensures, lost) at c.before.before.put_fit_section.ensures
+    let lost = to_z-of_z {w = w64} {z = get_or z 25 (pos 0)} (sfits_of p.before.size_of-arg-1.given) in
+    rw (averages, gaps, p.size_of-lost.ensures, lost) at c.before.before.put_fit_section.ensures
 
 pub put_fit_spec : {M : Type 1} → statement M
 put_fit_spec =

@@ -33,11 +33,11 @@ loop-holds c = (omega arith, refl)
 
 -- the number of claims of a turn
 claims : (c : tie.After-size_of-claims invariant-loop decreases-loop)
-    → c.type_size.result ≡ nat_abs (figure_at c.before.before.before.before.args.out.now (c.before.before.before.before.args.x + c.before.before.before.loop-i.i))
+    → c.size_of-claims.result ≡ nat_abs (figure_at c.before.before.before.before.args.out.now (c.before.before.before.before.args.x + c.before.before.before.loop-i.i))
 claims c =
     let l = c.before.before.before in
     let s = l.before in
-    c.type_size.ensures
+    c.size_of-claims.ensures
     ∙ ap nat_abs
     (figure_read s.args.out.now l.loop-i.out s.args.at (up_to (one s.args.more s.args.x s.args.out.now) l.loop-i.i) l.loop-i.invariant.1 (s.args.x + l.loop-i.i) (omega arith)
     (omega (arith, s.requires.1.1.1.1 l.loop-i.i (omega arith))))

@@ -11,7 +11,7 @@ unfolding side_of
 returns c =
     let s = c.before.before.before in
     let (n, e, h) = below_zero s.args.z s.ranges.z c.before.before.if-z-lt0.true in
-    let size = rw (to_z-of_z s.ranges.z) at c.type_size.ensures in
+    let size = rw (to_z-of_z s.ranges.z) at c.size_of.ensures in
     rw (c.before.if-low.true, e) (rw e at size)
 
 returns-2 : tie.Need-returns-else-low

@@ -26,16 +26,16 @@ there d h = rw d.from_cell.ensures at h
 
 loop-less : tie.Need-loop-rest-smaller invariant-loop decreases-loop
 loop-less c =
-    let d = c.before.before.before in
-    rw c.after_cell-next.ensures (walk_shorter d.before.before.decider_of-s.result d.loop-rest.rest.now (there d c.before.loop-rest-test.true))
+    let d = c.before.before in
+    rw c.after_cell-next.ensures (walk_shorter d.before.before.before.decider_of-s.result d.before.loop-rest.rest.now (there d c.before.loop-rest-test.true))
 
 loop-again : tie.Need-loop-rest-preserved invariant-loop decreases-loop
 loop-again c =
-    let d = c.before.before.before in
-    let s = d.before.before.decider_of-s.result in
-    let xs = d.loop-rest.rest.now in
+    let d = c.before.before in
+    let s = d.before.before.before.decider_of-s.result in
+    let xs = d.before.loop-rest.rest.now in
     let here = there d c.before.loop-rest-test.true in
-    rw c.after_cell-next.ensures (omega (arith, d.loop-rest.invariant.0, ap length (walk_more s xs here)), omega (arith, walk_shorter s xs here, d.loop-rest.invariant.1))
+    rw c.after_cell-next.ensures (omega (arith, d.before.loop-rest.invariant.0, ap length (walk_more s xs here)), omega (arith, walk_shorter s xs here, d.before.loop-rest.invariant.1))
 
 returns : tie.Need-returns invariant-loop decreases-loop
 returns c =

@@ -51,24 +51,24 @@ loop-holds c = (omega arith, (refl, omega arith))
 
 returns : tie.Need-returns-then-not-does_pass invariant-loop decreases-loop
 returns c =
-    let d = c.before.before.before.before.before.before.before in
-    let l = d.before.before in
-    let here = lead_here (test l) d.decider_of-s.result l.loop-rest.rest.now (there d) (said d ∙ c.if-not-does_pass.true) in
+    let d = c.before in
+    let l = d.before.before.before.before in
+    let here = lead_here (test l) d.before.before.before.before.before.before.decider_of-s.result l.loop-rest.rest.now (there d) (said d ∙ c.if-not-does_pass.true) in
     (omega (arith, (left l).0, here.0), (sym ((left l).1 ∙ here.1), omega arith))
 
 loop-less : tie.Need-loop-rest-smaller invariant-loop decreases-loop
 loop-less c =
-    let d = c.before.before.before.before.before.before in
-    rw c.after_cell-next.ensures (walk_shorter d.before.before.decider_of-s.result d.loop-rest.rest.now (there d))
+    let d = c.before.before in
+    rw c.after_cell-next.ensures (walk_shorter d.before.before.before.before.before.before.decider_of-s.result d.before.before.before.before.loop-rest.rest.now (there d))
 
 loop-again : tie.Need-loop-rest-preserved invariant-loop decreases-loop
 loop-again c =
-    let d = c.before.before.before.before.before.before.before.before in
-    let l = d.before.before in
-    let s = d.decider_of-s.result in
+    let d = c.before.before in
+    let l = d.before.before.before.before in
+    let s = d.before.before.before.before.before.before.decider_of-s.result in
     let more = lead_more (test l) s l.loop-rest.rest.now (there d) (said d ∙ c.before.if-not-does_pass.false) in
-    let inv = rw (to_z-of_z l.ranges.least, to_z-of_z l.ranges.most) at l.loop-rest.invariant in
-    rw (c.after_cell-next.ensures, to_z-of_z l.ranges.least, to_z-of_z l.ranges.most)
+    let inv = rw (to_z-of_z l.before.before.before.before.ranges.least, to_z-of_z l.before.before.before.before.ranges.most) at l.loop-rest.invariant in
+    rw (c.after_cell-next.ensures, to_z-of_z l.before.before.before.before.ranges.least, to_z-of_z l.before.before.before.before.ranges.most)
     (omega (arith, more.0, inv.0), (inv.1.0 ∙ more.1, omega (arith, walk_shorter s l.loop-rest.rest.now (there d))))
 
 returns-2 : tie.Need-returns invariant-loop decreases-loop

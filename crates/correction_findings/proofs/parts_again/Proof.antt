@@ -39,7 +39,7 @@ bytes c i = omega (arith, c.before.before.before.before.before.before.shared_sli
 good : (c : tie.After-read_provided-weight) → Sound (F c)
 good c = let p = (passed c).carried in sound_figures (start c).args.packed.now (bytes c) p.opening p.fields
 
-provisions : (c : tie.After-read_provided-weight) → c.read_provided-weight.new.reporting.1.1.1.1.0 ≡ provisions_in (F c)
+provisions : (c : tie.After-read_provided-weight) → c.read_provided-weight.new.provisions ≡ provisions_in (F c)
 provisions c =
     let p = passed c in
     let q = p.carried in
@@ -112,12 +112,12 @@ latest-paid-requires c κs =
 abbrev years4 : tie.After-size_of-latest → tie.After-last_year_of-k
 years4 c = years3 c.before.before
 
-latest : (c : tie.After-size_of-latest) → c.type_size.result ≡ nat_abs (latest_paid_in (F (years4 c).before))
+latest : (c : tie.After-size_of-latest) → c.size_of-latest.result ≡ nat_abs (latest_paid_in (F (years4 c).before))
 latest c =
     let year = years4 c in
     let at = year.before in
     let whole = to_z-of_z {w = w64} {z = c.before.latest_paid.result} (sfits_of c.before.latest_paid.type_inv) in
-    c.type_size.ensures ∙ ap nat_abs (whole ∙ c.before.latest_paid.ensures.0 ∙ latest_is (F at) _ _ (last-year year) at.read_provided-weight.ensures.1.0)
+    c.size_of-latest.ensures ∙ ap nat_abs (whole ∙ c.before.latest_paid.ensures.0 ∙ latest_is (F at) _ _ (last-year year) at.read_provided-weight.ensures.1.0)
 
 -- the divisor
 abbrev counted : tie.After-size_of-latest → tie.After-latest_reported-reported
@@ -135,18 +135,18 @@ divisor c =
 
 returns : tie.Need-returns
 returns c =
-    let size = c.before.before in
+    let size = c.before in
     let b = counted size in
     let ratio = b.before.before.before.before in
     let at = (years4 size).before in
     let weight = at.read_provided-weight.ensures.0 in
-    let whole = to_z-of_z {w = w64} {z = size.latest_paid.result} (sfits_of size.latest_paid.type_inv) in (
+    let whole = to_z-of_z {w = w64} {z = size.before.latest_paid.result} (sfits_of size.before.latest_paid.type_inv) in (
       parts_are (F at) _ _ _ _ _ weight (plain ratio) (reported b) (latest size) (divisor c),
       record {
         weight = rw weight (good at).weight;
         plain = rw (plain ratio) (plain_most ratio);
         reported = b.latest_reported-reported.ensures.1;
-        paid = omega (arith, size.type_size.ensures ∙ ap nat_abs whole, size.latest_paid.ensures.1);
+        paid = omega (arith, size.size_of-latest.ensures ∙ ap nat_abs whole, size.before.latest_paid.ensures.1);
         divisor = rw c.divisor_of.ensures (divisor_most _ _ _ (rw weight (good at).weight) b.latest_reported-reported.ensures.1);
       },
     )

@@ -26,30 +26,30 @@ loop-holds c =
 put-row-requires : tie.Need-put_row-end-requires invariant-loop decreases-loop
 put-row-requires c κs =
     let l = c.before.before.loop-i in
-    (l.invariant.1.0, omega (arith, entries_next c.before.before.before.before.before.before.before.args.shape.n l.i l.row-1 (omega arith)))
+    (l.invariant.1.0, omega (arith, entries_next c.before.before.before.before.before.before.before.args.shape.n l.i l.row (omega arith)))
 
 add-from : tie.Need-overflow_add-from invariant-loop decreases-loop
 add-from c =
     let l = c.before.before.before.before.before.before.loop-i in
-    omega (arith, entries_next c.before.before.before.before.before.before.before.before.before.before.before.args.shape.n l.i l.row-1 (omega arith))
+    omega (arith, entries_next c.before.before.before.before.before.before.before.before.before.before.before.args.shape.n l.i l.row (omega arith))
 
 next-row-requires : tie.Need-next_row-row-requires invariant-loop decreases-loop
 next-row-requires c κs =
     let l = c.before.before.before.before.before.before.loop-i in
-    (omega (arith, entries_next c.before.before.before.before.before.before.before.before.before.before.before.args.shape.n l.i l.row-1 (omega arith)), l.invariant.1.1.0)
+    (omega (arith, entries_next c.before.before.before.before.before.before.before.before.before.before.before.args.shape.n l.i l.row (omega arith)), l.invariant.1.1.0)
 
 loop-again : tie.Need-loop-i-preserved invariant-loop decreases-loop
 unfolding next_row
 loop-again c =
     let l = c.before.before.before.before.before.before.before.loop-i in
     let e = c.next_row-row.ensures in
-    let rest = entries_next c.before.before.before.before.before.before.before.before.before.before.before.before.args.shape.n l.i l.row-1 (omega arith) in (
+    let rest = entries_next c.before.before.before.before.before.before.before.before.before.before.before.before.args.shape.n l.i l.row (omega arith) in (
       omega arith,
       (
         rw e (omega arith),
         (
           rw e l.invariant.1.1.0,
-          (rw e (omega arith), rows_more _ _ _ _ _ l.i l.row-1 c.next_row-row.result l.from (omega arith) l.invariant.1.1.1.1 (rw zero-add c.before.before.before.before.put_row-end.ensures) e),
+          (rw e (omega arith), rows_more _ _ _ _ _ l.i l.row c.next_row-row.result l.from (omega arith) l.invariant.1.1.1.1 (rw zero-add c.before.before.before.before.put_row-end.ensures) e),
         ),
       ),
     )
@@ -57,13 +57,13 @@ loop-again c =
 same_length : tie.Need-shape_of-out invariant-loop decreases-loop
 same_length c =
     let l = c.before.loop-i in
-    put_length (rows_last _ _ _ _ _ l.i l.row-1 l.from (omega arith) l.invariant.1.1.1.1)
+    put_length (rows_last _ _ _ _ _ l.i l.row l.from (omega arith) l.invariant.1.1.1.1)
 
 returns : tie.Need-returns invariant-loop decreases-loop
 unfolding csv_section
 returns c =
     let l = c.before.loop-i in
-    rows_last _ _ _ _ _ l.i l.row-1 l.from (omega arith) l.invariant.1.1.1.1
+    rows_last _ _ _ _ _ l.i l.row l.from (omega arith) l.invariant.1.1.1.1
 
 pub put_section_spec : {M : Type 1} → statement M
 put_section_spec =

@@ -31,22 +31,22 @@ year_is : (c : tie.After-last_year_of) → c.last_year_of.result ≡ (figures_of
 unfolding figures_of
 year_is c = c.last_year_of.ensures.0
 
-increments-are : (c : tie.After-last_year_of) → c.before.before.read.new.increments.1.0 ≡ (figures_of (start c).args.packed.now).increments
+increments-are : (c : tie.After-last_year_of) → c.before.before.read.new.increments ≡ (figures_of (start c).args.packed.now).increments
 increments-are c =
     let s = start c in
-    let passed = read_passed s.args.year s.args.packed.now s.pre in
+    let passed = read_passed s.args.year s.args.packed.now s.requires in
     c.before.before.read.ensures.1.1.1.0 ∙ (figures_filled s.args.packed.now (bytes c) passed.0 passed.1).increments
 
 sound : (c : tie.After-last_year_of) → Sound (figures_of (start c).args.packed.now)
 sound c =
     let s = start c in
-    let passed = read_passed s.args.year s.args.packed.now s.pre in
+    let passed = read_passed s.args.year s.args.packed.now s.requires in
     sound_figures s.args.packed.now (bytes c) passed.0 passed.1
 
 cumulative-found-requires : tie.Need-cumulative_found-requires
 cumulative-found-requires c κs =
     let s = start c in
-    found_ready (figures_of s.args.packed.now) (sound c) (cumulatives_no s.args.year s.args.packed.now s.pre) _ _ (year_is c) (increments-are c)
+    found_ready (figures_of s.args.packed.now) (sound c) (cumulatives_no s.args.year s.args.packed.now s.requires) _ _ (year_is c) (increments-are c)
 
 returns : tie.Need-returns
 returns c =

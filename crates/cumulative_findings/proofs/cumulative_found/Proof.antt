@@ -1,4 +1,5 @@
 -- The loop's invariant: `at` is where row i starts, and the rows before i pass question 6. Assumes nothing.
+use mir.Syntax.{w64}
 use mathlib.Core.Path.{◌≡◌, refl, ◌∙◌}
 use mathlib.Core.Bool.{true}
 use native.Mathlib.Omega.{arith}
@@ -40,7 +41,7 @@ returns c =
     let found = c.before.before.before.first_outside-first in
     let l = c.before.before.before.before.before.loop-i in
     let s = c.before.before.before.before.before.before in
-    let amount = to_z-of_z (sfits_of c.struct_told-1.given.1.0.1) ∙ found.ensures.1 c.before.if-first-n.true in (
+    let amount = to_z-of_z {w = w64} (sfits_of c.struct_told-1.given.1.0.1) ∙ found.ensures.1 c.before.if-first-n.true in (
       cumulative_stop s.args.k s.args.increments.now l.i found.result.column (omega arith) l.invariant.1.1 found.ensures.0 c.before.if-first-n.true _ amount,
       (omega arith, omega arith),
     )

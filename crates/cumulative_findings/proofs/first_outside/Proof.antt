@@ -52,7 +52,7 @@ add-sum-2 : tie.Need-overflow_add-sum-in-loop-j invariant-loop decreases-loop
 add-sum-2 c =
     let s = c.before.before.before in
     let l = c.before.before.loop-j in
-    more_fits s.args.k s.args.increments.now s.args.i s.requires.0 s.args.at s.requires.1.1.1 l.j l.sum-1 (omega arith) l.invariant.1
+    more_fits s.args.k s.args.increments.now s.args.i s.requires.0 s.args.at s.requires.1.1.1 l.j l.sum-bits (omega arith) l.invariant.1
 
 -- the cumulative with one increment more, and what the code holds of it
 abbrev sum : tie.After-sum-1 invariant-loop decreases-loop → ℤ
@@ -61,12 +61,12 @@ sum c =
     cumulative_of s.args.k s.args.increments.now s.args.i c.before.before.loop-j.j
 
 sum_read : (c : tie.After-sum-1 invariant-loop decreases-loop)
-    → held (to_z w64 c.before.before.loop-j.sum +ℤ held (get_or c.before.before.before.args.increments.now (c.before.before.before.args.at + c.before.before.loop-j.j) (pos 0)))
+    → held (to_z w64 c.before.before.loop-j.sum-bits +ℤ held (get_or c.before.before.before.args.increments.now (c.before.before.before.args.at + c.before.before.loop-j.j) (pos 0)))
     ≡ sum c
 sum_read c =
     let s = c.before.before.before in
     let l = c.before.before.loop-j in
-    more_read s.args.k s.args.increments.now s.args.i s.requires.0 s.args.at s.requires.1.1.1 l.j l.sum-1 (omega arith) l.invariant.1
+    more_read s.args.k s.args.increments.now s.args.i s.requires.0 s.args.at s.requires.1.1.1 l.j l.sum-bits (omega arith) l.invariant.1
 
 -- one cumulative that fails is the first
 first : (s : tie.Start invariant-loop decreases-loop) (j : ℕ) → j < s.args.k + 1 - s.args.i → every (cell_passes s.args.k s.args.increments.now s.args.i) (below j) ≡ true
@@ -77,9 +77,9 @@ first s j l passed failed = sym (leading_stop (cell_passes s.args.k s.args.incre
 returns : tie.Need-returns-then-sum-lt0 invariant-loop decreases-loop
 unfolding cell_passes
 returns c =
-    let t = c.before.before.before in
-    let s = t.before in
-    let l = t.loop-j in
+    let t = c.before in
+    let s = t.before.before.before in
+    let l = t.before.before.loop-j in
     (first s l.j (omega arith) l.invariant.2 (under (pos 0) (pos most_cumulative) (sum t) (rw (sum_read t) at c.if-sum-lt0.true)), λ _. sum_read t)
 
 cast-if2 : tie.Need-overflow_cast-t-14 invariant-loop decreases-loop
@@ -88,9 +88,9 @@ cast-if2 c = omega arith
 returns-2 : tie.Need-returns-then-sum invariant-loop decreases-loop
 unfolding cell_passes
 returns-2 c =
-    let t = c.before.before.before.before in
-    let s = t.before in
-    let l = t.loop-j in
+    let t = c.before.before in
+    let s = t.before.before.before in
+    let l = t.before.before.loop-j in
     (first s l.j (omega arith) l.invariant.2 (over (pos 0) (pos most_cumulative) (sum t) (rw (sum_read t) at c.if-sum.true)), λ _. sum_read t)
 
 add-j : tie.Need-overflow_step-j invariant-loop decreases-loop
@@ -102,12 +102,12 @@ loop-less c = omega arith
 loop-again : tie.Need-loop-j-preserved invariant-loop decreases-loop
 unfolding cell_passes
 loop-again c =
-    let t = c.before.before.before.before in
-    let s = t.before in
-    let l = t.loop-j in
+    let t = c.before.before in
+    let s = t.before.before.before in
+    let l = t.before.before.loop-j in
     let passed = inside (pos 0) (pos most_cumulative) (sum t) (rw (sum_read t) at c.before.if-sum-lt0.false) (rw (sum_read t) at c.if-sum.false) in (
       omega arith,
-      more_is s.args.k s.args.increments.now s.args.i s.requires.0 s.args.at s.requires.1.1.1 l.j l.sum-1 (omega arith) l.invariant.1,
+      more_is s.args.k s.args.increments.now s.args.i s.requires.0 s.args.at s.requires.1.1.1 l.j l.sum-bits (omega arith) l.invariant.1,
       every_next (cell_passes s.args.k s.args.increments.now s.args.i) (λ (j : ℕ). j) l.j l.invariant.2 passed,
     )
 

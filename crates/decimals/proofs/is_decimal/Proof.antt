@@ -43,14 +43,14 @@ front n = sym (n.is_natural-2.ensures ∙ ap is_natural n.before.before.before.b
 
 returns-4 : tie.Need-returns-then-is_natural-2
 returns-4 c =
-    let n = c.before.before.before in
-    decimal_parts _ (short n.before.before.before) (said n.before ∙ n.if-is_natural.false) (front n ∙ c.before.if-is_natural-2.true) _
-    (c.is_natural-then-is_natural-2.ensures ∙ ap is_natural n.before.before.before.before.before.fraction_digits-fraction.ensures)
+    let n = c.before.before in
+    decimal_parts _ (short n.before.before.before.before) (said n.before.before ∙ n.before.if-is_natural.false) (front n ∙ c.before.if-is_natural-2.true) _
+    (c.is_natural-then-is_natural-2.ensures ∙ ap is_natural n.before.before.before.before.before.before.fraction_digits-fraction.ensures)
 
 returns-5 : tie.Need-returns
 returns-5 c =
-    let n = c.before.before in
-    decimal_none _ (short n.before.before.before) (said n.before ∙ n.if-is_natural.false) (front n ∙ c.if-is_natural-2.false)
+    let n = c.before in
+    decimal_none _ (short n.before.before.before.before) (said n.before.before ∙ n.before.if-is_natural.false) (front n ∙ c.if-is_natural-2.false)
 
 pub is_decimal_spec : {M : Type 1} → statement M
 is_decimal_spec =

@@ -31,8 +31,8 @@ development-found-requires : tie.Need-development_found-requires
 development-found-requires c κs =
     let s = start c in
     let read = c.before.before.before.read_again.ensures in
-    ready (figures_of s.args.packed.now) (development_no s.args.year s.args.packed.now s.pre) _ _ _ (year_is c) c.last_year_of.ensures.1
-    read.1.1.1.1.1.0 read.1.1.1.1.0 (late s.args.year s.args.packed.now 13 (omega arith) s.pre).1.1
+    ready (figures_of s.args.packed.now) (development_no s.args.year s.args.packed.now s.requires) _ _ _ (year_is c) c.last_year_of.ensures.1
+    read.1.1.1.1.1.0 read.1.1.1.1.0 (late s.args.year s.args.packed.now 13 (omega arith) s.requires).1.1
 
 returns : tie.Need-returns
 returns c =
@@ -40,7 +40,7 @@ returns c =
     let s = start at in
     let read = at.before.before.before.read_again.ensures in (
       c.development_found.ensures.0
-          ∙ development_is (figures_of s.args.packed.now) (development_no s.args.year s.args.packed.now s.pre) _ _ _ (year_is at) at.last_year_of.ensures.1
+          ∙ development_is (figures_of s.args.packed.now) (development_no s.args.year s.args.packed.now s.requires) _ _ _ (year_is at) at.last_year_of.ensures.1
           read.1.1.1.1.1.0 read.1.1.1.1.0,
       c.development_found.ensures.1,
     )

@@ -31,7 +31,7 @@ sub-top c =
 height-of-requires-2 : tie.Need-height_of-height-requires
 height-of-requires-2 c κs =
     let s = c.before.before.before.before.before in
-    let size : c.type_size.result ≡ nat_abs s.args.z = rw (to_z-of_z s.ranges.z) at c.type_size.ensures in
+    let size : c.size_of.result ≡ nat_abs s.args.z = rw (to_z-of_z s.ranges.z) at c.size_of.ensures in
     (s.requires.0, omega (arith, size, s.requires.1.0))
 
 returns : tie.Need-returns
@@ -42,7 +42,7 @@ returns c =
     let top = zero_line s.args.s - height_of s.args.s (side_of false s.args.z) in
     put_append
     {xs = shape s.args.mark s.args.x top s.args.w (height_of s.args.s (nat_abs s.args.z))}
-    (rw (c.before.before.before.before.before.before.before.before.before.before.before.before.zero_line.ensures, c.before.before.before.before.before.before.before.before.before.before.height_of.ensures, c.before.before.before.before.before.before.before.before.before.before.before.side_of.ensures, c.before.before.before.before.before.before.before.before.height_of-height.ensures, c.before.before.before.before.before.before.before.before.before.type_size.ensures, kept) at c.before.before.before.before.before.before.put_shape-end.ensures)
+    (rw (c.before.before.before.before.before.before.before.before.before.before.before.before.zero_line.ensures, c.before.before.before.before.before.before.before.before.before.before.height_of.ensures, c.before.before.before.before.before.before.before.before.before.before.before.side_of.ensures, c.before.before.before.before.before.before.before.before.height_of-height.ensures, c.before.before.before.before.before.before.before.before.before.size_of.ensures, kept) at c.before.before.before.before.before.before.put_shape-end.ensures)
     (rw kept at c.before.before.put_told.ensures)
 
 pub put_bar_spec : {M : Type 1} → statement M

@@ -17,7 +17,7 @@ put-bar-requires c κs =
     let s = c.before.before.before.before.before in
     let drawn = s.requires in
     let a = s.args in
-    let kept : to_z w64 (of_z w64 c.share_at.result) ≡ share_at a.list.now a.width a.j a.a = to_z-of_z (sfits_of c.share_at.type_inv) ∙ c.share_at.ensures in
+    let kept : to_z w64 (of_z w64 c.share_at.result) ≡ share_at a.list.now a.width a.j a.a = to_z-of_z {w = w64} (sfits_of c.share_at.type_inv) ∙ c.share_at.ensures in
     rw kept (drawn.scale_sound, (omega (arith, share_most a.list.now a.width a.j drawn.small a.a), drawn.reached))
 
 returns : tie.Need-returns-then-is_refused
@@ -29,7 +29,7 @@ unfolding drift_bar
 returns-2 c =
     let s = c.before.before.before.before.before.before.before.before in
     let a = s.args in
-    let kept : to_z w64 (of_z w64 c.before.before.before.share_at.result) ≡ share_at a.list.now a.width a.j a.a = to_z-of_z (sfits_of c.before.before.before.share_at.type_inv) ∙ c.before.before.before.share_at.ensures in
+    let kept : to_z w64 (of_z w64 c.before.before.before.share_at.result) ≡ share_at a.list.now a.width a.j a.a = to_z-of_z {w = w64} (sfits_of c.before.before.before.share_at.type_inv) ∙ c.before.before.before.share_at.ensures in
     rw (sym c.before.before.before.before.before.before.is_refused.ensures ∙ c.before.before.before.before.before.if-is_refused.false) (rw kept at c.before.before.put_bar.ensures)
 
 pub put_drift_bar_spec : {M : Type 1} → statement M

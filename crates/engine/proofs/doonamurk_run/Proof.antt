@@ -36,7 +36,7 @@ returns c =
     let s = start at in
     let packed = s.args.packed.now in
     let out = s.args.results.now in
-    ran s.args.valuation-year packed out (bytes at) at.opens-answer.result _ (first_refused_lem (filled s.args.valuation-year (figures_of packed) out) out (opening_questions packed) _ at.opens-answer.result (sym at.opens-answer.ensures) c.if-answer-ne-ACCEPTED.true)
+    ran s.args.valuation_year packed out (bytes at) at.opens-answer.result _ (first_refused_lem (filled s.args.valuation_year (figures_of packed) out) out (opening_questions packed) _ at.opens-answer.result (sym at.opens-answer.ensures) c.if-answer-ne-ACCEPTED.true)
 
 yes-opening : (c : tie.Else-answer-ne-ACCEPTED) → first_no (opening_questions (start c.before).args.packed.now) ≡ 0
 yes-opening c = sym c.before.opens-answer.ensures ∙ c.if-answer-ne-ACCEPTED.false
@@ -54,9 +54,9 @@ returns-2 c =
     let packed = s.args.packed.now in
     let out = s.args.results.now in
     let no = sym c.before.holds_list.ensures ∙ c.if-not-holds_list.true in
-    ran s.args.valuation-year packed out (bytes one.before) 3 out
-    (later (filled s.args.valuation-year (figures_of packed) out) out (opening_questions packed) _ out 3 refl (yes-opening one)
-    (first_refused_lem (filled s.args.valuation-year (figures_of packed) out) out ((3, _) ∷ []) _ 3 (one_no 3 _ no) (λ z. omega arith)))
+    ran s.args.valuation_year packed out (bytes one.before) 3 out
+    (later (filled s.args.valuation_year (figures_of packed) out) out (opening_questions packed) _ out 3 refl (yes-opening one)
+    (first_refused_lem (filled s.args.valuation_year (figures_of packed) out) out ((3, _) ∷ []) _ 3 (one_no 3 _ no) (λ z. omega arith)))
 
 yes-room : (c : tie.Else-not-holds_list) →
     let s = start c.before.before.before in
@@ -85,9 +85,9 @@ returns-3 c =
     let packed = s.args.packed.now in
     let out = s.args.results.now in
     let f = figures_of packed in
-    ran s.args.valuation-year packed out (bytes one.before) run.run_record.result _
-    (later (filled s.args.valuation-year f out) out (opening_questions packed) _ _ _ refl (yes-opening one)
-    (later (filled s.args.valuation-year f out) out ((3, _) ∷ []) _ _ _ refl (one_yes 3 _ (yes-room two)) run.run_record.ensures))
+    ran s.args.valuation_year packed out (bytes one.before) run.run_record.result _
+    (later (filled s.args.valuation_year f out) out (opening_questions packed) _ _ _ refl (yes-opening one)
+    (later (filled s.args.valuation_year f out) out ((3, _) ∷ []) _ _ _ refl (one_yes 3 _ (yes-room two)) run.run_record.ensures))
 
 pub doonamurk_run_spec : {M : Type 1} → statement M
 doonamurk_run_spec =

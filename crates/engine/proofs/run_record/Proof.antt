@@ -39,18 +39,18 @@ last-year-of-requires : tie.Need-last_year_of-requires
 last-year-of-requires c κs =
     let s = start c.before.before in
     let packed = s.args.packed.now in
-    (years_known_lem packed (opening_yes packed s.pre.0).0).0
+    (years_known_lem packed (opening_yes packed s.requires.0).0).0
 
 figures-read : (c : tie.After-last_year_of) →
     let at = c.before.before.before in
-    figures c.last_year_of.result at.read-opened.new.increments.0 at.read-opened.new.increments.1.0 at.read-opened.new.increments.1.1.0 at.read-opened.new.increments.1.1.1.0 at.read-opened.result.weight at.read-opened.new.increments.1.1.1.1.0 at.read-opened.result.tail
+    figures c.last_year_of.result at.read-opened.new.increments.0 at.read-opened.new.increments at.read-opened.new.indices at.read-opened.new.reporting at.read-opened.result.weight at.read-opened.new.ulae at.read-opened.result.tail
     ≡ figures_of (start at).args.packed.now
 figures-read c =
     let at = c.before.before.before in
     let s = start at in
     let packed = s.args.packed.now in
     let e = at.read-opened.ensures.1 in
-    figures_are packed (figures_filled packed (bytes at) s.pre.0 (yes-fields c.before)) _ _ _ _ _ _ _ _ c.last_year_of.ensures.0 e.1.0 e.1.1.0 e.1.1.1.0 e.1.1.1.1.0 e.0 e.1.1.1.1.1.0 e.1.1.1.1.1.1
+    figures_are packed (figures_filled packed (bytes at) s.requires.0 (yes-fields c.before)) _ _ _ _ _ _ _ _ c.last_year_of.ensures.0 e.1.0 e.1.1.0 e.1.1.1.0 e.1.1.1.1.0 e.0 e.1.1.1.1.1.0 e.1.1.1.1.1.1
 
 run-figures-requires : tie.Need-run_figures-requires
 run-figures-requires c κs =
@@ -58,7 +58,7 @@ run-figures-requires c κs =
     let at = last.before.before.before in
     let s = start at in
     let packed = s.args.packed.now in
-    (rw (figures-read last) (sound_figures packed (bytes at) s.pre.0 (yes-fields last.before)), rw last.last_year_of.ensures.0 s.pre.1)
+    (rw (figures-read last) (sound_figures packed (bytes at) s.requires.0 (yes-fields last.before)), rw last.last_year_of.ensures.0 s.requires.1)
 
 same_length : tie.Need-shape_of-out
 same_length c = search rules

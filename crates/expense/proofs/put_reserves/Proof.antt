@@ -78,7 +78,7 @@ add_open c = omega (arith, c.before.before.before.before.before.before.requires.
 product : (c : tie.After-open-1 invariant-loop decreases-loop) →
     let s = c.before.before.before.before.before.before in
     let t = c.before.before.before.before.before.loop-i in
-    (get_or s.args.paid.now t.i 0 + get_or s.args.provisions.now t.i 0) * t.after-1 ≤ most_ultimate * million
+    (get_or s.args.paid.now t.i 0 + get_or s.args.provisions.now t.i 0) * t.after ≤ most_ultimate * million
 unfolding ultimate
 product c =
     let s = c.before.before.before.before.before.before in
@@ -89,7 +89,7 @@ product c =
 open_is : (c : tie.After-open-1 invariant-loop decreases-loop) →
     let s = c.before.before.before.before.before.before in
     let t = c.before.before.before.before.before.loop-i in
-    (get_or s.args.paid.now t.i 0 + get_or s.args.provisions.now t.i 0) * t.after-1 / million
+    (get_or s.args.paid.now t.i 0 + get_or s.args.provisions.now t.i 0) * t.after / million
     ≡ not_reported s.args.k s.args.reporting.now s.args.paid.now s.args.provisions.now t.i
 unfolding not_reported ultimate
 open_is c = rw c.before.before.before.before.before.loop-i.invariant.1.0
@@ -148,7 +148,7 @@ next : (c : tie.After-after-1 invariant-loop decreases-loop) →
     let s = c.before.before.before.before.before.before.before.before.before in
     let t = c.before.before.before.before.before.before.before.before.loop-i in
     let b = s.args.reporting.now in
-    (t.after-1 + get_or b (s.args.k - t.i) 0 ≡ reported_after s.args.k b (t.i + 1)) × (t.after-1 + get_or b (s.args.k - t.i) 0 ≤ million)
+    (t.after + get_or b (s.args.k - t.i) 0 ≡ reported_after s.args.k b (t.i + 1)) × (t.after + get_or b (s.args.k - t.i) 0 ≤ million)
 next c =
     let s = c.before.before.before.before.before.before.before.before.before in
     let t = c.before.before.before.before.before.before.before.before.loop-i in
@@ -184,7 +184,7 @@ loop-again c =
     let b = s.args.reporting.now in
     let f = not_reported k b p q in
     let g = reserve k s.args.ratio s.args.weight b p q in
-    let part = (get_or p t.i 0 + get_or q t.i 0) * t.after-1 / million in
+    let part = (get_or p t.i 0 + get_or q t.i 0) * t.after / million in
     let small : part < 2 ^ 63 = omega (arith, product d.before) in
     let low : d.reserve_of-amount.result < 2 ^ 63 = omega (arith, d.reserve_of-amount.ensures.1) in
     let stored = both_more (λ (j : ℕ). pos (f j)) (λ (j : ℕ). pos (g j)) s.args.out.now s.args.at (k + 1) t.i (omega arith) in

@@ -11,8 +11,8 @@ use Rattle.expense.proofs.ReservesMost.{mixture_most, weighted_most, reserve_of_
 use Rattle.expense.proofs.reserve_of.Statement.{statement}
 use Rattle.expense.proofs.reserve_of.Tie as tie
 
-all : (c : tie.Start) → c.args.weight * c.args.not-reported + (million - c.args.weight) * c.args.provision ≤ million * most_ultimate
-all c = mixture_most c.args.weight c.args.not-reported c.args.provision c.requires.1.0 c.requires.1.1.0 c.requires.1.1.1
+all : (c : tie.Start) → c.args.weight * c.args.not_reported + (million - c.args.weight) * c.args.provision ≤ million * most_ultimate
+all c = mixture_most c.args.weight c.args.not_reported c.args.provision c.requires.1.0 c.requires.1.1.0 c.requires.1.1.1
 
 mul-weighted : tie.Need-overflow_mul-weighted
 mul-weighted c = omega (arith, all c)
@@ -29,12 +29,12 @@ add-weighted c = omega (arith, all c)
 mul-result : tie.Need-overflow_mul-result
 unfolding weighted
 mul-result c =
-    let mean = weighted_most c.args.weight c.args.not-reported c.args.provision c.requires.1.0 c.requires.1.1.0 c.requires.1.1.1 in
+    let mean = weighted_most c.args.weight c.args.not_reported c.args.provision c.requires.1.0 c.requires.1.1.0 c.requires.1.1.1 in
     omega (arith, mul-le-mul c.requires.0 mean)
 
 returns : tie.Need-returns
 unfolding weighted reserve_of
-returns c = (refl, reserve_of_most c.args.ratio c.args.weight c.args.not-reported c.args.provision c.requires.0 c.requires.1.0 c.requires.1.1.0 c.requires.1.1.1)
+returns c = (refl, reserve_of_most c.args.ratio c.args.weight c.args.not_reported c.args.provision c.requires.0 c.requires.1.0 c.requires.1.1.0 c.requires.1.1.1)
 
 pub reserve_of_spec : {M : Type 1} → statement M
 reserve_of_spec =

@@ -27,36 +27,36 @@ factors c =
     let s = start c in
     let read = c.before.before.before.totals_again-k.ensures in
     walked (square_of (figures_of s.args.packed.now)) (figures_of s.args.packed.now).k _ _ read.1.1
-    (totals_yes s.args.year s.args.packed.now 10 refl s.pre) (rests_yes s.args.year s.args.packed.now 10 refl s.pre) _ read.0 _ c.walk-factors.ensures
+    (totals_yes s.args.year s.args.packed.now 10 refl s.requires) (rests_yes s.args.year s.args.packed.now 10 refl s.requires) _ read.0 _ c.walk-factors.ensures
 
 level-found-requires : tie.Need-level_found-requires
 level-found-requires c κs =
-    let at = c.before.before.before.before.before.before in
+    let at = c.before.before.before in
     let s = start at in
     let f = figures_of s.args.packed.now in
-    let read = at.totals_again-k.ensures in
+    let read = at.before.before.before.totals_again-k.ensures in
     let few = rw read.0 at read.1.0 in
-    let yes7 = totals_yes s.args.year s.args.packed.now 10 refl s.pre in (
+    let yes7 = totals_yes s.args.year s.args.packed.now 10 refl s.requires in (
       read.1.0,
       (
         shares_small (square_of f) f.k few _ _ read.1.1 yes7 _ (factors at),
         (
           levels_small (square_of f) f.k few _ _ read.1.1 yes7 _ (factors at),
-          levels_in_lem (square_of f) f.k few _ _ read.1.1 yes7 _ (factors at) (levels_no s.args.year s.args.packed.now s.pre) _ read.0,
+          levels_in_lem (square_of f) f.k few _ _ read.1.1 yes7 _ (factors at) (levels_no s.args.year s.args.packed.now s.requires) _ read.0,
         ),
       ),
     )
 
 returns : tie.Need-returns
 returns c =
-    let at = c.before.before.before.before.before.before.before in
+    let at = c.before.before.before.before in
     let s = start at in
     let f = figures_of s.args.packed.now in
-    let read = at.totals_again-k.ensures in
+    let read = at.before.before.before.totals_again-k.ensures in
     let few = rw read.0 at read.1.0 in
-    let yes7 = totals_yes s.args.year s.args.packed.now 10 refl s.pre in (
+    let yes7 = totals_yes s.args.year s.args.packed.now 10 refl s.requires in (
       c.level_found.ensures.0
-          ∙ level_is (square_of f) f.k few _ _ read.1.1 yes7 _ (factors at) (levels_no s.args.year s.args.packed.now s.pre) _ read.0,
+          ∙ level_is (square_of f) f.k few _ _ read.1.1 yes7 _ (factors at) (levels_no s.args.year s.args.packed.now s.requires) _ read.0,
       c.level_found.ensures.1,
     )
 

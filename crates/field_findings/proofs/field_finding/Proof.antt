@@ -50,8 +50,8 @@ found_at s e f g = rw (e, g, f)
 
 returns : tie.Need-returns
 returns c =
-    let at = c.before.before.before.before.before in
-    let s = at.args.packed.now in
+    let at = c.before.before.before.before in
+    let s = at.before.args.packed.now in
     let e = found_at s c.finding_at.ensures c.before.before.first_row-r.ensures c.before.first_field.ensures in
     (e, rw e (field_small s (refused at) (bytes at)))
 

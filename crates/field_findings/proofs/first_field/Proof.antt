@@ -91,8 +91,8 @@ returns : tie.Need-returns-then-not-passes invariant-loop decreases-loop
 unfolding first_field_of
 returns c =
     let l = c.before.before.before.before.before.before.loop-m in
-    let call = c.before.before.before.before.before.before.before.before.before in
-    let a = call.args in
+    let call = c.before.before.before.before.before.before.before in
+    let a = call.before.before.args in
     let no = said c.before (omega arith) ∙ c.if-not-passes.true in
     sym (leading_stop (field_passes a.s.now a.r) (count_of (last_year_of a.s.now) a.r) l.m (omega (arith, fields call)) l.invariant.1 no)
 
@@ -107,8 +107,8 @@ returns-2 : tie.Need-returns invariant-loop decreases-loop
 unfolding first_field_of
 returns-2 c =
     let l = c.before.loop-m in
-    let call = c.before.before.before.before in
-    let a = call.args in
+    let call = c.before.before in
+    let a = call.before.before.args in
     let e : l.m ≡ count_of (last_year_of a.s.now) a.r = omega (arith, fields call) in
     fields call ∙ sym (leading_all (field_passes a.s.now a.r) (count_of (last_year_of a.s.now) a.r) (rw e at l.invariant.1))
 

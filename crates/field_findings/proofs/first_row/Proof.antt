@@ -58,24 +58,24 @@ row-of-requires c κs =
 fields : (c : tie.After-row_of invariant-loop decreases-loop) → c.before.before.before.loop-r.r < 8
     → c.row_of.result.count ≡ count_of (last_year_of c.before.before.before.before.before.args.s.now) c.before.before.before.loop-r.r
 fields c l =
-    let at = c.before.before.before.before.before in
-    held_count (is_whole at) at.requires.1 c.row_of.ensures l
+    let at = c.before.before.before.before in
+    held_count (is_whole at) at.before.requires.1 c.row_of.ensures l
 
 returns : tie.Need-returns-then-first_field-row_of invariant-loop decreases-loop
 unfolding first_row
 returns c =
-    let call = c.before.before.before in
-    let l = call.before.before.loop-r in
-    let s = call.before.before.before.before.args.s.now in
-    let no = row_no s l.r (omega (arith, c.if-first_field-row_of.true, fields call (omega arith), call.first_field.ensures)) in
+    let call = c.before.before in
+    let l = call.before.before.before.loop-r in
+    let s = call.before.before.before.before.before.args.s.now in
+    let no = row_no s l.r (omega (arith, c.if-first_field-row_of.true, fields call (omega arith), call.before.first_field.ensures)) in
     sym (leading_stop (row_in_range s) 8 l.r (omega arith) l.invariant.1.1 no)
 
 loop-again : tie.Need-loop-r-preserved invariant-loop decreases-loop
 loop-again c =
-    let call = c.before.before.before in
-    let l = call.before.before.loop-r in
-    let s = call.before.before.before.before.args.s.now in
-    let ok = row_yes s l.r (omega (arith, c.if-first_field-row_of.false, fields call (omega arith), call.first_field.ensures)) in
+    let call = c.before.before in
+    let l = call.before.before.before.loop-r in
+    let s = call.before.before.before.before.before.args.s.now in
+    let ok = row_yes s l.r (omega (arith, c.if-first_field-row_of.false, fields call (omega arith), call.before.first_field.ensures)) in
     (omega arith, (omega arith, every_next (row_in_range s) (λ r. r) l.r l.invariant.1.1 ok))
 
 returns-2 : tie.Need-returns invariant-loop decreases-loop

@@ -48,10 +48,10 @@ returns c =
 -- the sums of the cumulatives' columns, and the paid cumulatives
 sums_are : (c : tie.Else-not-fill_rows) →
     let s = start1 c.before in
-    c.before.fill_rows.new.sums.1.1.1.0 ≡ up_to (column_sum (F s).k (F s).increments ((F s).k + 1)) 16
+    c.before.fill_rows.new.sums ≡ up_to (column_sum (F s).k (F s).increments ((F s).k + 1)) 16
 sums_are c = stage.sums-are (F (start1 c.before)) (yes-six c) _ c.before.fill_rows.ensures.1.1.0
 
-paid_are : (c : tie.Else-not-fill_rows) → c.before.fill_rows.new.sums.1.1.1.1.0 ≡ paid_in (F (start1 c.before))
+paid_are : (c : tie.Else-not-fill_rows) → c.before.fill_rows.new.paid ≡ paid_in (F (start1 c.before))
 paid_are c = stage.paid-are (F (start1 c.before)) (yes-six c) _ c.before.fill_rows.ensures.1.1.1.0
 
 -- question 13
@@ -59,7 +59,7 @@ development-factors-requires : tie.Need-development_factors-requires
 development-factors-requires c κs =
     let six = c.before.before.before in
     let s = start1 six.before in
-    ladder.ladderable (F s) s.pre.0.few _ _ (sums_are six) (paid_are six) (yes-six six)
+    ladder.ladderable (F s) s.requires.0.few _ _ (sums_are six) (paid_are six) (yes-six six)
 
 abbrev six13 : tie.After-development_factors → tie.Else-not-fill_rows
 six13 c = c.before.before.before.before
@@ -70,18 +70,18 @@ thirteen : (c : tie.After-development_factors) →
 thirteen c =
     let six = six13 c in
     let s = start1 six.before in
-    c.development_factors.ensures.0 ∙ ladder.thirteen-is (F s) s.pre.0.few _ _ (sums_are six) (paid_are six)
+    c.development_factors.ensures.0 ∙ ladder.thirteen-is (F s) s.requires.0.few _ _ (sums_are six) (paid_are six)
 
 yes-thirteen : (c : tie.Else-not-development_factors) →
     let f = F (start1 (six13 c.before).before) in
     development_passes f ≡ true
 yes-thirteen c = sym (thirteen c.before) ∙ c.if-not-development_factors.false
 
-development_are : (c : tie.Else-not-development_factors) → c.before.development_factors.new.paid.1.1.0 ≡ development_in (F (start1 (six13 c.before).before))
+development_are : (c : tie.Else-not-development_factors) → c.before.development_factors.new.factors ≡ development_in (F (start1 (six13 c.before).before))
 development_are c =
     let six = six13 c.before in
     let s = start1 six.before in
-    ladder.development-are (F s) s.pre.0.few _ _ (sums_are six) (paid_are six) (yes-thirteen c) _ c.before.development_factors.ensures.1
+    ladder.development-are (F s) s.requires.0.few _ _ (sums_are six) (paid_are six) (yes-thirteen c) _ c.before.development_factors.ensures.1
 
 returns-2 : tie.Need-returns-then-not-development_factors
 unfolding figure_questions development_questions every
@@ -111,20 +111,20 @@ after-13 c qs left n a =
     (later (filled s.args.year f out) out (development_questions f) _ left n refl (one_yes 13 _ (yes-thirteen c)) a)
 
 -- the square, and the answer of questions 7 to 10
-square_is : (c : tie.Else-not-fill_rows) → c.before.fill_rows.new.sums.1.1.0 ≡ square_of (F (start1 c.before))
+square_is : (c : tie.Else-not-fill_rows) → c.before.fill_rows.new.square ≡ square_of (F (start1 c.before))
 square_is c = stage.square-is (F (start1 c.before)) (yes-six c) _ c.before.fill_rows.ensures.1.0
 
 -- its totals
 summed : (c : tie.Else-not-fill_rows) →
     let s = start1 c.before in
-    Summed (square_of (F s)) (F s).k c.before.fill_rows.new.sums.1.1.1.1.1.0 c.before.fill_rows.new.sums.1.1.1.1.1.1.0
-summed c = let s = start1 c.before in stage.totals-are (F s) (yes-six c) s.pre.0 _ _ c.before.fill_rows.ensures.1.1.1.1
+    Summed (square_of (F s)) (F s).k c.before.fill_rows.new.columns c.before.fill_rows.new.diagonals
+summed c = let s = start1 c.before in stage.totals-are (F s) (yes-six c) s.requires.0 _ _ c.before.fill_rows.ensures.1.1.1.1
 
 separate-totals-requires : tie.Need-separate_totals-separation-requires
 separate-totals-requires c κs =
     let six = six13 c.before.before.before in
     let s = start1 six.before in
-    (s.pre.0.few, (square_of (F s), summed six))
+    (s.requires.0.few, (square_of (F s), summed six))
 
 abbrev yes13 : tie.After-separate_totals-separation → tie.Else-not-development_factors
 yes13 c = c.before.before.before
@@ -159,7 +159,7 @@ accepted-is c = sym (answer-is (separate3 c)) ∙ c.if-separation-ne-ACCEPTED.fa
 
 run-separated-requires : tie.Need-run_separated-requires
 run-separated-requires c κs =
-    let three = c.before.before.before.before.before.before.before.before in
+    let three = c.before.before.before.before.before.before.before in
     let at = separate3 three in
     let yes = yes13 at in
     let six = six13 yes.before in
@@ -167,7 +167,7 @@ run-separated-requires c κs =
     let f = F s in
     let factors = stage.factors-are f at.separate_totals-separation.result.factors-1 (at.separate_totals-separation.ensures (square_of f) (summed six)).1 (accepted-is three) in (
       record {
-        sound = s.pre.0;
+        sound = s.requires.0;
         cumulatives = yes-six six;
         square = square_is six;
         development = yes-thirteen yes;
@@ -177,7 +177,7 @@ run-separated-requires c κs =
         shares = ap (λ (g : Factors). g.shares) factors;
         levels = ap (λ (g : Factors). g.levels) factors;
       },
-      s.pre.1,
+      s.requires.1,
     )
 
 same_length : tie.Need-shape_of-out
@@ -187,7 +187,7 @@ returns-4 : tie.Need-returns
 unfolding figure_questions separate_answer separation_questions every
 returns-4 c =
     let call = c.before in
-    let three = call.before.before.before.before.before.before.before.before.before in
+    let three = call.before.before.before.before.before.before.before.before in
     let at = separate3 three in
     let s = start2 at in
     let f = F s in

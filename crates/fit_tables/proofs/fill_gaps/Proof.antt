@@ -22,9 +22,9 @@ places c = numbers c.added_at-added.result (starts_of c.before.args.k) c.before.
 
 place-past-requires : tie.Need-place_past-requires
 place-past-requires c κs =
-    let a = c.before.before.before.before.before.before in
+    let a = c.before.before.before.before.before in
     let n = places a in
-    let k = a.args.k in
+    let k = a.before.args.k in
     (n.few, (omega arith, (omega arith, rows_room k (k + 2) n.few (omega arith))))
 
 place-column-requires : tie.Need-place_column-requires

@@ -43,11 +43,11 @@ read l p h small =
 
 -- the share and the level of a turn, and what their product is at most
 share : (c : tie.After-size_of-in-loop-j invariant-loop decreases-loop)
-    → c.before.before.type_size.result ≡ nat_abs (figure_at c.before.before.before.before.before.before.args.out.now (c.before.before.before.before.before.before.args.r + c.before.before.before.before.before.loop-j.j))
+    → c.before.before.size_of.result ≡ nat_abs (figure_at c.before.before.before.before.before.before.args.out.now (c.before.before.before.before.before.before.args.r + c.before.before.before.before.before.loop-j.j))
 share c =
     let l = c.before.before.before.before.before in
     let s = l.before in
-    c.before.before.type_size.ensures ∙ ap nat_abs (read l (s.args.r + l.loop-j.j) (omega arith) (s.requires.1.1.1.0 l.loop-j.j (omega arith)))
+    c.before.before.size_of.ensures ∙ ap nat_abs (read l (s.args.r + l.loop-j.j) (omega arith) (s.requires.1.1.1.0 l.loop-j.j (omega arith)))
 
 level : (c : tie.After-size_of-in-loop-j invariant-loop decreases-loop)
     → c.size_of-in-loop-j.result ≡ nat_abs (figure_at c.before.before.before.before.before.before.args.out.now (c.before.before.before.before.before.before.args.l + c.before.before.before.before.before.loop-j.j))
@@ -56,7 +56,7 @@ level c =
     let s = l.before in
     c.size_of-in-loop-j.ensures ∙ ap nat_abs (read l (s.args.l + l.loop-j.j) (omega arith) (s.requires.1.1.1.1 l.loop-j.j (omega arith)))
 
-most : (c : tie.After-size_of-in-loop-j invariant-loop decreases-loop) → c.before.before.type_size.result * c.size_of-in-loop-j.result ≤ billion * billion
+most : (c : tie.After-size_of-in-loop-j invariant-loop decreases-loop) → c.before.before.size_of.result * c.size_of-in-loop-j.result ≤ billion * billion
 most c =
     let l = c.before.before.before.before.before in
     let s = l.before in
@@ -66,13 +66,13 @@ mul-out : tie.Need-overflow_mul-out invariant-loop decreases-loop
 mul-out c = record { fits = omega (arith, most c) }
 
 cast-out : tie.Need-overflow_cast-out invariant-loop decreases-loop
-cast-out c = size_fits (pos (c.before.before.type_size.result * c.size_of-in-loop-j.result / billion)) (omega (arith, most c))
+cast-out c = size_fits (pos (c.before.before.size_of.result * c.size_of-in-loop-j.result / billion)) (omega (arith, most c))
 
 loop-again : tie.Need-loop-j-preserved invariant-loop decreases-loop
 loop-again c =
     let l = c.before.before.before.before.before in
     let s = l.before in
-    let product = to_z_pos w64 (c.before.before.type_size.result * c.size_of-in-loop-j.result / billion) (omega (arith, most c)) in (
+    let product = to_z_pos w64 (c.before.before.size_of.result * c.size_of-in-loop-j.result / billion) (omega (arith, most c)) in (
       omega arith,
       rw (product, share c, level c, l.loop-j.invariant.1) (sets_more (one s.args.r s.args.l s.args.out.now) s.args.out.now s.args.at l.loop-j.j),
     )

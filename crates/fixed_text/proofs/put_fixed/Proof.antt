@@ -43,7 +43,7 @@ returns-2 : tie.Need-returns-else-d-eq0
 returns-2 c =
     let s = c.before.before.before.before.before.before.before.before.before.before.before.before.before.before.before.before.before.before.before.before in
     let kept = to_z-of_z s.ranges.z in
-    put_decimals s.args.d s.args.z c.before.before.before.before.before.before.before.before.before.before.before.before.before.before.before.before.before.before.if-d-eq0.false (rw kept at c.before.before.before.before.before.before.before.before.before.before.before.before.before.before.before.before.before.type_size.ensures) c.before.before.before.before.before.before.before.before.before.before.before.shortened.ensures
+    put_decimals s.args.d s.args.z c.before.before.before.before.before.before.before.before.before.before.before.before.before.before.before.before.before.before.if-d-eq0.false (rw kept at c.before.before.before.before.before.before.before.before.before.before.before.before.before.before.before.before.before.size_of-n.ensures) c.before.before.before.before.before.before.before.before.before.before.before.shortened.ensures
     (rw kept at c.before.before.before.before.before.before.before.before.before.before.before.before.before.before.before.put_sign-whole.ensures) c.before.before.before.before.before.before.before.before.before.before.put_decimal-point.ensures c.before.before.before.before.before.before.put_byte-decimals.ensures c.before.before.put_last.ensures
 
 pub put_fixed_spec : {M : Type 1} → statement M

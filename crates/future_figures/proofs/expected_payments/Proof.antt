@@ -51,7 +51,7 @@ add-sum-3 c =
     let l = c.before.before in
     let s = l.before in
     rw (place_is l)
-    (sum_fits (term s.args.out.now s.args.y s.args.t) most_figure (s.args.k - s.args.t) (small s) l.loop-m.m l.loop-m.sum (omega arith) (omega arith) l.loop-m.invariant.1)
+    (sum_fits (term s.args.out.now s.args.y s.args.t) most_figure (s.args.k - s.args.t) (small s) l.loop-m.m l.loop-m.sum-bits (omega arith) (omega arith) l.loop-m.invariant.1)
 
 loop-again : tie.Need-loop-m-preserved invariant-loop decreases-loop
 loop-again c =
@@ -60,16 +60,16 @@ loop-again c =
       omega arith,
       rw (place_is l)
           (ap (of_z w64)
-          (sum_step (term s.args.out.now s.args.y s.args.t) most_figure (s.args.k - s.args.t) (small s) l.loop-m.m l.loop-m.sum (omega arith) (omega arith) l.loop-m.invariant.1)),
+          (sum_step (term s.args.out.now s.args.y s.args.t) most_figure (s.args.k - s.args.t) (small s) l.loop-m.m l.loop-m.sum-bits (omega arith) (omega arith) l.loop-m.invariant.1)),
     )
 
 -- the sum of all, and the tail payment
 all : (l : tie.At-loop-m invariant-loop decreases-loop) → l.before.args.k - l.before.args.t ≤ l.loop-m.m
-    → to_z w64 l.loop-m.sum ≡ sum_to (term l.before.args.out.now l.before.args.y l.before.args.t) (l.before.args.k - l.before.args.t)
+    → to_z w64 l.loop-m.sum-bits ≡ sum_to (term l.before.args.out.now l.before.args.y l.before.args.t) (l.before.args.k - l.before.args.t)
 all l h =
     let s = l.before in
     let e : l.loop-m.m ≡ s.args.k - s.args.t = omega arith in
-    sum_read (term s.args.out.now s.args.y s.args.t) most_figure (s.args.k - s.args.t) (small s) (s.args.k - s.args.t) l.loop-m.sum (omega arith) (omega arith)
+    sum_read (term s.args.out.now s.args.y s.args.t) most_figure (s.args.k - s.args.t) (small s) (s.args.k - s.args.t) l.loop-m.sum-bits (omega arith) (omega arith)
     (rw e at l.loop-m.invariant.1)
 
 tail_is : (s : tie.Start invariant-loop decreases-loop) → held (figure_at s.args.out.now (s.args.z + s.args.t)) ≡ figure_at s.args.out.now (s.args.z + s.args.t)

@@ -1,4 +1,5 @@
 -- The loop's invariant: each of the first i is in range; one that is not makes the whole test false. Assumes nothing.
+use mir.Syntax.{w64}
 use mathlib.Core.Path.{◌≡◌, refl, sym, ◌∙◌}
 use mathlib.Core.Bool.{true}
 use Prim.Native.Nat.{◌-◌, ◌≤◌}
@@ -23,7 +24,7 @@ decreases-loop ps n i₀ i = length ps - i
 -- what the call said of number i
 said : (c : tie.After-in_range invariant-loop decreases-loop)
     → in_range increment (get_or c.before.before.before.before.args.ps.now c.before.before.before.loop-i.i (pos 0)) ≡ c.in_range.result
-said c = sym (rw (to_z-of_z (sfits_of c.before.in_range-arg-1.given)) at c.in_range.ensures)
+said c = sym (rw (to_z-of_z {w = w64} (sfits_of c.before.in_range-arg-1.given)) at c.in_range.ensures)
 
 loop-holds : tie.Need-loop-i-init invariant-loop decreases-loop
 unfolding every

@@ -9,7 +9,7 @@ use Rattle.given_fields.proofs.in_range.Tie as tie
 
 returns : tie.Need-returns
 unfolding in_range
-returns c = rw (c.type_size.ensures, to_z-of_z c.before.ranges.p, leb-zero (nat_abs c.before.args.p))
+returns c = rw (c.size_of.ensures, to_z-of_z c.before.ranges.p, leb-zero (nat_abs c.before.args.p))
 
 pub in_range_spec : {M : Type 1} → statement M
 in_range_spec = tie.close (tie.spec (λ c κs. search rules) returns)

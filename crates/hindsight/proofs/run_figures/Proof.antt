@@ -36,22 +36,22 @@ six c = sym c.before.fill_rows.ensures.0 ∙ c.if-not-fill_rows.false
 
 fill-report-requires : tie.Need-fill_report-requires
 fill-report-requires c κs =
-    let else = c.before.before.before.before.before in
-    let s = start else in
+    let else = c.before.before.before.before in
+    let s = start else.before in
     let k = s.args.k in
     let n = s.args.exposures.now in
     let p = s.args.increments.now in
-    let rows = else.fill_rows.ensures.1 in
-    let tried = settings_known s.args.k s.args.settings.now s.pre.1.0 in
+    let rows = else.before.fill_rows.ensures.1 in
+    let tried = settings_known s.args.k s.args.settings.now s.requires.1.0 in
     record {
-      given = s.pre.0;
+      given = s.requires.0;
       some = omega (arith, tried.years);
       averages = square_all k n p (six else) _ rows.0;
-      totals = totals_all k n p (six else) s.pre.0.few s.pre.0.exposures s.pre.0.increments _ _ rows.1.1.1;
+      totals = totals_all k n p (six else) s.requires.0.few s.requires.0.exposures s.requires.0.increments _ _ rows.1.1.1;
       tried = tried.some;
       few = tried.few;
       indices = tried.indices;
-      room = s.pre.1.1;
+      room = s.requires.1.1;
     }
 
 same_length : tie.Need-shape_of-report

@@ -49,7 +49,7 @@ last-year-of-requires : tie.Need-last_year_of-requires
 last-year-of-requires c κs =
     let s = start c.before.before in
     let packed = s.args.packed.now in
-    (years_known_lem packed (opening_yes packed s.pre.0).0).0
+    (years_known_lem packed (opening_yes packed s.requires.0).0).0
 
 -- what was read are the record's last year, exposures and increments
 abbrev read_at : tie.After-last_year_of → tie.After-read-opened
@@ -58,12 +58,12 @@ read_at c = c.before.before.before
 exposures-read : (c : tie.After-last_year_of) → let at = read_at c in at.read-opened.last.1.0 ≡ (figures_of (start at).args.packed.now).exposures
 exposures-read c =
     let at = read_at c in
-    at.read-opened.ensures.1.1.0 ∙ (figures_filled (start at).args.packed.now (bytes at) (start at).pre.0 (yes-fields c.before)).exposures
+    at.read-opened.ensures.1.1.0 ∙ (figures_filled (start at).args.packed.now (bytes at) (start at).requires.0 (yes-fields c.before)).exposures
 
 increments-read : (c : tie.After-last_year_of) → let at = read_at c in at.read-opened.last.1.1.0 ≡ (figures_of (start at).args.packed.now).increments
 increments-read c =
     let at = read_at c in
-    at.read-opened.ensures.1.1.1.0 ∙ (figures_filled (start at).args.packed.now (bytes at) (start at).pre.0 (yes-fields c.before)).increments
+    at.read-opened.ensures.1.1.1.0 ∙ (figures_filled (start at).args.packed.now (bytes at) (start at).requires.0 (yes-fields c.before)).increments
 
 module _ (s : List ℕ) (k : ℕ) (n : List ℕ) (p : List ℤ) (ek : k ≡ last_year_of s) (en : n ≡ (figures_of s).exposures) (ep : p ≡ (figures_of s).increments) where
   -- they have passed question 4
@@ -83,8 +83,8 @@ run-figures-requires c κs =
     let at = read_at last in
     let s = start at in
     let packed = s.args.packed.now in (
-      given_by packed _ _ _ last.last_year_of.ensures.0 (exposures-read last) (increments-read last) (sound_figures packed (bytes at) s.pre.0 (yes-fields last.before)),
-      (rw last.last_year_of.ensures.0 s.pre.1.0, rw last.last_year_of.ensures.0 s.pre.1.1),
+      given_by packed _ _ _ last.last_year_of.ensures.0 (exposures-read last) (increments-read last) (sound_figures packed (bytes at) s.requires.0 (yes-fields last.before)),
+      (rw last.last_year_of.ensures.0 s.requires.1.0, rw last.last_year_of.ensures.0 s.requires.1.1),
     )
 
 same_length : tie.Need-shape_of-report

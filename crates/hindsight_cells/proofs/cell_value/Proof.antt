@@ -1,4 +1,5 @@
 -- By the table. Assumes nothing.
+use mir.Syntax.{w64}
 use mathlib.Core.Path.{◌∙◌}
 use Prim.Native.Nat.{◌+◌, ◌-◌, ◌<◌}
 use native.Mathlib.Omega.{arith}
@@ -34,15 +35,15 @@ gap-value-requires c κs =
 
 returns : tie.Need-returns-then-t-eq-SETTINGS_TABLE
 unfolding cell_value
-returns c = rw (eq-eqb _ _ c.before.if-t-eq-SETTINGS_TABLE.true) (to_z-of_z (sfits_of c.setting_value.type_inv) ∙ c.setting_value.ensures)
+returns c = rw (eq-eqb _ _ c.before.if-t-eq-SETTINGS_TABLE.true) (to_z-of_z {w = w64} (sfits_of c.setting_value.type_inv) ∙ c.setting_value.ensures)
 
 returns-2 : tie.Need-returns-then-t-eq-STEPS_TABLE
 unfolding cell_value
-returns-2 c = rw (ne_eqb _ _ c.before.before.if-t-eq-SETTINGS_TABLE.false, eq-eqb _ _ c.before.if-t-eq-STEPS_TABLE.true) (to_z-of_z (sfits_of c.step_value.type_inv) ∙ c.step_value.ensures)
+returns-2 c = rw (ne_eqb _ _ c.before.before.if-t-eq-SETTINGS_TABLE.false, eq-eqb _ _ c.before.if-t-eq-STEPS_TABLE.true) (to_z-of_z {w = w64} (sfits_of c.step_value.type_inv) ∙ c.step_value.ensures)
 
 returns-3 : tie.Need-returns-else-t-eq-STEPS_TABLE
 unfolding cell_value
-returns-3 c = rw (ne_eqb _ _ c.before.before.if-t-eq-SETTINGS_TABLE.false, ne_eqb _ _ c.before.if-t-eq-STEPS_TABLE.false) (to_z-of_z (sfits_of c.gap_value.type_inv) ∙ c.gap_value.ensures)
+returns-3 c = rw (ne_eqb _ _ c.before.before.if-t-eq-SETTINGS_TABLE.false, ne_eqb _ _ c.before.if-t-eq-STEPS_TABLE.false) (to_z-of_z {w = w64} (sfits_of c.gap_value.type_inv) ∙ c.gap_value.ensures)
 
 pub cell_value_spec : {M : Type 1} → statement M
 cell_value_spec =

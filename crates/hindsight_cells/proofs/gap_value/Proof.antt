@@ -1,4 +1,5 @@
 -- A forecast stands in a step (forecast_inside). Assumes nothing.
+use mir.Syntax.{w64}
 use mathlib.Core.Path.{sym, ◌∙◌}
 use native.Mathlib.Omega.{arith}
 use mir.Facts.{to_z-of_z}
@@ -16,7 +17,7 @@ gap-of-requires c κs =
 
 returns : tie.Need-returns-then-is_forecast
 unfolding gap_value
-returns c = rw (sym c.before.before.is_forecast.ensures ∙ c.before.if-is_forecast.true) (to_z-of_z (sfits_of c.gap_of.type_inv) ∙ c.gap_of.ensures)
+returns c = rw (sym c.before.before.is_forecast.ensures ∙ c.before.if-is_forecast.true) (to_z-of_z {w = w64} (sfits_of c.gap_of.type_inv) ∙ c.gap_of.ensures)
 
 returns-2 : tie.Need-returns-else-is_forecast
 unfolding gap_value

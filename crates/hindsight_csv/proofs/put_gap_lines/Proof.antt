@@ -33,7 +33,7 @@ loop-again c =
     let s = c.before.before.before.before.before.before.before.before.before.before.before.before.args in
     let l = c.before.before.before.before.before.before.before.before.before.before.loop-m in
     let g = c.before.before.before.before.before.before.before.before.gap_of-gap in
-    let kept : to_z w64 (of_z w64 g.result) ≡ gap_at s.list.now s.k s.a s.h (l.m + 1) = to_z-of_z (sfits_of g.type_inv) ∙ g.ensures in
+    let kept : to_z w64 (of_z w64 g.result) ≡ gap_at s.list.now s.k s.a s.h (l.m + 1) = to_z-of_z {w = w64} (sfits_of g.type_inv) ∙ g.ensures in
     (omega arith, put_more (λ j. gap_line s.first s.list.now s.k s.a s.h (j + 1)) l.m l.invariant.1 (rw kept at c.before.before.put_setting_line-end.ensures))
 
 same_length : tie.Need-shape_of-out invariant-loop decreases-loop

@@ -118,9 +118,9 @@ cell-read c =
 
 subtract-requires : tie.Need-subtract-requires invariant-loop decreases-loop
 subtract-requires c κs =
-    let at = c.before.before.before in
-    let s = at.before in
-    let l = at.loop-j in
+    let at = c.before.before in
+    let s = at.before.before in
+    let l = at.before.loop-j in
     rw (column-read at, cell-read at)
     (omega (arith, column_small (cut_of s.args.rows.now 0 (s.args.h + 1)) l.j s.requires.1.cells), omega (arith, s.requires.0.0 (s.args.h + 1 - l.j) l.j))
 
@@ -138,9 +138,9 @@ loop-less c = search rules
 
 loop-again : tie.Need-loop-j-preserved invariant-loop decreases-loop
 loop-again c =
-    let at = c.before.before.before.before in
-    let s = at.before in
-    let l = at.loop-j in
+    let at = c.before.before.before in
+    let s = at.before.before in
+    let l = at.before.loop-j in
     let rows = s.args.rows.now in
     let h = s.args.h in
     let kept = to_z-of_z {w = w64} {z = c.subtract.result} (sfits_of c.subtract.type_inv) in

@@ -117,8 +117,8 @@ gap_is c =
     let year : s.args.h + 1 - (l.m + 1) ≡ s.args.h - l.m = omega arith in
     rw (year, ← read) c.gap_of-gap.ensures.0
 
-size-of-gap : (c : tie.After-size_of-sum invariant-loop decreases-loop) → c.type_size.result ≤ most_gap
-size-of-gap c = rw (c.type_size.ensures, kept c.before) c.before.gap_of-gap.ensures.1
+size-of-gap : (c : tie.After-size_of-sum invariant-loop decreases-loop) → c.size_of-sum.result ≤ most_gap
+size-of-gap c = rw (c.size_of-sum.ensures, kept c.before) c.before.gap_of-gap.ensures.1
 
 add-sum : tie.Need-overflow_add-sum invariant-loop decreases-loop
 add-sum c =
@@ -148,7 +148,7 @@ loop-again c =
     let k = s.args.k in
     let f = gap k s.args.exposures.now s.args.increments.now s.args.shares.now s.args.level s.args.h in
     let row : k + 1 - (l.m + 1) ≡ k - l.m = omega arith in
-    let size : c.type_size.result ≡ nat_abs (f l.m) = rw (c.type_size.ensures, kept c.before) (ap nat_abs (gap_is c.before)) in
+    let size : c.size_of-sum.result ≡ nat_abs (f l.m) = rw (c.size_of-sum.ensures, kept c.before) (ap nat_abs (gap_is c.before)) in
     let stored : set l.out (s.args.at + l.m) (held c.before.gap_of-gap.result) ≡ sets s.args.out.now s.args.at (up_to f (l.m + 1))
     = rw (kept c.before, gap_is c.before, l.invariant.4) (sets_more f s.args.out.now s.args.at l.m) in (
       omega arith,

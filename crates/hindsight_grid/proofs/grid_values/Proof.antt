@@ -78,7 +78,7 @@ loop-again c =
     let s = c.before.before.before.before.before in
     let l = c.before.before.loop-p in
     let f = at_place s.args.list.now s.args.settings.now s.args.k s.args.n s.args.a s.args.t in
-    let value : to_z w64 (of_z w64 c.cell_value.result) ≡ f l.p = to_z-of_z (sfits_of c.cell_value.type_inv) ∙ (rw c.before.before.before.before.columns_of-columns.ensures at c.cell_value.ensures) in
+    let value : to_z w64 (of_z w64 c.cell_value.result) ≡ f l.p = to_z-of_z {w = w64} (sfits_of c.cell_value.type_inv) ∙ (rw c.before.before.before.before.columns_of-columns.ensures at c.cell_value.ensures) in
     (l.invariant.0, (omega arith, rw (value, l.invariant.1.1) (filled_more most_places (pos 0) f l.p (omega (arith, l.invariant.0.1, places_most s.args.t s.args.k s.args.n s.requires.known s.requires.few)))))
 
 returns : tie.Need-returns invariant-loop decreases-loop

@@ -30,12 +30,12 @@ sums s = map (gap_sum s.args.k s.args.exposures.now s.args.increments.now) s.arg
 sums_length : (s : tie.Start) → length (sums s) ≡ length s.args.settings.now
 sums_length s = length-map s.args.settings.now (gap_sum s.args.k s.args.exposures.now s.args.increments.now)
 
-held : (c : tie.After-fill_settings) → length c.fill_settings.new.diagonals.1.1.1.1.1.1.1.0 ≡ 8
+held : (c : tie.After-fill_settings) → length c.fill_settings.new.sums ≡ 8
 held c = ap length c.fill_settings.ensures.1.0 ∙ simp length-sets
 
 taken : (c : tie.After-fill_settings) →
     let s = c.before.before.before.before.before.before in
-    take (length s.args.settings.now) c.fill_settings.new.diagonals.1.1.1.1.1.1.1.0 ≡ sums s
+    take (length s.args.settings.now) c.fill_settings.new.sums ≡ sums s
 taken c =
     let s = c.before.before.before.before.before.before in
     rw c.fill_settings.ensures.1.0 (take_sets (replicate 8 0) (sums s) (length s.args.settings.now) (sums_length s) s.requires.few)
@@ -66,7 +66,7 @@ put-natural-requires c κs =
     let s = c.before.before.before.before.before.before.before.before.before.before.before in
     let best = c.before.before.best_of-best in
     let filled = c.before.before.before.before.before in
-    let long : length filled.fill_settings.new.diagonals.1.1.1.1.1.1.0 ≡ length s.args.report.now = ap length filled.fill_settings.ensures.0 ∙ simp length-sets in
+    let long : length filled.fill_settings.new.report ≡ length s.args.report.now = ap length filled.fill_settings.ensures.0 ∙ simp length-sets in
     let place = room s.args.k (length s.args.settings.now) (length s.args.report.now) c.setting_count.result c.setting_count.ensures.0 s.requires.room in
     (omega (arith, place, long), omega (arith, best.ensures.1, ap length (taken filled), sums_length s, s.requires.few))
 

@@ -1,4 +1,5 @@
 -- The size of the entry after the settings (last_inside). Assumes nothing.
+use mir.Syntax.{w64}
 use mathlib.Core.Path.{ap, ◌∙◌}
 use lib.IntN.{nat_abs}
 use mir.Facts.{to_z-of_z}
@@ -13,7 +14,7 @@ entry-of-requires c κs = (c.requires.0, last_inside c.args.k c.args.n c.require
 
 returns : tie.Need-returns
 unfolding best_at
-returns c = c.type_size.ensures ∙ ap nat_abs (to_z-of_z (sfits_of c.before.entry_of.type_inv) ∙ c.before.entry_of.ensures)
+returns c = c.size_of.ensures ∙ ap nat_abs (to_z-of_z {w = w64} (sfits_of c.before.entry_of.type_inv) ∙ c.before.entry_of.ensures)
 
 pub best_of_spec : {M : Type 1} → statement M
 best_of_spec =

@@ -1,4 +1,5 @@
 -- The place is in the longest report. Assumes nothing.
+use mir.Syntax.{w64}
 use mathlib.Core.Path.{ap}
 use Prim.Native.Nat.{ℕ, ◌*◌}
 use native.Mathlib.Omega.{arith}
@@ -30,7 +31,7 @@ element-copy-out-result c =
 
 returns : tie.Need-returns
 unfolding entry_at
-returns c = rw (← c.before.setting_count.ensures) (to_z-of_z (sfits_of c.result-1.given))
+returns c = rw (← c.before.setting_count.ensures) (to_z-of_z {w = w64} (sfits_of c.result.given))
 
 pub entry_of_spec : {M : Type 1} → statement M
 entry_of_spec =

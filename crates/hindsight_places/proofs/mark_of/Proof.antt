@@ -1,4 +1,5 @@
 -- The size of the step's first entry. Assumes nothing.
+use mir.Syntax.{w64}
 use mathlib.Core.Path.{ap, ◌∙◌}
 use lib.IntN.{nat_abs}
 use mir.Facts.{to_z-of_z}
@@ -9,7 +10,7 @@ use Rattle.hindsight_places.proofs.mark_of.Tie as tie
 
 returns : tie.Need-returns
 unfolding mark_at
-returns c = c.type_size.ensures ∙ ap nat_abs (to_z-of_z (sfits_of c.before.step_entry.type_inv) ∙ c.before.step_entry.ensures)
+returns c = c.size_of.ensures ∙ ap nat_abs (to_z-of_z {w = w64} (sfits_of c.before.step_entry.type_inv) ∙ c.before.step_entry.ensures)
 
 pub mark_of_spec : {M : Type 1} → statement M
 mark_of_spec =

@@ -1,4 +1,5 @@
 -- The step's entries stand in the report (step_entry_inside). Assumes nothing.
+use mir.Syntax.{w64}
 use mathlib.Core.Path.{◌∙◌}
 use native.Mathlib.Omega.{arith}
 use mir.Facts.{to_z-of_z}
@@ -20,7 +21,7 @@ entry-of-requires c κs =
 
 returns : tie.Need-returns
 unfolding step_entry
-returns c = to_z-of_z (sfits_of c.entry_of.type_inv) ∙ (rw c.before.step_start.ensures at c.entry_of.ensures)
+returns c = to_z-of_z {w = w64} (sfits_of c.entry_of.type_inv) ∙ (rw c.before.step_start.ensures at c.entry_of.ensures)
 
 pub step_entry_spec : {M : Type 1} → statement M
 step_entry_spec =

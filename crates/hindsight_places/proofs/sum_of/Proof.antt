@@ -1,4 +1,5 @@
 -- The size of the setting's last entry (sum_inside). Assumes nothing.
+use mir.Syntax.{w64}
 use mathlib.Core.Path.{ap, ◌∙◌}
 use native.Mathlib.Omega.{arith}
 use lib.IntN.{nat_abs}
@@ -19,7 +20,7 @@ entry-of-requires c κs =
 
 returns : tie.Need-returns
 unfolding sum_at
-returns c = c.type_size.ensures ∙ ap nat_abs (to_z-of_z (sfits_of c.before.entry_of.type_inv) ∙ (rw c.before.before.setting_count.ensures at c.before.entry_of.ensures))
+returns c = c.size_of.ensures ∙ ap nat_abs (to_z-of_z {w = w64} (sfits_of c.before.entry_of.type_inv) ∙ (rw c.before.before.setting_count.ensures at c.before.entry_of.ensures))
 
 pub sum_of_spec : {M : Type 1} → statement M
 sum_of_spec =

@@ -31,7 +31,7 @@ slice-aggregate-doonamurk-hindsight c = c.before.put_settings-count.ensures.0 �
 
 -- what the call answers, and what it leaves
 answered : (d : tie.After-doonamurk_hindsight-answer) → (d.doonamurk_hindsight-answer.result ≡ answer_of d.before.before.before.before.before.before.before.before.before.before.args.line.now d.before.before.before.before.before.before.before.before.before.before.args.packed.now)
-    × (d.doonamurk_hindsight-answer.new.settings.1.0 ≡ hindsight_into d.before.before.before.before.before.before.before.before.before.before.args.packed.now (settings_of d.before.before.before.before.before.before.before.before.before.before.args.line.now) d.before.before.before.before.before.before.before.before.before.before.args.list.now)
+    × (d.doonamurk_hindsight-answer.new.report ≡ hindsight_into d.before.before.before.before.before.before.before.before.before.before.args.packed.now (settings_of d.before.before.before.before.before.before.before.before.before.before.args.line.now) d.before.before.before.before.before.before.before.before.before.before.args.list.now)
 unfolding answer_of
 answered d = rw (stored d.before.before.before, d.before.doonamurk_hindsight-arg-1.given.1) at d.doonamurk_hindsight-answer.ensures
 
@@ -48,7 +48,7 @@ returns c =
 returns-2 : tie.Need-returns-then-answer-ne0
 returns-2 c =
     let s = c.before.before.before.before.before.before.before.before.before.before.before.before.before.before.before.before in
-    let d = c.before.before.before.before.before.before.before in
+    let d = c.before.before.before.before.before.before in
     let right = sym c.before.before.before.before.before.before.before.before.before.before.before.before.wrong_word-wrong.ensures ∙ c.before.before.before.before.before.before.before.before.before.before.before.if-wrong-ne0.false in
     let no : answer_of s.args.line.now s.args.packed.now ≡ 0 → ⊥ = λ e. c.before.before.before.before.before.if-answer-ne0.true ((answered d).0 ∙ e) in
     let none = refused s.args.line.now s.args.packed.now right no in
@@ -56,7 +56,7 @@ returns-2 c =
       (sym none.0, (λ some. absurd (false≢true some), λ e. put_same (ap refusal_text (answered d).0 ∙ sym none.1) c.before.before.before.put_refusal.ensures)),
       (
         λ some. absurd (false≢true some),
-        λ e. (refl, (answered d).1 ∙ kept s.args.line.now s.args.packed.now s.args.list.now d.doonamurk_hindsight-arg-1.given.1 no),
+        λ e. (refl, (answered d).1 ∙ kept s.args.line.now s.args.packed.now s.args.list.now d.before.doonamurk_hindsight-arg-1.given.1 no),
       ),
     )
 
@@ -70,7 +70,7 @@ last-year-of-requires c κs = some_record c.before.before.before.before.before.b
 returns-3 : tie.Need-returns
 returns-3 c =
     let s = c.before.before.before.before.before.before.before.before.before.before.before.before.before.before in
-    let e = c.before.before.before.before.before in
+    let e = c.before.before.before in
     let line = s.args.line.now in
     let packed = s.args.packed.now in
     let put = c.before.before.before.before.before.before.before.put_settings-count.ensures in
@@ -85,7 +85,7 @@ returns-3 c =
               tried = put.0;
               settings = c.first_settings.ensures ∙ rw put.1.1 (stored_first (settings_of line) (asked line packed (taken e)).few);
             },
-            (answered e.before).1 ∙ filled line packed (taken e) s.args.list.now e.doonamurk_hindsight-arg-1.given.1,
+            (answered e.before).1 ∙ filled line packed (taken e) s.args.list.now e.before.before.doonamurk_hindsight-arg-1.given.1,
           ),
           λ none. absurd (true≢false none),
         ),

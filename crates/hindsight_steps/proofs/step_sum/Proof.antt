@@ -1,4 +1,5 @@
 -- The loop's invariant: the gaps of the first m origin years are added up. Assumes nothing.
+use mir.Syntax.{w64}
 use mathlib.Core.Path.{◌≡◌, sym, ap, ◌∙◌}
 use mathlib.Core.List.{List}
 use Prim.Native.Nat.{ℕ, ◌+◌, ◌-◌, ◌≤◌}
@@ -38,7 +39,7 @@ add-sum : tie.Need-overflow_add-sum invariant-loop decreases-loop
 add-sum c =
     let s = c.before.before.before.before in
     let l = c.before.before.before.loop-m in
-    let x : c.type_size.result ≡ size_at s.args.list.now s.args.k s.args.a s.args.h l.m = c.type_size.ensures ∙ ap nat_abs (to_z-of_z (sfits_of c.before.gap_of.type_inv) ∙ c.before.gap_of.ensures) in
+    let x : c.size_of-sum.result ≡ size_at s.args.list.now s.args.k s.args.a s.args.h l.m = c.size_of-sum.ensures ∙ ap nat_abs (to_z-of_z {w = w64} (sfits_of c.before.gap_of.type_inv) ∙ c.before.gap_of.ensures) in
     record { fits = omega (arith, x, l.invariant.1, gaps_small s.args.list.now s.requires.1.1 s.args.k s.args.a s.args.h l.m, gap_small s.args.list.now s.requires.1.1 s.args.k s.args.a s.args.h (l.m + 1)) }
 
 loop-again : tie.Need-loop-m-preserved invariant-loop decreases-loop
@@ -46,7 +47,7 @@ loop-again c =
     let s = c.before.before.before.before in
     let l = c.before.before.before.loop-m in
     let f = size_at s.args.list.now s.args.k s.args.a s.args.h in
-    let x : c.type_size.result ≡ f l.m = c.type_size.ensures ∙ ap nat_abs (to_z-of_z (sfits_of c.before.gap_of.type_inv) ∙ c.before.gap_of.ensures) in
+    let x : c.size_of-sum.result ≡ f l.m = c.size_of-sum.ensures ∙ ap nat_abs (to_z-of_z {w = w64} (sfits_of c.before.gap_of.type_inv) ∙ c.before.gap_of.ensures) in
     (omega arith, rw (x, l.invariant.1) (sym (total_more f l.m) ∙ ap (λ (z : ℕ). total (up_to f z)) (sym (add-one l.m))))
 
 returns : tie.Need-returns invariant-loop decreases-loop

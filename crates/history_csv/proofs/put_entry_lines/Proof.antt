@@ -39,7 +39,7 @@ loop-again : tie.Need-loop-j-preserved invariant-loop decreases-loop
 loop-again c =
     let s = c.before.before.before.before.before.before.before.before.before.before.args in
     let l = c.before.before.before.before.before.before.loop-j in
-    let kept : to_z w64 (of_z w64 c.before.before.before.before.entry_of-z.result) ≡ position_entry s.list.now s.width s.a (s.e + l.j) = to_z-of_z (sfits_of c.before.before.before.before.entry_of-z.type_inv) ∙ c.before.before.before.before.entry_of-z.ensures in
+    let kept : to_z w64 (of_z w64 c.before.before.before.before.entry_of-z.result) ≡ position_entry s.list.now s.width s.a (s.e + l.j) = to_z-of_z {w = w64} (sfits_of c.before.before.before.before.entry_of-z.type_inv) ∙ c.before.before.before.before.entry_of-z.ensures in
     (omega arith, put_more (line_at s.name.now s.unit.now s.first s.list.now s.width s.a s.e) l.j l.invariant.1 (rw kept at c.before.before.put_line-end.ensures))
 
 same_length : tie.Need-shape_of-out invariant-loop decreases-loop

@@ -22,7 +22,7 @@ returns : tie.Need-returns
 unfolding position_lines number_line
 returns c =
     let s = c.before.before.before.before.before.before.before.before.before.before.before.before.before.before.before.before.before.before.before.before.before.before.before.before.before.before.args in
-    let kept : to_z w64 (of_z w64 c.before.before.before.before.before.before.before.before.before.before.before.before.before.before.before.before.before.before.before.before.before.before.before.before.entry_of-number.result) ≡ position_entry s.list.now s.width s.a 0 = to_z-of_z (sfits_of c.before.before.before.before.before.before.before.before.before.before.before.before.before.before.before.before.before.before.before.before.before.before.before.before.entry_of-number.type_inv) ∙ c.before.before.before.before.before.before.before.before.before.before.before.before.before.before.before.before.before.before.before.before.before.before.before.before.entry_of-number.ensures in
+    let kept : to_z w64 (of_z w64 c.before.before.before.before.before.before.before.before.before.before.before.before.before.before.before.before.before.before.before.before.before.before.before.before.entry_of-number.result) ≡ position_entry s.list.now s.width s.a 0 = to_z-of_z {w = w64} (sfits_of c.before.before.before.before.before.before.before.before.before.before.before.before.before.before.before.before.before.before.before.before.before.before.before.before.entry_of-number.type_inv) ∙ c.before.before.before.before.before.before.before.before.before.before.before.before.before.before.before.before.before.before.before.before.before.before.before.before.entry_of-number.ensures in
     put_three (rw kept at c.before.before.before.before.before.before.before.before.before.before.before.before.before.before.before.before.before.before.put_line-shares.ensures) c.before.before.before.before.before.before.before.before.before.before.put_entry_lines-levels.ensures c.before.before.put_entry_lines.ensures
 
 pub put_position_lines_spec : {M : Type 1} → statement M

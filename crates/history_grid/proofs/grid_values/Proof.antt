@@ -68,7 +68,7 @@ loop-again c =
     let s = c.before.before.before in
     let l = c.before.before.loop-p in
     let f = at_place s.args.list.now s.args.width s.args.offset s.args.from in
-    let value : to_z w64 (of_z w64 c.cell_value.result) ≡ f l.p = to_z-of_z (sfits_of c.cell_value.type_inv) ∙ c.cell_value.ensures in
+    let value : to_z w64 (of_z w64 c.cell_value.result) ≡ f l.p = to_z-of_z {w = w64} (sfits_of c.cell_value.type_inv) ∙ c.cell_value.ensures in
     (omega arith, rw (value, l.invariant.1) (filled_more most_places (pos 0) f l.p (omega (arith, places_most s.args.width s.args.from s.args.n s.requires.0))))
 
 returns : tie.Need-returns invariant-loop decreases-loop

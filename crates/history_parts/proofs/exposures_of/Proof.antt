@@ -28,7 +28,7 @@ loop-again c =
     let l = c.before.before.before.loop-i in
     let a = c.before.before.before.before.args in
     let f : ℕ → ℕ = λ n. nat_abs (get_or a.list.now (2 + n) (pos 0)) in
-    let v : c.type_size.result ≡ f l.i = c.type_size.ensures ∙ ap nat_abs (to_z-of_z {w = w64} {z = get_or a.list.now (2 + l.i) (pos 0)} (sfits_of c.before.size_of-arg-1.given)) in
+    let v : c.size_of.result ≡ f l.i = c.size_of.ensures ∙ ap nat_abs (to_z-of_z {w = w64} {z = get_or a.list.now (2 + l.i) (pos 0)} (sfits_of c.before.size_of-arg-1.given)) in
     (omega arith, rw (v, l.invariant.1) (filled_more most_history 0 f l.i (omega (arith, c.before.before.before.before.requires.1))))
 
 returns : tie.Need-returns invariant-loop decreases-loop

@@ -1,4 +1,5 @@
 -- The place is below 1,617 (entry_inside). Assumes nothing.
+use mir.Syntax.{w64}
 use native.Mathlib.Omega.{arith}
 use mir.Facts.{to_z-of_z}
 use borrow.Author.Rules.{rules, sfits_of}
@@ -21,7 +22,7 @@ element-copy-out-result c = entry_inside c.args.width c.args.a c.args.e c.requir
 
 returns : tie.Need-returns
 unfolding position_entry
-returns c = to_z-of_z (sfits_of c.result-1.given)
+returns c = to_z-of_z {w = w64} (sfits_of c.result.given)
 
 pub entry_of_spec : {M : Type 1} → statement M
 entry_of_spec =

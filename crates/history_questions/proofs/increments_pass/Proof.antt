@@ -37,14 +37,14 @@ size-of-requires : tie.Need-size_of-requires invariant-loop decreases-loop
 size-of-requires c κs = tt
 
 -- the size as it was read
-size-read : (c : tie.After-size_of invariant-loop decreases-loop) → c.type_size.result ≡ nat_abs (get_or c.before.before.before.before.args.cells.now c.before.before.before.loop-i.i (pos 0))
-size-read c = c.type_size.ensures ∙ rw (to_z-of_z {w = w64} (sfits_of c.before.size_of-arg-1.given))
+size-read : (c : tie.After-size_of invariant-loop decreases-loop) → c.size_of.result ≡ nat_abs (get_or c.before.before.before.before.args.cells.now c.before.before.before.loop-i.i (pos 0))
+size-read c = c.size_of.ensures ∙ rw (to_z-of_z {w = w64} (sfits_of c.before.size_of-arg-1.given))
 
 returns : tie.Need-returns-then-size_of-gt-MOST_AMOUNT invariant-loop decreases-loop
 returns c =
-    let t = c.before.before.before.before in
-    let s = t.before in
-    let i = t.loop-i.i in
+    let t = c.before in
+    let s = t.before.before.before.before in
+    let i = t.before.before.before.loop-i.i in
     let z = get_or s.args.cells.now i (pos 0) in
     sym (every_fails (in_range increment) s.args.cells.now i (pos 0) (omega arith) (increment_range z ∙ lt-leb (nat_abs z) most_amount (omega (arith, size-read t))))
 
@@ -56,9 +56,9 @@ loop-less c = search rules
 
 loop-again : tie.Need-loop-i-preserved invariant-loop decreases-loop
 loop-again c =
-    let t = c.before.before.before.before in
-    let s = t.before in
-    let l = t.loop-i in
+    let t = c.before in
+    let s = t.before.before.before.before in
+    let l = t.before.before.before.loop-i in
     let z = get_or s.args.cells.now l.i (pos 0) in
     (omega arith, every_more (in_range increment) s.args.cells.now l.i (pos 0) (omega arith) l.invariant.1 (increment_range z ∙ le-leb (nat_abs z) most_amount (omega (arith, size-read t))))
 

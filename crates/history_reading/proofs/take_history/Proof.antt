@@ -45,10 +45,10 @@ returns-2 c =
     let reads = r.read_text-f.ensures in
     let problem = told_problem true text _ _ _ _ (long r) reads in
     let right = sym problem ∙ e.if-f-ne0.false in
-    let list : List ℤ = r.read_text-f.new.word.1.0 in
+    let list : List ℤ = r.read_text-f.new.list in
     let first = to_z-of_z {w = w64} {z = get_or list 0 (pos 0)} (sfits_of c.before.before.before.size_of-arg-1.given) in
     let second = to_z-of_z {w = w64} {z = get_or list 1 (pos 0)} (sfits_of c.before.size_of-arg-2-1.given) in
-    let years = c.before.before.type_size.ensures ∙ ap nat_abs first ∙ right_years text right _ list (long r) reads.stored in
+    let years = c.before.before.size_of.ensures ∙ ap nat_abs first ∙ right_years text right _ list (long r) reads.stored in
     let width = c.size_of-2.ensures ∙ ap nat_abs second ∙ right_width text right _ list (long r) reads.stored in
     let few = right_few text right in
     (sym right, (years, (width, (reads.stored, (put_same (right_said text right) (put_none _ 0), (omega (arith, years, few.0), omega (arith, width, few.1)))))))

@@ -3,18 +3,17 @@ use mathlib.Core.Path.{◌≡◌, refl, sym, ◌∙◌}
 use mathlib.Core.Bool.{true}
 use native.Mathlib.Omega.{arith}
 use borrow.Author.Rules.{rules}
-use borrow.Author.Tests.{not-true, not-false}
 use Rattle.rules.specs.Inflation.{rates_pass}
 use Rattle.inflation.proofs.Answers.{years_most, rates_refused, index_refused, indices_accepted}
 use Rattle.inflation.proofs.inflation_indices.Statement.{statement}
 use Rattle.inflation.proofs.inflation_indices.Tie as tie
 
 returns : tie.Need-returns-then-not-rates_pass
-returns c = c.refuse.ensures ∙ rates_refused _ _ (sym c.before.before.rates_pass.ensures ∙ not-true _ c.before.if-not-rates_pass.true)
+returns c = c.refuse.ensures ∙ rates_refused _ _ (sym c.before.before.rates_pass.ensures ∙ c.before.if-not-rates_pass.true)
 
 -- question 20 has said yes
 rates : (e : tie.Else-not-rates_pass) → rates_pass e.before.before.args.shape e.before.before.args.years ≡ true
-rates e = sym e.before.rates_pass.ensures ∙ not-false _ e.if-not-rates_pass.false
+rates e = sym e.before.rates_pass.ensures ∙ e.if-not-rates_pass.false
 
 walk-requires : tie.Need-walk-requires
 walk-requires c κs = (years_most _ _ (rates c.before), refl)

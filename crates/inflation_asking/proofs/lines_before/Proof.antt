@@ -40,8 +40,8 @@ cut w = ap length w.before.until-line.ensures
 returns : tie.Need-returns-then-is_wanted invariant-loop decreases-loop
 unfolding lines_before
 returns c =
-    let w = c.before.before.before.before.before in
-    let l = w.loop-rest in
+    let w = c.before in
+    let l = w.before.before.before.before.loop-rest in
     (omega (arith, l.invariant.0, first_here (wanted w) (rest w) (said w ∙ c.if-is_wanted.true)), omega (arith, l.invariant.1))
 
 add-result : tie.Need-overflow_add-result invariant-loop decreases-loop
@@ -50,8 +50,8 @@ add-result c = omega (arith, c.before.before.before.before.before.before.loop-re
 returns-2 : tie.Need-returns-then-line-rest invariant-loop decreases-loop
 unfolding lines_before
 returns-2 c =
-    let w = c.before.before.before.before.before.before in
-    let l = w.loop-rest in
+    let w = c.before.before in
+    let l = w.before.before.before.before.loop-rest in
     (omega (arith, l.invariant.0, first_none (wanted w) (rest w) (said w ∙ c.before.if-is_wanted.false) (omega (arith, cut w, c.if-line-rest.true))), omega (arith, l.invariant.1))
 
 add-n : tie.Need-overflow_add-n invariant-loop decreases-loop
@@ -64,15 +64,15 @@ more e = omega (arith, cut e.before.before, e.if-line-rest.false, until_most end
 loop-less : tie.Need-loop-rest-smaller invariant-loop decreases-loop
 loop-less c =
     let e = c.before.before in
-    rw c.past-next.ensures (past_shorter ends (rest e.before.before.before) (more e))
+    rw c.past-next.ensures (past_shorter ends (rest e.before.before.before) (more e.before))
 
 loop-again : tie.Need-loop-rest-preserved invariant-loop decreases-loop
 loop-again c =
-    let e = c.before.before.before.before in
-    let w = e.before.before.before.before.before in
-    let l = w.loop-rest in
+    let e = c.before.before.before in
+    let w = e.before.before in
+    let l = w.before.before.before.before.loop-rest in
     rw c.past-next.ensures
-    (omega (arith, l.invariant.0, first_later (wanted w) (rest w) (said w ∙ e.if-is_wanted.false) (more e)), omega (arith, l.invariant.1, past_shorter ends (rest w) (more e)))
+    (omega (arith, l.invariant.0, first_later (wanted w) (rest w) (said w ∙ e.before.if-is_wanted.false) (more e)), omega (arith, l.invariant.1, past_shorter ends (rest w) (more e)))
 
 pub lines_before_spec : {M : Type 1} → statement M
 lines_before_spec =

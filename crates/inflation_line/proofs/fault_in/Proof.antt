@@ -45,14 +45,14 @@ good p =
 returns-3 : tie.Need-returns-then-good-place
 returns-3 c =
     let p = c.before in
-    let n = p.before.before.before.before in
-    fault_number _ (line n) (named n) (counted p.before) p.passing_numbers-good.result (good p) (omega (arith, c.if-good-place.true, n.shape_at-place.ensures.0))
+    let n = p.before.before in
+    fault_number _ (line n) (named n) (counted p.before) p.passing_numbers-good.result (good p) (omega (arith, c.if-good-place.true, n.before.before.shape_at-place.ensures.0))
 
 returns-4 : tie.Need-returns
 returns-4 c =
     let p = c.before.before in
-    let n = p.before.before.before.before in
-    let all : p.passing_numbers-good.result ≡ numbers_due (shape_at (line n)) = omega (arith, p.passing_numbers-good.ensures.1, c.before.if-good-place.false, n.shape_at-place.ensures.0) in
+    let n = p.before.before in
+    let all : p.passing_numbers-good.result ≡ numbers_due (shape_at (line n)) = omega (arith, p.passing_numbers-good.ensures.1, c.before.if-good-place.false, n.before.before.shape_at-place.ensures.0) in
     c.rates_fault.ensures ∙ fault_rates _ (line n) (named n) (counted p.before) (sym (good p) ∙ all)
 
 pub fault_in_spec : {M : Type 1} → statement M

@@ -5,7 +5,6 @@ use mathlib.Core.List.{List}
 use Prim.Native.Nat.{ℕ, suc, ◌-◌, ◌≤◌}
 use native.Mathlib.Numerals.{add-one}
 use native.Mathlib.Omega.{arith}
-use borrow.Author.Tests.{not-true, not-false}
 use Rattle.rules.specs.Lists.{up_to, below, every}
 use Rattle.entries.proofs.Leading.{leading_all, leading_stop}
 use Rattle.inflation.proofs.Years.{below_more}
@@ -39,13 +38,13 @@ unfolding passing_numbers
 returns c =
     let l = c.before.before.before.before in
     let a = l.before.before.args in
-    (sym (leading_stop (test a.asked a.years a.line.now) a.m l.loop-i.i (omega arith) l.loop-i.invariant.1 (said c.before ∙ not-true _ c.if-not-number_passes.true)), omega arith)
+    (sym (leading_stop (test a.asked a.years a.line.now) a.m l.loop-i.i (omega arith) l.loop-i.invariant.1 (said c.before ∙ c.if-not-number_passes.true)), omega arith)
 
 loop-again : tie.Need-loop-i-preserved invariant-loop decreases-loop
 loop-again c =
     let l = c.before.before.before.before in
     let a = l.before.before.args in
-    (omega arith, below_more (test a.asked a.years a.line.now) l.loop-i.i l.loop-i.invariant.1 (said c.before ∙ not-false _ c.if-not-number_passes.false))
+    (omega arith, below_more (test a.asked a.years a.line.now) l.loop-i.i l.loop-i.invariant.1 (said c.before ∙ c.if-not-number_passes.false))
 
 returns-2 : tie.Need-returns invariant-loop decreases-loop
 unfolding passing_numbers

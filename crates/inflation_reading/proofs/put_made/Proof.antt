@@ -24,15 +24,15 @@ accepted i = stands_accepted i.before.before.before.args.history _ i.before.befo
 
 put-naturals-requires : tie.Need-put_naturals-requires
 put-naturals-requires c κs =
-    let i = c.before.before.before.before.before.before in
+    let i = c.before.before.before in
     rw (values i)
-    (omega (arith, call_length _ _ (accepted i) (omega (arith, i.requires.0))), (omega (arith, i.requires.1.0), call_small _ _ (accepted i)))
+    (omega (arith, call_length _ _ (accepted i) (omega (arith, i.before.before.before.requires.0))), (omega (arith, i.before.before.before.requires.1.0), call_small _ _ (accepted i)))
 
 returns : tie.Need-returns
 unfolding indices_made
 returns c =
-    let i = c.before.before.before.before.before.before.before.before in
-    let a = i.args in
+    let i = c.before.before.before.before.before in
+    let a = i.before.before.before.args in
     c.before.put_naturals.ensures.1
     ∙ ap (λ (xs : List ℕ). sets a.list-1.now a.at (map pos (take (a.k + 1) xs))) (values i)
     ∙ ap (λ (xs : List ℕ). sets a.list-1.now a.at (map pos xs)) (call_indices _ _ (accepted i))

@@ -19,7 +19,7 @@ use Rattle.inflation_reading.proofs.read_next.Tie as tie
 
 -- the numbers so far
 abbrev start : tie.After-last_year-k → tie.Start
-start y = y.before.before.before.before
+start y = y.before.before.before
 
 abbrev numbers : tie.After-last_year-k → List ℤ
 numbers y = take (start y).args.f.count (start y).args.list.now
@@ -64,7 +64,7 @@ add-years c =
 add-t16 : tie.Need-overflow_add-result-then-stands_for_indices
 add-t16 c =
     let s = start c.before.before.before.before.before.before.before in
-    omega (arith, good_place s.args.history _ _ _ s.pre.1.1)
+    omega (arith, good_place s.args.history _ _ _ s.requires.1.1)
 
 add-t17 : tie.Need-overflow_add-result-then-stands_for_indices-2
 add-t17 c =

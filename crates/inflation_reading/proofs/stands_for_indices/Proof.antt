@@ -3,7 +3,6 @@ use mathlib.Core.Path.{sym, ap, ◌∙◌}
 use lib.Dec.{eqb}
 use native.Mathlib.Omega.{arith}
 use Rattle.history_sheet.proofs.Lines.{first_most}
-use borrow.Author.Tests.{not-true, not-false}
 use Rattle.inflation_line.specs.declared.Fault.{Fault}
 use Rattle.inflation_reading.proofs.Made.{other_text, other_place, other_line, by_fault}
 use borrow.Author.Rules.{rules}
@@ -22,7 +21,7 @@ returns-2 c = other_place _ _ _ _ c.before.if-history.false c.if-place-k.true
 returns-3 : tie.Need-returns-then-not-is_inflation
 returns-3 c =
     let e = c.before.before in
-    other_line _ _ _ _ e.before.if-history.false e.if-place-k.false (sym c.before.is_inflation.ensures ∙ not-true _ c.if-not-is_inflation.true)
+    other_line _ _ _ _ e.before.if-history.false e.if-place-k.false (sym c.before.is_inflation.ensures ∙ c.if-not-is_inflation.true)
 
 add-fault-in : tie.Need-overflow_add-k-2
 add-fault-in c = omega (arith, first_most c.before.before.before.before.before.args.history _ c.before.before.before.before.before.requires)
@@ -31,7 +30,7 @@ returns-4 : tie.Need-returns
 returns-4 c =
     let e = c.before.before in
     let p = e.before.before in
-    ap (λ (f : Fault). eqb f.kind 0) c.before.fault_in.ensures ∙ by_fault _ _ _ _ p.before.if-history.false p.if-place-k.false (sym e.before.is_inflation.ensures ∙ not-false _ e.if-not-is_inflation.false)
+    ap (λ (f : Fault). eqb f.kind 0) c.before.fault_in.ensures ∙ by_fault _ _ _ _ p.before.if-history.false p.if-place-k.false (sym e.before.is_inflation.ensures ∙ e.if-not-is_inflation.false)
 
 pub stands_for_indices_spec : {M : Type 1} → statement M
 stands_for_indices_spec =

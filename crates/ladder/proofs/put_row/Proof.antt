@@ -69,7 +69,7 @@ mul-a-3 c =
 next : (c : tie.After-a-in-loop-t-1 invariant-loop decreases-loop) →
     let s = c.before.before.before.before.before.before in
     let t = c.before.before.before.loop-t in
-    t.a-1 * get_or s.args.factors.now (s.args.k - s.args.i + t.t) 0 / million ≡ past s.args.k s.args.paid.now s.args.factors.now s.args.i t.t
+    t.a * get_or s.args.factors.now (s.args.k - s.args.i + t.t) 0 / million ≡ past s.args.k s.args.paid.now s.args.factors.now s.args.i t.t
 unfolding completed
 next c = rw c.before.before.before.loop-t.invariant.1.0
 

@@ -38,7 +38,7 @@ abbrev walk1 : tie.After-struct_known-1 → tie.After-walk_row-past
 walk1 c = c.before
 
 abbrev walk2 : tie.After-struct_known-2-1 → tie.After-walk_row-past
-walk2 c = c.before.before.before
+walk2 c = c.before.before.before.before
 
 mul-of-naturals : tie.Need-overflow_mul-past
 mul-of-naturals c =
@@ -50,7 +50,7 @@ of-naturals-requires : tie.Need-of_naturals-requires
 of-naturals-requires c κs =
     let w = walk2 c in
     let h = w.before.before.args.k - w.before.first_row-i.result + w.walk_row-past.result.years in
-    (omega (arith, w.walk_row-past.ensures.most), (omega (arith, w.before.before.pre.0.factors h), omega (arith, product w h)))
+    (omega (arith, w.walk_row-past.ensures.most), (omega (arith, w.before.before.requires.0.factors h), omega (arith, product w h)))
 
 returns : tie.Need-returns
 returns c =
@@ -59,7 +59,7 @@ returns c =
     let walked = w.walk_row-past.ensures in
     let made = c.of_naturals.ensures in
     let same = cell_is s.args.k s.args.paid.now s.args.factors.now _ _ _ w.before.first_row-i.ensures walked.years walked.last in
-    (made ∙ same, (rw made (omega (arith, row w.before, s.pre.0.few)), rw made (omega (arith, column w))))
+    (made ∙ same, (rw made (omega (arith, row w.before, s.requires.0.few)), rw made (omega (arith, column w))))
 
 pub cell_found_spec : {M : Type 1} → statement M
 cell_found_spec =

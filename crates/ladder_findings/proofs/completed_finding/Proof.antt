@@ -39,7 +39,7 @@ six : (c : tie.After-read_again) → cumulatives_pass (F c).k (F c).increments �
 six c = let s = start c in passed.cumulatives s.args.year s.args.packed.now (run s)
 
 thirteen : (c : tie.After-read_again) → development_passes (F c) ≡ true
-thirteen c = let s = start c in development_yes s.args.year s.args.packed.now 14 refl s.pre
+thirteen c = let s = start c in development_yes s.args.year s.args.packed.now 14 refl s.requires
 
 last-year-of-requires : tie.Need-last_year_of-k-requires
 last-year-of-requires c κs = let s = start c in passed.some s.args.year s.args.packed.now (run s)
@@ -59,7 +59,7 @@ development-factors-requires c κs =
     let read = at.read_again.ensures in
     factors_ready (F at) (good at) (six at) _ _ (last-year year) read.1.1.1.1.0 _ read.1.1.1.1.1.0
 
-factors : (c : tie.After-development_factors) → c.development_factors.new.paid.1.1.0 ≡ development_in (F (years c.before).before)
+factors : (c : tie.After-development_factors) → c.development_factors.new.factors ≡ development_in (F (years c.before).before)
 factors c =
     let year = years c.before in
     let at = year.before in
@@ -73,7 +73,7 @@ cell-found-requires c κs =
     let at = year.before in
     let s = start at in
     let read = at.read_again.ensures in
-    cell_ready (F at) (good at) (six at) _ _ (last-year year) read.1.1.1.1.0 _ (factors made) (thirteen at) (completed_no s.args.year s.args.packed.now s.pre)
+    cell_ready (F at) (good at) (six at) _ _ (last-year year) read.1.1.1.1.0 _ (factors made) (thirteen at) (completed_no s.args.year s.args.packed.now s.requires)
 
 returns : tie.Need-returns
 returns c =

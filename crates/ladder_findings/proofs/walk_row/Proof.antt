@@ -40,7 +40,7 @@ product c =
 next : (c : tie.After-next-1 invariant-loop decreases-loop) →
     let s = c.before.before.before.before.before.before in
     let l = c.before.before.before.loop-t in
-    l.last-1 * get_or s.args.factors.now (s.args.k - s.args.i + l.t) 0 / million ≡ completed s.args.k s.args.paid.now s.args.factors.now s.args.i (suc l.t)
+    l.last * get_or s.args.factors.now (s.args.k - s.args.i + l.t) 0 / million ≡ completed s.args.k s.args.paid.now s.args.factors.now s.args.i (suc l.t)
 unfolding completed
 next c = rw c.before.before.before.loop-t.invariant.1.0
 
@@ -58,7 +58,7 @@ returns c =
     let paid = s.args.paid.now in
     let m = s.args.factors.now in
     let failed = lt-leb (completed k paid m i (suc l.t)) most_cumulative (omega (arith, next c.before, c.if-next-gt-MOST_CUMULATIVE.true)) in
-    walked k paid m i l.t l.last-1 (leading_stop (cell_passes k paid m i) i l.t (omega arith) l.invariant.1.1.1 failed) l.invariant.1.0 l.invariant.1.1.0
+    walked k paid m i l.t l.last (leading_stop (cell_passes k paid m i) i l.t (omega arith) l.invariant.1.1.1 failed) l.invariant.1.0 l.invariant.1.1.0
 
 loop-again : tie.Need-loop-t-preserved invariant-loop decreases-loop
 loop-again c =
@@ -81,7 +81,7 @@ returns-2 c =
     let paid = s.args.paid.now in
     let m = s.args.factors.now in
     let e : l.t ≡ i = omega arith in
-    walked k paid m i i l.last-1 (leading_all (cell_passes k paid m i) i (rw e at l.invariant.1.1.1)) (rw e at l.invariant.1.0) l.invariant.1.1.0
+    walked k paid m i i l.last (leading_all (cell_passes k paid m i) i (rw e at l.invariant.1.1.1)) (rw e at l.invariant.1.0) l.invariant.1.1.0
 
 pub walk_row_spec : {M : Type 1} → statement M
 walk_row_spec =

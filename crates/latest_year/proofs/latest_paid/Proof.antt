@@ -59,7 +59,7 @@ unfolding paid_of
 add-sum-2 c =
     let s = c.before.before.before in
     let l = c.before.before.loop-i in
-    rw l.invariant.1.0 (step_fits (latest s.args.k s.args.increments.now) most_amount (small s) l.i l.sum-1 (omega arith) l.invariant.1.1)
+    rw l.invariant.1.0 (step_fits (latest s.args.k s.args.increments.now) most_amount (small s) l.i l.sum-bits (omega arith) l.invariant.1.1)
 
 sub_at : tie.Need-overflow_sub-at invariant-loop decreases-loop
 sub_at c = omega arith
@@ -83,7 +83,7 @@ loop-again : tie.Need-loop-i-preserved invariant-loop decreases-loop
 loop-again c =
     let s = c.before.before.before in
     let l = c.before.before.loop-i in
-    (omega arith, (omega (arith, row_start_more s.args.k l.i, l.invariant.1.0), sum_more s l.i l.at l.sum-1 (omega arith) l.invariant.1.0 l.invariant.1.1))
+    (omega arith, (omega (arith, row_start_more s.args.k l.i, l.invariant.1.0), sum_more s l.i l.at l.sum-bits (omega arith) l.invariant.1.0 l.invariant.1.1))
 
 returns : tie.Need-returns invariant-loop decreases-loop
 unfolding latest_paid
@@ -92,7 +92,7 @@ returns c =
     let l = c.before.loop-i in
     let e : l.i ≡ s.args.k + 1 = omega arith in
     let row = latest s.args.k s.args.increments.now in
-    let is = sum_to_read row most_amount (small s) (s.args.k + 1) l.sum-1 (omega arith) (rw e at l.invariant.1.1) in
+    let is = sum_to_read row most_amount (small s) (s.args.k + 1) l.sum-bits (omega arith) (rw e at l.invariant.1.1) in
     (is, rw is (omega (arith, sum_to_size row most_amount (small s) (s.args.k + 1))))
 
 pub latest_paid_spec : {M : Type 1} → statement M

@@ -63,7 +63,7 @@ next : (c : tie.After-sum-in-loop-j-2-1 invariant-loop decreases-loop) →
     let s = c.before.before.before.before.before.before.before.before in
     let l = c.before.before.before.before.before.before.before.loop-j in
     let i = s.args.k - l.j in
-    let more = l.sum-1 + get_or s.args.reporting.now l.j 0 * (get_or s.args.paid.now i 0 + get_or s.args.provisions.now i 0) in
+    let more = l.sum + get_or s.args.reporting.now l.j 0 * (get_or s.args.paid.now i 0 + get_or s.args.provisions.now i 0) in
     (more ≡ total (up_to (λ j. get_or s.args.reporting.now j 0 * ultimate s.args.paid.now s.args.provisions.now (s.args.k - j)) (l.j + 1)))
     × (more ≤ million * most_ultimate)
 unfolding ultimate

@@ -16,7 +16,7 @@ returns-2 : tie.Need-returns
 returns-2 c =
     let vs = c.before.before.before.args.list.now in
     let kept = to_z-of_z {w = w64} {z = get_or vs 0 (pos 0)} (sfits_of c.before.size_of-arg-1.given) in
-    c.type_size.ensures ∙ ap nat_abs kept ∙ year_first vs c.before.before.before.args.count c.before.before.if-count-eq0.false
+    c.size_of.ensures ∙ ap nat_abs kept ∙ year_first vs c.before.before.before.args.count c.before.before.if-count-eq0.false
 
 pub last_year_spec : {M : Type 1} → statement M
 last_year_spec =

@@ -20,7 +20,7 @@ use Rattle.line_reading.proofs.read_line.Tie as tie
 
 -- the numbers so far, the first of them, and how many lines it calls for
 abbrev start : tie.After-last_year-k → tie.Start
-start y = y.before.before.before.before.before.before.before
+start y = y.before.before.before.before.before.before
 
 abbrev numbers : tie.After-last_year-k → List ℤ
 numbers y = take (start y).args.f.count (start y).args.list.now
@@ -101,7 +101,7 @@ put-numbers-requires c κs =
 add-t16 : tie.Need-overflow_add-result
 add-t16 c =
     let s = start (year c.before.before.before.before.before.before) in
-    omega (arith, good_place s.args.history _ _ _ s.pre.1.1)
+    omega (arith, good_place s.args.history _ _ _ s.requires.1.1)
 
 add-t26 : tie.Need-overflow_add-result-2
 add-t26 c =

@@ -1,5 +1,4 @@
 -- The loop's invariant: the first `count` records are taken, and all of their rows are put. Assumes nothing.
-use borrow.Author.Tests.{not-true, not-false}
 use mathlib.Core.Path.{◌≡◌, refl, sym, ap, ◌∙◌}
 use mathlib.Core.Bool.{false≢true}
 use mathlib.Core.List.{List}
@@ -74,7 +73,7 @@ returns : tie.Need-returns-then-not-has_whole invariant-loop decreases-loop
 returns c =
     let t = c.before in
     let i = t.before.before.loop-end.invariant in
-    let none = sym t.has_whole.ensures ∙ not-true t.has_whole.result c.if-not-has_whole.true in
+    let none = sym t.has_whole.ensures ∙ c.if-not-has_whole.true in
     record { place = i.place; inside = i.inside; put = i.put; whole = i.whole; fits = i.fits; taken = i.taken; done = λ w. absurd (false≢true (sym none ∙ w)) }
 
 -- the record at hand stands inside
@@ -82,7 +81,7 @@ here : (c : tie.Else-not-has_whole invariant-loop decreases-loop) → c.before.b
 here c =
     let t = c.before in
     let at = t.before.before in
-    whole_inside at.before.before.before.args.s.now at.loop-end.from (sym t.has_whole.ensures ∙ not-false t.has_whole.result c.if-not-has_whole.false)
+    whole_inside at.before.before.before.args.s.now at.loop-end.from (sym t.has_whole.ensures ∙ c.if-not-has_whole.false)
 
 pair-at-requires : tie.Need-pair_at-n-requires invariant-loop decreases-loop
 pair-at-requires c κs = omega (arith, here c)

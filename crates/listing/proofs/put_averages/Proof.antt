@@ -41,7 +41,7 @@ put-integers-requires : tie.Need-put_integers-at-requires invariant-loop decreas
 put-integers-requires c κs =
     let s = c.before.before.before.before in
     let i = c.before.before.before.loop-i.i in
-    let long : length (get_or s.args.square.now i []) ≡ 16 = c.put-integers-arg3.given in
+    let long : length (get_or s.args.square.now i []) ≡ 16 = c.put_integers-arg-in-loop-i-1.given in
     (omega arith, omega (arith, row_within s.args.k i (omega arith)))
 
 add-i : tie.Need-overflow_step-i invariant-loop decreases-loop
@@ -57,7 +57,7 @@ loop-again c =
     let put = c.before.put_integers-at in
     let square = s.args.square.now in
     let long : length (get_or square l.i []) ≡ 16 = c.before.before.put_integers-arg-in-loop-i-1.given in
-    let stored : put.new.out ≡ sets l.out-1 l.at (take (s.args.k + 1 - l.i) (get_or square l.i [])) = put.ensures.1 in (
+    let stored : put.new.out ≡ sets l.out l.at (take (s.args.k + 1 - l.i) (get_or square l.i [])) = put.ensures.1 in (
       omega arith,
       omega (arith, row_start_more s.args.k l.i),
       stored ∙ rw l.invariant.2 (rows_more s.args.k square s.args.out.now l.i l.at l.invariant.1 (omega arith)),

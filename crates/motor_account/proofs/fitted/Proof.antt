@@ -24,7 +24,7 @@ mul-nearest : tie.Need-overflow-mul-nearest
 mul-nearest c = omega (arith, mul-le-mul c.before.entry.ensures c.entry2.ensures)
 
 nearest-requires : tie.Need-nearest-requires
-nearest-requires c κs = (mul-le-mul c.before.entry.ensures c.entry2.ensures, (omega arith, omega arith))
+nearest-requires c κs = (mul-le-mul c.before.entry.ensures c.entry-2.ensures, (omega arith, omega arith))
 
 returns : tie.Need-returns
 returns c = search rules

@@ -11,13 +11,13 @@ returns : tie.Need-returns-then-d-eq0
 returns c =
     let s = c.before.before.before.before.before.before.before.before.before.before.before.before.before.before in
     let kept = to_z-of_z s.ranges.z in
-    put_whole_numeral s.args.before.now s.args.after.now s.args.d s.args.z c.if-d-eq0.true (rw kept at c.before.before.before.before.before.before.before.before.before.before.type_size.ensures) c.before.before.before.before.shortened.ensures (rw kept at c.before.before.before.before.before.before.before.before.put_sign-whole.ensures) c.before.before.before.put_grouped-point.ensures
+    put_whole_numeral s.args.before.now s.args.after.now s.args.d s.args.z c.if-d-eq0.true (rw kept at c.before.before.before.before.before.before.before.before.before.before.size_of-n.ensures) c.before.before.before.before.shortened.ensures (rw kept at c.before.before.before.before.before.before.before.before.put_sign-whole.ensures) c.before.before.before.put_grouped-point.ensures
 
 returns-2 : tie.Need-returns-else-d-eq0
 returns-2 c =
     let s = c.before.before.before.before.before.before.before.before.before.before.before.before.before.before.before.before.before.before.before.before.before.before in
     let kept = to_z-of_z s.ranges.z in
-    put_part_numeral s.args.before.now s.args.after.now s.args.d s.args.z c.before.before.before.before.before.before.before.before.if-d-eq0.false (rw kept at c.before.before.before.before.before.before.before.before.before.before.before.before.before.before.before.before.before.before.type_size.ensures) c.before.before.before.before.before.before.before.before.before.before.before.before.shortened.ensures
+    put_part_numeral s.args.before.now s.args.after.now s.args.d s.args.z c.before.before.before.before.before.before.before.before.if-d-eq0.false (rw kept at c.before.before.before.before.before.before.before.before.before.before.before.before.before.before.before.before.before.before.size_of-n.ensures) c.before.before.before.before.before.before.before.before.before.before.before.before.shortened.ensures
     (rw kept at c.before.before.before.before.before.before.before.before.before.before.before.before.before.before.before.before.put_sign-whole.ensures)
     c.before.before.before.before.before.before.before.before.before.before.before.put_grouped-point.ensures
     c.before.before.before.before.before.before.put_byte-decimals.ensures

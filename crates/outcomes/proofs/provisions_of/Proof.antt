@@ -27,7 +27,7 @@ loop-again c =
     let l = c.before.before.before.loop-i in
     let f : ℕ → ℕ = λ j. nat_abs (get_or s.args.list.now (s.args.p + j) (pos 0)) in
     let kept = to_z-of_z {w = w64} {z = get_or s.args.list.now (s.args.p + l.i) (pos 0)} (sfits_of c.before.size_of-arg-1.given) in
-    let size : c.type_size.result ≡ f l.i = c.type_size.ensures ∙ ap nat_abs kept in
+    let size : c.size_of.result ≡ f l.i = c.size_of.ensures ∙ ap nat_abs kept in
     (omega arith, rw (size, l.invariant.1) (filled_more 16 0 f l.i (omega arith)))
 
 returns : tie.Need-returns invariant-loop decreases-loop

@@ -56,14 +56,14 @@ year_is c = c.last_year_of-k.ensures.0
 -- the plain ratio
 plain-ratio-again-requires : tie.Need-plain_ratio_again-plain-requires
 plain-ratio-again-requires c κs =
-    let k = c.before.before in
-    let at = k in
+    let k = c.before in
+    let at = k.before in
     let s = start at in
     let read = at.read_again-weight.ensures in
-    ratio_ready (F at) (good at) (six at) _ _ _ (year_is k) read.1.1.1.1.0 read.1.1.1.0 (accepted.ratio s.args.year s.args.packed.now s.pre.0)
+    ratio_ready (F at) (good at) (six at) _ _ _ (year_is k) read.1.1.1.1.0 read.1.1.1.0 (accepted.ratio s.args.year s.args.packed.now s.requires.0)
 
 abbrev again : tie.After-plain_ratio_again-plain → tie.After-read_again-weight
-again c = c.before.before.before.before
+again c = c.before.before.before
 
 plain : (c : tie.After-plain_ratio_again-plain) → c.plain_ratio_again-plain.result ≡ plain_ratio_in (F (again c))
 plain c =
@@ -76,7 +76,7 @@ plain_fits c =
     let at = again c in
     let s = start at in
     let read = at.read_again-weight.ensures in
-    let ready = ratio_ready (F at) (good at) (six at) _ _ _ (year_is c.before.before) read.1.1.1.1.0 read.1.1.1.0 (accepted.ratio s.args.year s.args.packed.now s.pre.0) in
+    let ready = ratio_ready (F at) (good at) (six at) _ _ _ (year_is c.before.before) read.1.1.1.1.0 read.1.1.1.0 (accepted.ratio s.args.year s.args.packed.now s.requires.0) in
     rw c.plain_ratio_again-plain.ensures (plain_most _ _ ready.1.1.1.1)
 
 -- a year whose ratio is not corrected
@@ -98,7 +98,7 @@ provisions-of-requires c κs =
     (few, omega (arith, (at_starts c.starts_of.result m c.starts_of.ensures).provisions, (known m).provisions, cells_most m few))
 
 abbrev years : tie.After-provisions_of-provisions → tie.After-last_year_of-k
-years c = c.before.before.before.before.before.before.before
+years c = c.before.before.before.before.before.before
 
 provisions : (c : tie.After-provisions_of-provisions) → c.provisions_of-provisions.result ≡ provisions_in (F (years c).before)
 provisions c =
@@ -107,25 +107,25 @@ provisions c =
     let from = c.before.starts_of in
     let place = (at_starts from.result k.last_year_of-k.result from.ensures).provisions ∙ ap (λ (m : ℕ). section_start m provision_section) (year_is k) in
     c.provisions_of-provisions.ensures
-    ∙ provisions_are s.args.year (F k.before) _ _ _ _ (year_is k) place (s.pre.1.0 ∙ accepted.filled s.args.year s.args.packed.now s.pre.0)
+    ∙ provisions_are s.args.year (F k.before) _ _ _ _ (year_is k) place (s.requires.1.0 ∙ accepted.filled s.args.year s.args.packed.now s.requires.0)
 
 latest-reported-requires : tie.Need-latest_reported-reported-requires
 latest-reported-requires c κs =
-    let put = c.before.before.before in
+    let put = c.before.before in
     let k = years put in
     let at = k.before in
     let s = start at in
     let read = at.read_again-weight.ensures in (
       k.last_year_of-k.ensures.1,
       (
-        ultimates_fit (F at) _ _ _ (year_is k) read.1.1.1.1.0 (provisions put) (accepted.ultimates s.args.year s.args.packed.now s.pre.0),
+        ultimates_fit (F at) _ _ _ (year_is k) read.1.1.1.1.0 (provisions put) (accepted.ultimates s.args.year s.args.packed.now s.requires.0),
         shares_sum (F at) (good at) _ _ (year_is k) read.1.1.0,
       ),
     )
 
 reported : (c : tie.After-latest_reported-reported) → c.latest_reported-reported.result ≡ latest_reported_in (F (years c.before.before.before).before)
 reported c =
-    let put = c.before.before.before.before in
+    let put = c.before.before.before in
     let k = years put in
     let at = k.before in
     let read = at.read_again-weight.ensures in
@@ -143,18 +143,18 @@ found c = c.before.before.before
 abbrev put : tie.After-size_of-latest → tie.After-provisions_of-provisions
 put c = (found c).before.before.before.before
 
-latest : (c : tie.After-size_of-latest) → c.type_size.result ≡ nat_abs (latest_paid_in (F (years (put c)).before))
+latest : (c : tie.After-size_of-latest) → c.size_of-latest.result ≡ nat_abs (latest_paid_in (F (years (put c)).before))
 latest c =
     let k = years (put c) in
     let at = k.before in
     let whole = to_z-of_z {w = w64} {z = c.before.latest_paid.result} (sfits_of c.before.latest_paid.type_inv) in
-    c.type_size.ensures ∙ ap nat_abs (whole ∙ c.before.latest_paid.ensures.0 ∙ latest_is (F at) _ _ (year_is k) at.read_again-weight.ensures.1.0)
+    c.size_of-latest.ensures ∙ ap nat_abs (whole ∙ c.before.latest_paid.ensures.0 ∙ latest_is (F at) _ _ (year_is k) at.read_again-weight.ensures.1.0)
 
 divisor-of-requires : tie.Need-divisor_of-requires
 divisor-of-requires c κs =
     let at = (years (put c)).before in
     let s = start at in
-    let fifteen = accepted.latest s.args.year s.args.packed.now s.pre.0 (yes (put c).before.before) in
+    let fifteen = accepted.latest s.args.year s.args.packed.now s.requires.0 (yes (put c).before.before) in
     (rw at.read_again-weight.ensures.0 (good at).weight, ((found c).latest-reported.ensures.1, rw (latest c) (latest_least (latest_paid_in (F at)) fifteen)))
 
 divisor : (c : tie.After-divisor_of) → c.divisor_of.result ≡ divisor_in (F (years (put c.before)).before)
@@ -167,10 +167,10 @@ divisor_fits c =
     let at = (years (put c.before)).before in
     rw c.divisor_of.ensures (divisor_most _ _ _ (rw at.read_again-weight.ensures.0 (good at).weight) (found c.before).latest-reported.ensures.1)
 
-paid_fits : (c : tie.After-size_of-latest) → c.type_size.result ≤ most_correction
+paid_fits : (c : tie.After-size_of-latest) → c.size_of-latest.result ≤ most_correction
 paid_fits c =
     let whole = to_z-of_z {w = w64} {z = c.before.latest_paid.result} (sfits_of c.before.latest_paid.type_inv) in
-    omega (arith, c.type_size.ensures ∙ ap nat_abs whole, c.before.latest_paid.ensures.1)
+    omega (arith, c.size_of-latest.ensures ∙ ap nat_abs whole, c.before.latest_paid.ensures.1)
 
 returns-2 : tie.Need-returns
 returns-2 c =

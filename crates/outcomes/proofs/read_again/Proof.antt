@@ -22,28 +22,28 @@ bytes : (c : tie.After-read-opened) → Fit 8 (start c).args.packed.now
 bytes c i = omega (arith, c.before.before.before.before.before.before.shared_slice_known-1.given i)
 
 arrays : (c : tie.After-read-opened) → Filled (start c).args.packed.now
-arrays c = let s = start c in figures_filled s.args.packed.now (bytes c) s.pre.0 s.pre.1.0
+arrays c = let s = start c in figures_filled s.args.packed.now (bytes c) s.requires.0 s.requires.1.0
 
 sound : (c : tie.After-read-opened) → Sound (figures_of (start c).args.packed.now)
-sound c = let s = start c in sound_figures s.args.packed.now (bytes c) s.pre.0 s.pre.1.0
+sound c = let s = start c in sound_figures s.args.packed.now (bytes c) s.requires.0 s.requires.1.0
 
 exposures-are : (c : tie.After-read-opened) → c.read-opened.new.increments.0 ≡ (figures_of (start c).args.packed.now).exposures
 exposures-are c = c.read-opened.ensures.1.1.0 ∙ (arrays c).exposures
 
-increments-are : (c : tie.After-read-opened) → c.read-opened.new.increments.1.0 ≡ (figures_of (start c).args.packed.now).increments
+increments-are : (c : tie.After-read-opened) → c.read-opened.new.increments ≡ (figures_of (start c).args.packed.now).increments
 increments-are c =
     let s = start c in
-    c.read-opened.ensures.1.1.1.0 ∙ ap (λ (l : List ℤ). sets l 0 (map (value_of increment) (row_read s.args.packed.now 2))) s.pre.1.1.1.0 ∙ (arrays c).increments
+    c.read-opened.ensures.1.1.1.0 ∙ ap (λ (l : List ℤ). sets l 0 (map (value_of increment) (row_read s.args.packed.now 2))) s.requires.1.1.1.0 ∙ (arrays c).increments
 
-reporting-are : (c : tie.After-read-opened) → c.read-opened.new.increments.1.1.1.0 ≡ (figures_of (start c).args.packed.now).reporting
+reporting-are : (c : tie.After-read-opened) → c.read-opened.new.reporting ≡ (figures_of (start c).args.packed.now).reporting
 reporting-are c =
     let s = start c in
-    c.read-opened.ensures.1.1.1.1.1.0 ∙ ap (λ (l : List ℕ). sets l 0 (row_read s.args.packed.now 4)) s.pre.1.1.1.1.0 ∙ (arrays c).reporting
+    c.read-opened.ensures.1.1.1.1.1.0 ∙ ap (λ (l : List ℕ). sets l 0 (row_read s.args.packed.now 4)) s.requires.1.1.1.1.0 ∙ (arrays c).reporting
 
-ulae-are : (c : tie.After-read-opened) → c.read-opened.new.increments.1.1.1.1.0 ≡ (figures_of (start c).args.packed.now).ulae
+ulae-are : (c : tie.After-read-opened) → c.read-opened.new.ulae ≡ (figures_of (start c).args.packed.now).ulae
 ulae-are c =
     let s = start c in
-    c.read-opened.ensures.1.1.1.1.1.1.0 ∙ ap (λ (l : List ℕ). sets l 0 (row_read s.args.packed.now 6)) s.pre.1.1.1.1.1.0 ∙ (arrays c).ulae
+    c.read-opened.ensures.1.1.1.1.1.1.0 ∙ ap (λ (l : List ℕ). sets l 0 (row_read s.args.packed.now 6)) s.requires.1.1.1.1.1.0 ∙ (arrays c).ulae
 
 year_is : (c : tie.After-last_year_of) → c.last_year_of.result ≡ (figures_of (start c.before).args.packed.now).k
 unfolding figures_of
@@ -53,23 +53,23 @@ read-requires : tie.Need-read-opened-requires
 read-requires c κs = let s = c.before.before.before.before.before.before in s.requires.0
 
 last-year-of-requires : tie.Need-last_year_of-requires
-last-year-of-requires c κs = let s = start c in (years_known_lem s.args.packed.now (opening_yes s.args.packed.now s.pre.0).0).0
+last-year-of-requires c κs = let s = start c in (years_known_lem s.args.packed.now (opening_yes s.args.packed.now s.requires.0).0).0
 
 fill-rows-requires : tie.Need-fill_rows-requires
 fill-rows-requires c κs =
-    let year = c.before.before.before.before.before.before.before in
+    let year = c.before.before.before.before.before.before in
     let at = year.before in
     let s = start at in
     let ready = rows_ready (figures_of s.args.packed.now) _ _ _ (year_is year) (exposures-are at) (increments-are at) (sound at) in
-    (ready.0, (ready.1.0, (ready.1.1, (refl, (s.pre.1.1.1.1.1.1.1, s.pre.1.1.1.1.1.1.0)))))
+    (ready.0, (ready.1.0, (ready.1.1, (refl, (s.requires.1.1.1.1.1.1.1, s.requires.1.1.1.1.1.1.0)))))
 
 returns : tie.Need-returns
 returns c =
-    let year = c.before.before.before.before.before.before.before.before in
-    let at = year in
+    let year = c.before.before.before.before.before.before.before in
+    let at = year.before in
     let s = start at in
     let f = figures_of s.args.packed.now in
-    let six = s.pre.1.1.0 in (
+    let six = s.requires.1.1.0 in (
       at.read-opened.ensures.1.0 ∙ (arrays at).weight,
       (
         increments-are at,

@@ -7,20 +7,16 @@ use Rattle.proof_section.proofs.put_paragraphs.Tie as tie
 
 returns : tie.Need-returns
 unfolding proved_paragraphs
-returns c = put_five c.before.before.before.before.before.before.before.before.before.before.before.before.before.before.before.before.before.before.before.before.before.put-paragraph.ensures c.before.before.before.before.before.before.before.before.before.before.before.before.before.before.before.before.before.put-shares-paragraph.ensures c.before.before.before.before.before.before.before.before.before.before.before.before.put-paragraph2.ensures c.before.before.before.before.before.before.before.put-paragraph3.ensures c.before.before.put-paragraph4.ensures
+returns c = put_five c.before.before.before.before.before.before.before.before.before.before.before.before.before.before.before.before.before.before.before.before.before.before.before.before.put_paragraph-shares.ensures c.before.before.before.before.before.before.before.before.before.before.before.before.before.before.before.before.before.before.before.before.put_shares_paragraph-amounts.ensures c.before.before.before.before.before.before.before.before.before.before.before.before.before.before.put_paragraph-roundings.ensures c.before.before.before.before.before.before.before.before.put_paragraph-range.ensures c.before.before.put_paragraph.ensures
 
-pub put-paragraphs-spec : {M : Type 1} → statement M
-put-paragraphs-spec =
+pub put_paragraphs_spec : {M : Type 1} → statement M
+put_paragraphs_spec =
     tie.close
     (tie.spec
-    (λ c. search rules)
     (λ c κs. search rules)
     (λ c κs. search rules)
-    (λ c. search rules)
     (λ c κs. search rules)
-    (λ c. search rules)
     (λ c κs. search rules)
-    (λ c. search rules)
     (λ c κs. search rules)
     (λ c. search rules)
     returns)

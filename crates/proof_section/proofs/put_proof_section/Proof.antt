@@ -7,13 +7,12 @@ use Rattle.proof_section.proofs.put_proof_section.Tie as tie
 
 returns : tie.Need-returns
 unfolding proof_section
-returns c = put_four c.before.before.before.before.before.before.before.before.before.before.before.before.before.before.put-section-start.ensures c.before.before.before.before.before.before.before.before.before.before.put-paragraphs.ensures c.before.before.before.before.before.before.put-limits-table.ensures c.before.before.put-section-end.ensures
+returns c = put_four c.before.before.before.before.before.before.before.before.before.before.before.before.before.before.put_section_start-start.ensures c.before.before.before.before.before.before.before.before.before.before.put_paragraphs-table.ensures c.before.before.before.before.before.before.put_limits_table-end.ensures c.before.before.put_section_end.ensures
 
-pub put-proof-section-spec : {M : Type 1} → statement M
-put-proof-section-spec =
+pub put_proof_section_spec : {M : Type 1} → statement M
+put_proof_section_spec =
     tie.close
     (tie.spec
-    (λ c. search rules)
     (λ c κs. search rules)
     (λ c κs. search rules)
     (λ c κs. search rules)

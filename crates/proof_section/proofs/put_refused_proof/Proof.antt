@@ -7,15 +7,13 @@ use Rattle.proof_section.proofs.put_refused_proof.Tie as tie
 
 returns : tie.Need-returns
 unfolding refused_proof
-returns c = put_three c.before.before.before.before.before.before.before.before.before.before.before.put-section-start.ensures c.before.before.before.before.before.before.put-paragraph.ensures c.before.before.put-section-end.ensures
+returns c = put_three c.before.before.before.before.before.before.before.before.before.before.before.before.put_section_start-start.ensures c.before.before.before.before.before.before.put_paragraph-end.ensures c.before.before.put_section_end.ensures
 
-pub put-refused-proof-spec : {M : Type 1} → statement M
-put-refused-proof-spec =
+pub put_refused_proof_spec : {M : Type 1} → statement M
+put_refused_proof_spec =
     tie.close
     (tie.spec
-    (λ c. search rules)
     (λ c κs. search rules)
-    (λ c. search rules)
     (λ c κs. search rules)
     (λ c κs. search rules)
     (λ c. search rules)

@@ -11,20 +11,26 @@ use borrow.Author.Rules.{rules}
 use Rattle.provision_section.proofs.put_provision_plot.Statement.{statement}
 use Rattle.provision_section.proofs.put_provision_plot.Tie as tie
 
-put-column-plot-requires : tie.Need-put-column-plot-requires
+put-column-plot-requires : tie.Need-put_column_plot-requires
 put-column-plot-requires c κs =
-    let s = c.before.before.before.before.before in
+    let s = c.before.before.before.before.before.before in
     let k = s.args.k in
     let xs = s.args.figures.now in
     let here = numbers (added_at k) (starts_of k) k s.requires.0 refl refl in
-    rw (c.before.before.before.starts-of.ensures, c.before.before.added-at.ensures)
+    rw (c.before.before.before.before.starts_of-s.ensures, c.before.before.before.added_at-a.ensures)
     (omega arith, (drawn k (k + 1) _ xs s.requires.0 s.requires.1.1 (omega arith), drawn k (k + 1) _ xs s.requires.0 s.requires.1.1 (omega arith)))
 
 returns : tie.Need-returns
 unfolding provision_plot provision_plot_words
-returns c = rw (c.before.before.before.before.before.before.starts-of.ensures, c.before.before.before.before.before.added-at.ensures) at c.before.before.put-column-plot.ensures
+returns c = rw (c.before.before.before.before.before.before.before.starts_of-s.ensures, c.before.before.before.before.before.before.added_at-a.ensures) at c.before.before.put_column_plot.ensures
 
-pub put-provision-plot-spec : {M : Type 1} → statement M
-put-provision-plot-spec =
+pub put_provision_plot_spec : {M : Type 1} → statement M
+put_provision_plot_spec =
     tie.close
-    (tie.spec (λ c κs. search rules) (λ c κs. search rules) (λ c. search rules) (λ c. search rules) put-column-plot-requires (λ c. search rules) returns)
+    (tie.spec
+    (λ c κs. search rules)
+    (λ c κs. search rules)
+    (λ c. search rules)
+    put-column-plot-requires
+    (λ c. search rules)
+    returns)

@@ -8,9 +8,15 @@ use Rattle.provision_section.proofs.put_provision_section.Tie as tie
 returns : tie.Need-returns
 unfolding provisions_section provision_paragraph
 returns c =
-    put_four c.before.before.before.before.before.before.before.before.before.before.before.before.before.before.before.put-section-start.ensures c.before.before.before.before.before.before.before.before.before.before.put-Only.ensures c.before.before.before.before.before.before.put-provision-table.ensures c.before.before.put-section-end.ensures
+    put_four c.before.before.before.before.before.before.before.before.before.before.before.before.before.before.before.before.put_section_start-paragraph.ensures c.before.before.before.before.before.before.before.before.before.before.put_only-table.ensures c.before.before.before.before.before.before.put_provision_table-end.ensures c.before.before.put_section_end.ensures
 
-pub put-provision-section-spec : {M : Type 1} → statement M
-put-provision-section-spec =
+pub put_provision_section_spec : {M : Type 1} → statement M
+put_provision_section_spec =
     tie.close
-    (tie.spec (λ c. search rules) (λ c κs. search rules) (λ c. search rules) (λ c κs. search rules) (λ c κs. search rules) (λ c κs. search rules) (λ c. search rules) returns)
+    (tie.spec
+    (λ c κs. search rules)
+    (λ c κs. search rules)
+    (λ c κs. search rules)
+    (λ c κs. search rules)
+    (λ c. search rules)
+    returns)

@@ -69,7 +69,7 @@ carry-tail-requires c κs =
     let read = at.read_tail-amount.ensures in
     tail_ready (F at) (good at) _ _ _ _ (last-year year) read.0 read.1.0 read.1.1
 
-tailed : (c : tie.After-carry_tail) → Tailed (F (years c.before).before) c.carry_tail.new.indices.1.1.1.0
+tailed : (c : tie.After-carry_tail) → Tailed (F (years c.before).before) c.carry_tail.new.tails
 tailed c =
     let year = years c.before in
     let at = year.before in
@@ -91,7 +91,7 @@ fill-levels-requires c κs =
     let l = ap (λ (g : Factors). g.levels-1) (factors split) in
     levels_ready (F at) (good at) (passed at).cumulatives (passed at).development (passed at).separation _ _ _ (last-year year) l at.read_tail-amount.ensures.1.1
 
-levels : (c : tie.After-fill_levels) → c.fill_levels.new.levels.1.1.0 ≡ levels_in (F (parted c.before).before.before)
+levels : (c : tie.After-fill_levels) → c.fill_levels.new.levels ≡ levels_in (F (parted c.before).before.before)
 levels c =
     let split = parted c.before in
     let year = split.before in
@@ -101,7 +101,7 @@ levels c =
 
 -- the provisions
 abbrev filled : tie.After-complete-arg-2-1 → tie.After-fill_levels
-filled c = c.before.before.before.before.before.before.before
+filled c = c.before.before.before.before.before.before
 
 complete-requires : tie.Need-complete-requires
 complete-requires c κs =
@@ -111,7 +111,7 @@ complete-requires c κs =
     let at = year.before in
     let r = ap (λ (g : Factors). g.shares) (factors split) in
     provisions_ready (F at) (good at) (passed at).cumulatives (passed at).development (passed at).separation _ _ _ _ _ _ (last-year year) at.read_tail-amount.ensures.1.0 r (levels fill)
-    (tailed (carried fill.before)) (start at).pre.1.0
+    (tailed (carried fill.before)) (start at).requires.1.0
 
 returns : tie.Need-returns
 returns c =
@@ -121,7 +121,7 @@ returns c =
     let at = year.before in
     let r = ap (λ (g : Factors). g.shares) (factors split) in
     provisions_found (F at) (good at) (passed at).cumulatives (passed at).development (passed at).separation _ _ _ _ _ _ (last-year year) at.read_tail-amount.ensures.1.0 r (levels fill)
-    (tailed (carried fill.before)) (start at).pre.1.0 _ _ (start at).pre.1.1.1 c.complete.ensures.1.1
+    (tailed (carried fill.before)) (start at).requires.1.0 _ _ (start at).requires.1.1.1 c.complete.ensures.1.1
 
 pub fill_provisions_spec : {M : Type 1} → statement M
 fill_provisions_spec =

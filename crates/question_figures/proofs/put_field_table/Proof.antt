@@ -7,15 +7,13 @@ use Rattle.question_figures.proofs.put_field_table.Tie as tie
 returns : tie.Need-returns
 unfolding field_table
 returns c =
-    rw c.before.before.before.before.before.before.field-style.ensures at c.before.before.put-figures.ensures
+    rw c.before.before.before.before.before.before.before.before.field_style-style.ensures at c.before.before.put_figures.ensures
 
-pub put-field-table-spec : {M : Type 1} → statement M
-put-field-table-spec =
+pub put_field_table_spec : {M : Type 1} → statement M
+put_field_table_spec =
     tie.close
     (tie.spec
     (λ c κs. search rules)
-    (λ c. search rules)
-    (λ c. search rules)
     (λ c κs. search rules)
     (λ c. search rules)
     returns)

@@ -1,4 +1,6 @@
 -- The figures are put at the first places. A signed part of a struct is bits (to_z-of_z). Assumes nothing.
+use mir.Syntax.{w64}
+use borrow.Author.Rules.{rules}
 use Rattle.rules.specs.Lists.{padded}
 use Rattle.question_figures.specs.QuestionFigures.{figure_table}
 use mir.Facts.{to_z-of_z}
@@ -10,16 +12,15 @@ returns : tie.Need-returns
 unfolding figure_table padded
 returns c =
     rw (
-      to_z-of_z (sfits_of c.before.before.before.before.before.before.before.before.before.struct_told.given.1.1.1.0.1),
-      to_z-of_z (sfits_of c.before.before.before.before.before.before.before.before.struct-told2.given.1.1.1.1.0.1),
-      to_z-of_z (sfits_of c.before.before.before.before.before.before.before.struct-told3.given.1.1.1.1.1.0.1),
-    ) at c.before.before.put-table.ensures
+      to_z-of_z {w = w64} (sfits_of c.before.before.before.before.before.before.before.before.before.before.struct_told-1.given.1.1.1.0.1),
+      to_z-of_z {w = w64} (sfits_of c.before.before.before.before.before.before.before.before.before.struct_told-2-1.given.1.1.1.1.0.1),
+      to_z-of_z {w = w64} (sfits_of c.before.before.before.before.before.before.before.before.struct_told-3-1.given.1.1.1.1.1.0.1),
+    ) at c.before.before.put_table.ensures
 
-pub put-figures-spec : {M : Type 1} → statement M
-put-figures-spec =
+pub put_figures_spec : {M : Type 1} → statement M
+put_figures_spec =
     tie.close
     (tie.spec
-    (λ c. search rules)
     (λ c. search rules)
     (λ c. search rules)
     (λ c. search rules)

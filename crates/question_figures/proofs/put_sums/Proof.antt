@@ -8,14 +8,12 @@ use Rattle.question_figures.proofs.put_sums.Tie as tie
 returns : tie.Need-returns
 unfolding sums_table styled
 returns c =
-    c.before.before.put-figures.ensures
+    c.before.before.put_figures.ensures
 
-pub put-sums-spec : {M : Type 1} → statement M
-put-sums-spec =
+pub put_sums_spec : {M : Type 1} → statement M
+put_sums_spec =
     tie.close
     (tie.spec
-    (λ c. search rules)
-    (λ c. search rules)
     (λ c κs. search rules)
     (λ c. search rules)
     returns)

@@ -7,13 +7,12 @@ use Rattle.rates_section.proofs.put_flat.Tie as tie
 
 returns : tie.Need-returns
 unfolding flat_words
-returns c = put_append c.before.before.before.before.before.before.put-words.ensures c.before.before.put_Typed.ensures
+returns c = put_append c.before.before.before.before.before.before.put_words-rate.ensures c.before.before.put_typed.ensures
 
-pub put-flat-spec : {M : Type 1} → statement M
-put-flat-spec =
+pub put_flat_spec : {M : Type 1} → statement M
+put_flat_spec =
     tie.close
     (tie.spec
-    (λ c. search rules)
     (λ c κs. search rules)
     (λ c κs. search rules)
     (λ c. search rules)

@@ -7,13 +7,12 @@ use Rattle.rates_section.proofs.put_rate.Tie as tie
 
 returns : tie.Need-returns
 unfolding rate_words
-returns c = put_append c.before.before.before.before.before.before.put-words.ensures c.before.before.put_Typed.ensures
+returns c = put_append c.before.before.before.before.before.before.put_words-rate.ensures c.before.before.put_typed.ensures
 
-pub put-rate-spec : {M : Type 1} → statement M
-put-rate-spec =
+pub put_rate_spec : {M : Type 1} → statement M
+put_rate_spec =
     tie.close
     (tie.spec
-    (λ c. search rules)
     (λ c κs. search rules)
     (λ c κs. search rules)
     (λ c. search rules)

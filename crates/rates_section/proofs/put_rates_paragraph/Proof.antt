@@ -8,16 +8,15 @@ use Rattle.rates_section.proofs.put_rates_paragraph.Tie as tie
 returns : tie.Need-returns
 unfolding rates_paragraph
 returns c =
-    put_four c.before.before.before.before.before.before.before.before.before.before.before.before.before.before.before.put-paragraph-start.ensures (rw c.before.before.before.before.before.before.before.before.before.before.before.before.before.before.before.before.before.shape_at.ensures.0 at c.before.before.before.before.before.before.before.before.before.before.before.put-shape.ensures) c.before.before.before.before.before.before.put-words.ensures c.before.before.put-paragraph-end.ensures
+    put_four c.before.before.before.before.before.before.before.before.before.before.before.before.before.before.before.before.put_paragraph_start-shape.ensures (rw c.before.before.before.before.before.before.before.before.before.before.before.before.before.before.before.before.before.before.shape_at-place.ensures.0 at c.before.before.before.before.before.before.before.before.before.before.before.before.put_shape-nearest.ensures) c.before.before.before.before.before.before.put_words-end.ensures c.before.before.put_paragraph_end.ensures
 
-pub put-rates-paragraph-spec : {M : Type 1} → statement M
-put-rates-paragraph-spec =
+pub put_rates_paragraph_spec : {M : Type 1} → statement M
+put_rates_paragraph_spec =
     tie.close
     (tie.spec
     (λ c κs. search rules)
     (λ c κs. search rules)
     (λ c κs. search rules)
-    (λ c. search rules)
     (λ c κs. search rules)
     (λ c κs. search rules)
     (λ c. search rules)

@@ -5,17 +5,17 @@ use borrow.Author.Rules.{rules}
 use Rattle.rates_section.proofs.put_shape.Statement.{statement}
 use Rattle.rates_section.proofs.put_shape.Tie as tie
 
-returns : tie.Need-returns
-returns c = let t = c.before.before.before.before in put_same (first_shape _ _ _ _ _ t.if1.true) c.before.before.put-flat.ensures
+returns : tie.Need-returns-then-place-eq0
+returns c = let t = c.before.before.before.before in put_same (first_shape _ _ _ _ _ t.if-place-eq0.true) c.before.before.put_flat.ensures
 
-returns-2 : tie.Need-returns-2
-returns-2 c = let t = c.before.before.before.before in put_same (second_shape _ _ _ _ _ t.if2.true) c.before.before.put-fading.ensures
+returns-2 : tie.Need-returns-then-place-eq1
+returns-2 c = let t = c.before.before.before.before in put_same (second_shape _ _ _ _ _ t.if-place-eq1.true) c.before.before.put_fading.ensures
 
-returns-3 : tie.Need-returns-3
-returns-3 c = let t = c.before.before.before.before in put_same (third_shape _ _ _ _ _ t.before.if1.false t.if2.false) c.before.before.put-shock.ensures
+returns-3 : tie.Need-returns
+returns-3 c = let t = c.before.before.before.before in put_same (third_shape _ _ _ _ _ t.before.if-place-eq0.false t.if-place-eq1.false) c.before.before.put_shock.ensures
 
-pub put-shape-spec : {M : Type 1} → statement M
-put-shape-spec =
+pub put_shape_spec : {M : Type 1} → statement M
+put_shape_spec =
     tie.close
     (tie.spec
     (λ c κs. search rules)

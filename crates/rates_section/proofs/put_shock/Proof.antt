@@ -8,22 +8,19 @@ use Rattle.rates_section.proofs.put_shock.Tie as tie
 returns : tie.Need-returns
 unfolding shock_words
 returns c =
-    put_append c.before.before.before.before.before.before.before.before.before.before.before.before.before.before.before.before.before.before.before.before.before.before.before.before.before.before.put-rate.ensures
-    (put_five c.before.before.before.before.before.before.before.before.before.before.before.before.before.before.before.before.before.before.before.before.before.put-words.ensures (rw c.before.before.before.before.before.before.before.before.before.before.before.before.before.before.before.before.before.shock-year.ensures at c.before.before.before.before.before.before.before.before.before.before.before.before.before.before.before.before.put-decimal.ensures) c.before.before.before.before.before.before.before.before.before.before.before.put-words2.ensures c.before.before.before.before.before.before.before.put_Typed.ensures c.before.before.put-words3.ensures)
+    put_append c.before.before.before.before.before.before.before.before.before.before.before.before.before.before.before.before.before.before.before.before.before.before.before.before.before.before.before.before.before.put_rate-in_year.ensures
+    (put_five c.before.before.before.before.before.before.before.before.before.before.before.before.before.before.before.before.before.before.before.before.before.before.before.put_words-year.ensures (rw c.before.before.before.before.before.before.before.before.before.before.before.before.before.before.before.before.before.before.before.shock_year.ensures at c.before.before.before.before.before.before.before.before.before.before.before.before.before.before.before.before.before.before.put_decimal-and_of.ensures) c.before.before.before.before.before.before.before.before.before.before.before.before.put_words-other.ensures c.before.before.before.before.before.before.before.before.put_typed-others.ensures c.before.before.put_words.ensures)
 
-pub put-shock-spec : {M : Type 1} → statement M
-put-shock-spec =
+pub put_shock_spec : {M : Type 1} → statement M
+put_shock_spec =
     tie.close
     (tie.spec
     (λ c κs. search rules)
-    (λ c. search rules)
     (λ c κs. search rules)
     (λ c κs. search rules)
     (λ c κs. search rules)
-    (λ c. search rules)
     (λ c κs. search rules)
     (λ c κs. search rules)
-    (λ c. search rules)
     (λ c κs. search rules)
     (λ c. search rules)
     returns)

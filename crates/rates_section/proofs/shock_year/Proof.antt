@@ -6,10 +6,10 @@ use Rattle.rates_section.proofs.shock_year.Tie as tie
 
 returns : tie.Need-returns
 unfolding shock_year
-returns c = rw (c.size-from.ensures.0, c.before.cell_at.ensures)
+returns c = rw (c.size_from-year.ensures.0, c.before.cell_at.ensures)
 
-pub shock-year-spec : {M : Type 1} → statement M
-shock-year-spec =
+pub shock_year_spec : {M : Type 1} → statement M
+shock_year_spec =
     tie.close
     (tie.spec
     (λ c κs. search rules)

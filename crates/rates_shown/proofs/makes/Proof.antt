@@ -15,8 +15,8 @@ returns c =
     let years = s.args.years in
     let held = s.args.indices.now in
     c.same_first.ensures
-    ∙ ap (same_first years held) (ap (λ (r : Indices). r.values) i.inflation-indices.ensures ∙ made_indices s.args.shape years s.requires.1)
+    ∙ ap (same_first years held) (ap (λ (r : Indices). r.values-1) i.inflation_indices-made.ensures ∙ made_indices s.args.shape years s.requires.1)
     ∙ same_padded held (index_after s.args.shape) years
 
-pub makes-spec : {M : Type 1} → statement M
-makes-spec = tie.close (tie.spec (λ c κs. search rules) (λ c κs. search rules) returns)
+pub makes_spec : {M : Type 1} → statement M
+makes_spec = tie.close (tie.spec (λ c κs. search rules) (λ c κs. search rules) returns)

@@ -8,33 +8,33 @@ use Rattle.rates_shown.proofs.Shown.{same_none, same_more, same_differs}
 use Rattle.rates_shown.proofs.same_first.Statement.{statement}
 use Rattle.rates_shown.proofs.same_first.Tie as tie
 
-abbrev invariant-loop : tie.invariant-loop
+abbrev invariant-loop : tie.invariant-loop-i
 invariant-loop a b n i₀ i = (i ≤ n) × (same_first i a b ≡ true)
 
-abbrev decreases-loop : tie.decreases-loop
+abbrev decreases-loop : tie.decreases-loop-i
 decreases-loop a b n i₀ i = n - i
 
-loop-holds : tie.Need-loop-init invariant-loop decreases-loop
+loop-holds : tie.Need-loop-i-init invariant-loop decreases-loop
 loop-holds c = (omega arith, same_none _ _)
 
-returns : tie.Need-returns invariant-loop decreases-loop
+returns : tie.Need-returns-then-a-i invariant-loop decreases-loop
 returns c =
-    let l = c.before.before.before.before in
-    sym (same_differs _ _ l.before.args.n l.loop.i (omega arith) c.if1.true)
+    let l = c.before.before.before.before.before.before in
+    sym (same_differs _ _ l.before.args.n l.loop-i.i (omega arith) c.if-a-i.true)
 
-loop-again : tie.Need-loop-preserved invariant-loop decreases-loop
+loop-again : tie.Need-loop-i-preserved invariant-loop decreases-loop
 loop-again c =
-    let l = c.before.before.before.before.loop in
-    (omega arith, same_more _ _ l.i l.invariant.1 c.if1.false)
+    let l = c.before.before.before.before.before.before.loop-i in
+    (omega arith, same_more _ _ l.i l.invariant.1 c.if-a-i.false)
 
-returns-2 : tie.Need-returns-2 invariant-loop decreases-loop
+returns-2 : tie.Need-returns invariant-loop decreases-loop
 returns-2 c =
     let l = c.before in
-    let e : l.loop.i ≡ l.before.args.n = omega arith in
-    sym (rw e at l.loop.invariant.1)
+    let e : l.loop-i.i ≡ l.before.args.n = omega arith in
+    sym (rw e at l.loop-i.invariant.1)
 
-pub same-first-spec : {M : Type 1} → statement M
-same-first-spec =
+pub same_first_spec : {M : Type 1} → statement M
+same_first_spec =
     tie.close
     (tie.spec
     invariant-loop

@@ -5,13 +5,13 @@ use borrow.Author.Rules.{rules}
 use Rattle.rates_shown.proofs.shown_rates.Statement.{statement}
 use Rattle.rates_shown.proofs.shown_rates.Tie as tie
 
-returns : tie.Need-returns
+returns : tie.Need-returns-then-makes_indices
 unfolding shown_rates
-returns c = rw (sym c.before.makes-indices.ensures ∙ c.if1.true)
+returns c = rw (sym c.before.makes_indices.ensures ∙ c.if-makes_indices.true)
 
-returns-2 : tie.Need-returns-2
+returns-2 : tie.Need-returns
 unfolding shown_rates
-returns-2 c = rw (sym c.before.before.makes-indices.ensures ∙ c.before.if1.false)
+returns-2 c = rw (sym c.before.makes_indices.ensures ∙ c.if-makes_indices.false)
 
-pub shown-rates-spec : {M : Type 1} → statement M
-shown-rates-spec = tie.close (tie.spec (λ c κs. search rules) returns (λ c. search rules) returns-2)
+pub shown_rates_spec : {M : Type 1} → statement M
+shown_rates_spec = tie.close (tie.spec (λ c κs. search rules) returns (λ c. search rules) returns-2)

@@ -57,8 +57,8 @@ last-year-of-requires c κs = (years_known_lem (bytes c) (opening_yes (bytes c) 
 
 put-triangle-requires : tie.Need-put_triangle-at-requires
 put-triangle-requires c κs =
-    let e = c.before.before.before.before.before.before in
-    let read = e.read-opened.ensures in
+    let e = c.before.before.before.before in
+    let read = e.before.before.read-opened.ensures in
     let year = c.before.before.before.last_year_of-k.ensures in (
       year.1,
       (
@@ -69,8 +69,8 @@ put-triangle-requires c κs =
 
 put-assumptions-requires : tie.Need-put_assumptions-requires
 put-assumptions-requires c κs =
-    let e = c.before.before.before.before.before.before.before.before.before.before.before.before in
-    let read = e.read-opened.ensures in
+    let e = c.before.before.before.before.before.before.before.before.before.before in
+    let read = e.before.before.read-opened.ensures in
     let year = c.before.before.before.before.before.before.before.before.before.last_year_of-k.ensures in
     let f = full e in
     let s = passed e in (
@@ -99,8 +99,8 @@ same_length c = search rules
 returns-2 : tie.Need-returns
 unfolding after_call
 returns-2 c =
-    let e = c.before.before.before.before.before.before.before.before.before.before.before.before.before.before in
-    let read = e.read-opened.ensures in
+    let e = c.before.before.before.before.before.before.before.before.before.before.before.before in
+    let read = e.before.before.read-opened.ensures in
     let triangle = c.before.before.before.before.before.before.before.put_triangle-at.ensures in
     let f = full e in
     let put =

@@ -87,7 +87,7 @@ fits-1 : (c : tie.After-fill_row) → fits (bytes c.before.before) 1 ≡ c.fill_
 fits-1 c = (rows_found c.before.before).exposures.same ∙ sym c.fill_row.ensures.0
 
 filled-1 : (c : tie.After-fill_row)
-    → c.fill_row.new.row.1.1.1.1.1.0 ≡ sets c.before.before.before.before.before.args.exposures.now 0 (row_read (bytes c.before.before) 1)
+    → c.fill_row.new.row ≡ sets c.before.before.before.before.before.args.exposures.now 0 (row_read (bytes c.before.before) 1)
 filled-1 c = rw ((rows_found c.before.before).exposures.read (passed_first (bytes c.before.before) (is_whole c.before.before))) c.fill_row.ensures.1
 
 yes-1 : (c : tie.Else-not-fill_row) → Passed (bytes (at_1 c)) 2
@@ -100,7 +100,7 @@ fits-2 : (c : tie.After-fill_increments) → fits (bytes (at_1 c.before.before))
 fits-2 c = (rows_found (at_1 c.before.before)).increments.same ∙ sym c.fill_increments.ensures.0
 
 filled-2 : (c : tie.After-fill_increments)
-    → c.fill_increments.new.amounts.1.1.0 ≡ sets (at_1 c.before.before).before.before.before.args.increments.now 0 (map (value_of increment) (row_read (bytes (at_1 c.before.before)) 2))
+    → c.fill_increments.new.amounts ≡ sets (at_1 c.before.before).before.before.before.args.increments.now 0 (map (value_of increment) (row_read (bytes (at_1 c.before.before)) 2))
 filled-2 c = rw ((rows_found (at_1 c.before.before)).increments.read (yes-1 c.before.before)) c.fill_increments.ensures.1
 
 yes-2 : (c : tie.Else-not-fill_increments) → Passed (bytes (at_2 c)) 3
@@ -113,7 +113,7 @@ fits-3 : (c : tie.After-fill_row-2) → fits (bytes (at_2 c.before.before)) 3 �
 fits-3 c = (rows_found (at_2 c.before.before)).indices.same ∙ sym c.fill_row-2.ensures.0
 
 filled-3 : (c : tie.After-fill_row-2)
-    → c.fill_row-2.new.row.1.1.1.1.1.0 ≡ sets (at_2 c.before.before).before.before.before.args.indices.now 0 (row_read (bytes (at_2 c.before.before)) 3)
+    → c.fill_row-2.new.row ≡ sets (at_2 c.before.before).before.before.before.args.indices.now 0 (row_read (bytes (at_2 c.before.before)) 3)
 filled-3 c = rw ((rows_found (at_2 c.before.before)).indices.read (yes-2 c.before.before)) c.fill_row-2.ensures.1
 
 yes-3 : (c : tie.Else-not-fill_row-2) → Passed (bytes (at-3 c)) 4
@@ -126,7 +126,7 @@ fits-4 : (c : tie.After-fill_row-3) → fits (bytes (at-3 c.before.before)) 4 �
 fits-4 c = (rows_found (at-3 c.before.before)).reporting.same ∙ sym c.fill_row-3.ensures.0
 
 filled-4 : (c : tie.After-fill_row-3)
-    → c.fill_row-3.new.row.1.1.1.1.1.0 ≡ sets (at-3 c.before.before).before.before.before.args.reporting.now 0 (row_read (bytes (at-3 c.before.before)) 4)
+    → c.fill_row-3.new.row ≡ sets (at-3 c.before.before).before.before.before.args.reporting.now 0 (row_read (bytes (at-3 c.before.before)) 4)
 filled-4 c = rw ((rows_found (at-3 c.before.before)).reporting.read (yes-3 c.before.before)) c.fill_row-3.ensures.1
 
 yes-4 : (c : tie.Else-not-fill_row-3) → Passed (bytes (at_4 c)) 5
@@ -149,7 +149,7 @@ fits-6 : (c : tie.After-fill_row-4) → fits (bytes (at_5 c.before.before)) 6 �
 fits-6 c = (rows_found (at_5 c.before.before)).ulae.same ∙ sym c.fill_row-4.ensures.0
 
 filled-6 : (c : tie.After-fill_row-4)
-    → c.fill_row-4.new.row.1.1.1.1.1.0 ≡ sets (at_5 c.before.before).before.before.before.args.ulae.now 0 (row_read (bytes (at_5 c.before.before)) 6)
+    → c.fill_row-4.new.row ≡ sets (at_5 c.before.before).before.before.before.args.ulae.now 0 (row_read (bytes (at_5 c.before.before)) 6)
 filled-6 c = rw ((rows_found (at_5 c.before.before)).ulae.read (yes-5 c.before.before)) c.fill_row-4.ensures.1
 
 yes-6 : (c : tie.Else-not-fill_row-4) → Passed (bytes (at_6 c)) 7
@@ -316,7 +316,7 @@ in_range_lem : (c : tie.Else-not-fill_row-3) → every (between 0 million) (shar
 in_range_lem c = sym c.before.fill_row-3.ensures.0 ∙ c.if-not-fill_row-3.false
 
 abbrev shares_array : tie.After-sum_of-arg-2-1 → List ℕ
-shares_array c = (else-4 (else-5 (else-6 c.before.before))).before.fill_row-3.new.row.1.1.1.1.1.0
+shares_array c = (else-4 (else-5 (else-6 c.before.before))).before.fill_row-3.new.row
 
 shares : (c : tie.After-sum_of-arg-2-1) → take (last-year (at_7 c.before.before) + 1) (shares_array c) ≡ shares-row (at_7 c.before.before)
 shares c =

@@ -10,61 +10,61 @@ use borrow.Author.Rules.{rules}
 use Rattle.record_figures.proofs.fill_record_figures.Statement.{statement}
 use Rattle.record_figures.proofs.fill_record_figures.Tie as tie
 
-abbrev start : tie.After-read → tie.Start
+abbrev start : tie.After-read-opened → tie.Start
 start c = c.before.before.before.before.before.before.before
 
-bytes : (c : tie.After-read) → Fit 8 (start c).args.packed.now
-bytes c i = omega (arith, c.before.before.before.before.before.before.shared-slice-known.given i)
+bytes : (c : tie.After-read-opened) → Fit 8 (start c).args.packed.now
+bytes c i = omega (arith, c.before.before.before.before.before.before.shared_slice_known-1.given i)
 
-filled : (c : tie.After-read) → Filled (start c).args.packed.now
-filled c = let s = start c in arrays s.args.packed.now (bytes c) s.pre.0 s.pre.1.0
+filled : (c : tie.After-read-opened) → Filled (start c).args.packed.now
+filled c = let s = start c in arrays s.args.packed.now (bytes c) s.requires.0 s.requires.1.0
 
-exposures-are : (c : tie.After-read) → c.read.new.1.0 ≡ (figures_of (start c).args.packed.now).exposures
-exposures-are c = c.read.ensures.1.1.0 ∙ (filled c).exposures
+exposures-are : (c : tie.After-read-opened) → c.read-opened.new.exposures ≡ (figures_of (start c).args.packed.now).exposures
+exposures-are c = c.read-opened.ensures.1.1.0 ∙ (filled c).exposures
 
-increments-are : (c : tie.After-read) → c.read.new.1.1.0 ≡ (figures_of (start c).args.packed.now).increments
-increments-are c = c.read.ensures.1.1.1.0 ∙ (filled c).increments
+increments-are : (c : tie.After-read-opened) → c.read-opened.new.increments ≡ (figures_of (start c).args.packed.now).increments
+increments-are c = c.read-opened.ensures.1.1.1.0 ∙ (filled c).increments
 
-indices-are : (c : tie.After-read) → c.read.new.1.1.1.0 ≡ (figures_of (start c).args.packed.now).indices
-indices-are c = c.read.ensures.1.1.1.1.0 ∙ (filled c).indices
+indices-are : (c : tie.After-read-opened) → c.read-opened.new.indices ≡ (figures_of (start c).args.packed.now).indices
+indices-are c = c.read-opened.ensures.1.1.1.1.0 ∙ (filled c).indices
 
-reporting-are : (c : tie.After-read) → c.read.new.1.1.1.1.0 ≡ (figures_of (start c).args.packed.now).reporting
-reporting-are c = c.read.ensures.1.1.1.1.1.0 ∙ (filled c).reporting
+reporting-are : (c : tie.After-read-opened) → c.read-opened.new.reporting ≡ (figures_of (start c).args.packed.now).reporting
+reporting-are c = c.read-opened.ensures.1.1.1.1.1.0 ∙ (filled c).reporting
 
-ulae-are : (c : tie.After-read) → c.read.new.1.1.1.1.1.0 ≡ (figures_of (start c).args.packed.now).ulae
-ulae-are c = c.read.ensures.1.1.1.1.1.1.0 ∙ (filled c).ulae
+ulae-are : (c : tie.After-read-opened) → c.read-opened.new.ulae ≡ (figures_of (start c).args.packed.now).ulae
+ulae-are c = c.read-opened.ensures.1.1.1.1.1.1.0 ∙ (filled c).ulae
 
-year_is : (c : tie.After-last-year-of) → c.last-year-of.result ≡ (figures_of c.before.before.before.before.before.before.before.before.before.before.before.before.before.before.args.packed.now).k
+year_is : (c : tie.After-last_year_of) → c.last_year_of.result ≡ (figures_of c.before.before.before.before.before.before.before.before.before.before.before.before.before.before.args.packed.now).k
 unfolding figures_of
-year_is c = c.last-year-of.ensures.0
+year_is c = c.last_year_of.ensures.0
 
-last-year-of-requires : tie.Need-last-year-of-requires
+last-year-of-requires : tie.Need-last_year_of-requires
 last-year-of-requires c κs =
     let s = c.before.before.before.before.before.before.before.before.before.before.before.before.before in
     (years_known_lem s.args.packed.now (opening_yes s.args.packed.now s.requires.0).0).0
 
-fill-figures-requires : tie.Need-fill-figures-requires
+fill-figures-requires : tie.Need-fill_figures-requires
 unfolding figures_of
 fill-figures-requires c κs =
     let at = c.before.before.before.before.before.before.before in
     let s = start at in
     let all =
-    ready s.args.packed.now (bytes at) s.pre.0 s.pre.1.0 _ _ _ _ _ _ (year_is c) (exposures-are at) (increments-are at) (indices-are at) (reporting-are at) (ulae-are at)
-    s.args.list.now s.pre.1.1.0 in
-    (all.0, (s.pre.1.1.1, all.1))
+    ready s.args.packed.now (bytes at) s.requires.0 s.requires.1.0 _ _ _ _ _ _ (year_is c) (exposures-are at) (increments-are at) (indices-are at) (reporting-are at) (ulae-are at)
+    s.args.list.now s.requires.1.1.0 in
+    (all.0, (s.requires.1.1.1, all.1))
 
 returns : tie.Need-returns
 returns c =
     let at = c.before.before.before.before.before.before.before.before in
     let s = start at in (
-      at.read.ensures.1.0 ∙ (filled at).weight,
+      at.read-opened.ensures.1.0 ∙ (filled at).weight,
       (
-        at.read.ensures.1.1.1.1.1.1.1 ∙ (filled at).tail,
-        c.fill-figures.ensures
-            ∙ figures_are s.args.packed.now (bytes at) s.pre.0 s.pre.1.0 _ _ _ _ _ _ (year_is c.before) (exposures-are at) (increments-are at) (indices-are at) (reporting-are at)
+        at.read-opened.ensures.1.1.1.1.1.1.1 ∙ (filled at).tail,
+        c.fill_figures.ensures
+            ∙ figures_are s.args.packed.now (bytes at) s.requires.0 s.requires.1.0 _ _ _ _ _ _ (year_is c.before) (exposures-are at) (increments-are at) (indices-are at) (reporting-are at)
             (ulae-are at) s.args.list.now,
       ),
     )
 
-pub fill-record-figures-spec : {M : Type 1} → statement M
-fill-record-figures-spec = tie.close (tie.spec (λ c κs. search rules) last-year-of-requires fill-figures-requires returns)
+pub fill_record_figures_spec : {M : Type 1} → statement M
+fill_record_figures_spec = tie.close (tie.spec (λ c κs. search rules) last-year-of-requires fill-figures-requires returns)

@@ -1,4 +1,5 @@
 -- `recording::put_increments` meets its contract: before each turn the bits of the first i increments are packed. Assumes nothing.
+use mir.Syntax.{w64}
 use mathlib.Core.Path.{◌≡◌, refl, sym, ap, ◌∙◌}
 use mathlib.Core.List.{List, map}
 use Prim.Native.Nat.{ℕ, ◌+◌, ◌-◌, ◌*◌, ◌^◌, ◌≤◌, ◌<◌}
@@ -27,68 +28,68 @@ codes-more ps i h =
     let l : length cs ≡ length ps = length-map ps (code_of increment) in
     rw (← get_or-map (code_of increment) ps i (pos 0)) (pack_next 35 cs i (omega arith))
 
-abbrev invariant-loop : tie.invariant-loop
+abbrev invariant-loop : tie.invariant-loop-i
 invariant-loop buffer₀ ps q₀ i₀ buffer q i =
     (i ≤ length ps)
     × (length buffer ≡ length buffer₀)
     × PackedOn buffer₀ buffer q₀ q (35 * i) (pack (replicate i 35) (take i (map (code_of increment) ps)))
 
-abbrev decreases-loop : tie.decreases-loop
+abbrev decreases-loop : tie.decreases-loop-i
 decreases-loop buffer₀ ps q₀ i₀ buffer q i = length ps - i
 
-loop-holds : tie.Need-loop-init invariant-loop decreases-loop
+loop-holds : tie.Need-loop-i-init invariant-loop decreases-loop
 unfolding pack
 loop-holds c = (omega arith, refl, packed_none c.before.requires.0)
 
-mul-code-of : tie.Need-overflow-mul-code-of invariant-loop decreases-loop
+mul-code-of : tie.Need-offset_bounds-ps-i invariant-loop decreases-loop
 mul-code-of c = omega arith
 
-shared-slice-copy-out-code-of : tie.Need-shared-slice-copy-out-code-of invariant-loop decreases-loop
+shared-slice-copy-out-code-of : tie.Need-bounds-ps-i invariant-loop decreases-loop
 shared-slice-copy-out-code-of c = omega arith
 
-code-of-requires : tie.Need-code-of-requires invariant-loop decreases-loop
+code-of-requires : tie.Need-code_of-requires invariant-loop decreases-loop
 code-of-requires c κs =
     let start = c.before.before.before.before.before in
-    let i = c.before.before.before.loop.i in
-    rw (to_z-of_z (sfits_of c.code-of-arg.given))
+    let i = c.before.before.before.loop-i.i in
+    rw (to_z-of_z {w = w64} (sfits_of c.code_of-arg-1.given))
     (every_at (in_range increment) start.args.ps.now i (pos 0) (omega arith) start.requires.1)
 
-put-requires : tie.Need-put-requires invariant-loop decreases-loop
+put-requires : tie.Need-put-q-requires invariant-loop decreases-loop
 put-requires c κs =
     let start = c.before.before.before.before.before.before in
-    let inv = c.before.before.before.before.loop.invariant in
+    let inv = c.before.before.before.before.loop-i.invariant in
     (ready_then 35 start.requires.0 inv.2 inv.1 (omega arith), omega arith)
 
-add-i : tie.Need-overflow-add-i invariant-loop decreases-loop
+add-i : tie.Need-overflow_add-i invariant-loop decreases-loop
 add-i c = omega arith
 
-loop-less : tie.Need-loop-smaller invariant-loop decreases-loop
+loop-less : tie.Need-loop-i-smaller invariant-loop decreases-loop
 loop-less c = omega arith
 
-loop-again : tie.Need-loop-preserved invariant-loop decreases-loop
+loop-again : tie.Need-loop-i-preserved invariant-loop decreases-loop
 loop-again c =
-    let coded = c.before.before.before in
-    let loop = coded.before.before.before.before.loop in
-    let ps = coded.before.before.before.before.before.before.args.ps.now in
-    let code = rw (to_z-of_z (sfits_of coded.before.code-of-arg.given)) at coded.code_of_lem.ensures.0 in
+    let coded = c.before.before.before.before in
+    let loop = coded.before.before.before.loop-i in
+    let ps = coded.before.before.before.before.before.args.ps.now in
+    let code = rw (to_z-of_z {w = w64} (sfits_of coded.code_of-arg-1.given)) at coded.code_of_lem.ensures.0 in
     let e : 35 * (loop.i + 1) ≡ 35 * loop.i + 35 = omega arith in (
       omega arith,
       omega arith,
-      rw (e, codes-more ps loop.i (omega arith), ← code) (packed_then loop.invariant.2 c.before.before.put.ensures),
+      rw (e, codes-more ps loop.i (omega arith), ← code) (packed_then loop.invariant.2 c.before.before.put-q.ensures),
     )
 
-same_length : tie.Need-same-length invariant-loop decreases-loop
+same_length : tie.Need-shape_of-buffer invariant-loop decreases-loop
 same_length c = search rules
 
 returns : tie.Need-returns invariant-loop decreases-loop
 returns c =
     let ps = c.before.before.before.args.ps.now in
-    let e : c.before.loop.i ≡ length ps = omega arith in
+    let e : c.before.loop-i.i ≡ length ps = omega arith in
     rw (e, ap (λ (n : ℕ). take n (map (code_of increment) ps)) (sym (length-map ps (code_of increment))) ∙ take-length (map (code_of increment) ps))
-    at c.before.loop.invariant.2
+    at c.before.loop-i.invariant.2
 
-pub put-increments-spec : {M : Type 1} → statement M
-put-increments-spec =
+pub put_increments_spec : {M : Type 1} → statement M
+put_increments_spec =
     tie.close
     (tie.spec
     invariant-loop

@@ -19,167 +19,167 @@ from s =
     figures s.args.k s.args.exposures.now s.args.increments.now s.args.indices.now s.args.reporting.now s.args.weight s.args.ulae.now s.args.tail
 
 -- where it starts, from the end of each row
-abbrev start-1 : tie.After-put → tie.Start
+abbrev start-1 : tie.After-put-a → tie.Start
 start-1 c = c.before.before.before.before.before.before.before
 
-abbrev start-2 : tie.After-put-row → tie.Start
+abbrev start-2 : tie.After-put_row-b → tie.Start
 start-2 c = start-1 c.before.before.before.before
 
-abbrev start-3 : tie.After-put-increments → tie.Start
+abbrev start-3 : tie.After-put_increments-c → tie.Start
 start-3 c = start-2 c.before.before.before.before
 
-abbrev start-4 : tie.After-put-row2 → tie.Start
+abbrev start-4 : tie.After-put_row-d → tie.Start
 start-4 c = start-3 c.before.before.before.before
 
-abbrev start-5 : tie.After-put-row3 → tie.Start
+abbrev start-5 : tie.After-put_row-e → tie.Start
 start-5 c = start-4 c.before.before.before.before
 
-abbrev start-6 : tie.After-put2 → tie.Start
+abbrev start-6 : tie.After-put-f → tie.Start
 start-6 c = start-5 c.before.before.before.before
 
-abbrev start-7 : tie.After-put-row4 → tie.Start
+abbrev start-7 : tie.After-put_row-g → tie.Start
 start-7 c = start-6 c.before.before.before.before
 
-abbrev start-8 : tie.After-put3 → tie.Start
+abbrev start-8 : tie.After-put-h → tie.Start
 start-8 c = start-7 c.before.before.before.before
 
 -- the rows that are packed at the end of each row
-rows-1 : (c : tie.After-put) → FirstRows (from (start-1 c)) 1 (start-1 c).args.buffer.now c.put.new.out c.put.result
+rows-1 : (c : tie.After-put-a) → FirstRows (from (start-1 c)) 1 (start-1 c).args.buffer.now c.put-a.new.out c.put-a.result
 rows-1 c =
     let s = start-1 c in
-    record { long = c.put.auto.0; packed = packed_then (no_rows (from s) s.args.buffer.now s.pre).packed (packed_one c.put.ensures) }
+    record { long = c.put-a.auto.0; packed = packed_then (no_rows (from s) s.args.buffer.now s.requires).packed (packed_one c.put-a.ensures) }
 
-rows-2 : (c : tie.After-put-row) → FirstRows (from (start-2 c)) 2 (start-2 c).args.buffer.now c.put-row.new.0 c.put-row.result
+rows-2 : (c : tie.After-put_row-b) → FirstRows (from (start-2 c)) 2 (start-2 c).args.buffer.now c.put_row-b.new.buffer c.put_row-b.result
 rows-2 c =
     let d = rows-1 c.before.before.before.before in
-    record { long = c.put-row.auto.0 ∙ d.long; packed = packed_then d.packed c.put-row.ensures }
+    record { long = c.put_row-b.auto.0 ∙ d.long; packed = packed_then d.packed c.put_row-b.ensures }
 
-rows-3 : (c : tie.After-put-increments) → FirstRows (from (start-3 c)) 3 (start-3 c).args.buffer.now c.put-increments.new.0 c.put-increments.result
+rows-3 : (c : tie.After-put_increments-c) → FirstRows (from (start-3 c)) 3 (start-3 c).args.buffer.now c.put_increments-c.new.buffer c.put_increments-c.result
 rows-3 c =
     let d = rows-2 c.before.before.before.before in
-    record { long = c.put-increments.auto.0 ∙ d.long; packed = packed_then d.packed c.put-increments.ensures }
+    record { long = c.put_increments-c.auto.0 ∙ d.long; packed = packed_then d.packed c.put_increments-c.ensures }
 
-rows-4 : (c : tie.After-put-row2) → FirstRows (from (start-4 c)) 4 (start-4 c).args.buffer.now c.put-row2.new.0 c.put-row2.result
+rows-4 : (c : tie.After-put_row-d) → FirstRows (from (start-4 c)) 4 (start-4 c).args.buffer.now c.put_row-d.new.buffer c.put_row-d.result
 rows-4 c =
     let d = rows-3 c.before.before.before.before in
-    record { long = c.put-row2.auto.0 ∙ d.long; packed = packed_then d.packed c.put-row2.ensures }
+    record { long = c.put_row-d.auto.0 ∙ d.long; packed = packed_then d.packed c.put_row-d.ensures }
 
-rows-5 : (c : tie.After-put-row3) → FirstRows (from (start-5 c)) 5 (start-5 c).args.buffer.now c.put-row3.new.0 c.put-row3.result
+rows-5 : (c : tie.After-put_row-e) → FirstRows (from (start-5 c)) 5 (start-5 c).args.buffer.now c.put_row-e.new.buffer c.put_row-e.result
 rows-5 c =
     let d = rows-4 c.before.before.before.before in
-    record { long = c.put-row3.auto.0 ∙ d.long; packed = packed_then d.packed c.put-row3.ensures }
+    record { long = c.put_row-e.auto.0 ∙ d.long; packed = packed_then d.packed c.put_row-e.ensures }
 
-rows-6 : (c : tie.After-put2) → FirstRows (from (start-6 c)) 6 (start-6 c).args.buffer.now c.put2.new.0 c.put2.result
+rows-6 : (c : tie.After-put-f) → FirstRows (from (start-6 c)) 6 (start-6 c).args.buffer.now c.put-f.new.buffer c.put-f.result
 rows-6 c =
     let d = rows-5 c.before.before.before.before in
-    record { long = c.put2.auto.0 ∙ d.long; packed = packed_then d.packed (packed_one c.put2.ensures) }
+    record { long = c.put-f.auto.0 ∙ d.long; packed = packed_then d.packed (packed_one c.put-f.ensures) }
 
-rows-7 : (c : tie.After-put-row4) → FirstRows (from (start-7 c)) 7 (start-7 c).args.buffer.now c.put-row4.new.0 c.put-row4.result
+rows-7 : (c : tie.After-put_row-g) → FirstRows (from (start-7 c)) 7 (start-7 c).args.buffer.now c.put_row-g.new.buffer c.put_row-g.result
 rows-7 c =
     let d = rows-6 c.before.before.before.before in
-    record { long = c.put-row4.auto.0 ∙ d.long; packed = packed_then d.packed c.put-row4.ensures }
+    record { long = c.put_row-g.auto.0 ∙ d.long; packed = packed_then d.packed c.put_row-g.ensures }
 
-rows-8 : (c : tie.After-put3) → FirstRows (from (start-8 c)) 8 (start-8 c).args.buffer.now c.put3.new.0 c.put3.result
+rows-8 : (c : tie.After-put-h) → FirstRows (from (start-8 c)) 8 (start-8 c).args.buffer.now c.put-h.new.buffer c.put-h.result
 rows-8 c =
     let d = rows-7 c.before.before.before.before in
-    record { long = c.put3.auto.0 ∙ d.long; packed = packed_then d.packed (packed_one c.put3.ensures) }
+    record { long = c.put-h.auto.0 ∙ d.long; packed = packed_then d.packed (packed_one c.put-h.ensures) }
 
-put-requires : tie.Need-put-requires
+put-requires : tie.Need-put-a-requires
 put-requires c κs =
     let s = c.before.before.before.before.before.before in
     let g = from s in
     let buffer = s.args.buffer.now in
     (ready g buffer s.requires 0 4 (no_rows g buffer s.requires) (omega arith), (lit≤ tt, few_years g s.requires.years))
 
-put-row-requires : tie.Need-put-row-requires
+put-row-requires : tie.Need-put_row-b-requires
 put-row-requires c κs =
     let d = c.before.before.before in
     let s = start-1 d in
-    let fit = ranges_fit (from s) s.pre.ranges in
-    (ready (from s) s.args.buffer.now s.pre 1 _ (rows-1 d) (omega arith), search rules)
+    let fit = ranges_fit (from s) s.requires.ranges in
+    (ready (from s) s.args.buffer.now s.requires 1 _ (rows-1 d) (omega arith), search rules)
 
-put-increments-requires : tie.Need-put-increments-requires
+put-increments-requires : tie.Need-put_increments-c-requires
 put-increments-requires c κs =
     let d = c.before.before.before in
     let s = start-2 d in
-    (ready (from s) s.args.buffer.now s.pre 2 _ (rows-2 d) (omega arith), (ranges_hold (from s) s.pre.ranges).increments)
+    (ready (from s) s.args.buffer.now s.requires 2 _ (rows-2 d) (omega arith), (ranges_hold (from s) s.requires.ranges).increments)
 
-put-row-requires-2 : tie.Need-put-row-requires-2
+put-row-requires-2 : tie.Need-put_row-d-requires
 put-row-requires-2 c κs =
     let d = c.before.before.before in
     let s = start-3 d in
-    let fit = ranges_fit (from s) s.pre.ranges in
-    (ready (from s) s.args.buffer.now s.pre 3 _ (rows-3 d) (omega arith), search rules)
+    let fit = ranges_fit (from s) s.requires.ranges in
+    (ready (from s) s.args.buffer.now s.requires 3 _ (rows-3 d) (omega arith), search rules)
 
-put-row-requires-3 : tie.Need-put-row-requires-3
+put-row-requires-3 : tie.Need-put_row-e-requires
 put-row-requires-3 c κs =
     let d = c.before.before.before in
     let s = start-4 d in
-    let fit = ranges_fit (from s) s.pre.ranges in
-    (ready (from s) s.args.buffer.now s.pre 4 _ (rows-4 d) (omega arith), search rules)
+    let fit = ranges_fit (from s) s.requires.ranges in
+    (ready (from s) s.args.buffer.now s.requires 4 _ (rows-4 d) (omega arith), search rules)
 
-put-requires-2 : tie.Need-put-requires-2
+put-requires-2 : tie.Need-put-f-requires
 put-requires-2 c κs =
     let d = c.before.before.before in
     let s = start-5 d in
-    let fit = ranges_fit (from s) s.pre.ranges in
-    (ready (from s) s.args.buffer.now s.pre 5 _ (rows-5 d) (omega arith), search rules)
+    let fit = ranges_fit (from s) s.requires.ranges in
+    (ready (from s) s.args.buffer.now s.requires 5 _ (rows-5 d) (omega arith), search rules)
 
-put-row-requires-4 : tie.Need-put-row-requires-4
+put-row-requires-4 : tie.Need-put_row-g-requires
 put-row-requires-4 c κs =
     let d = c.before.before.before in
     let s = start-6 d in
-    let fit = ranges_fit (from s) s.pre.ranges in
-    (ready (from s) s.args.buffer.now s.pre 6 _ (rows-6 d) (omega arith), search rules)
+    let fit = ranges_fit (from s) s.requires.ranges in
+    (ready (from s) s.args.buffer.now s.requires 6 _ (rows-6 d) (omega arith), search rules)
 
-put-requires-3 : tie.Need-put-requires-3
+put-requires-3 : tie.Need-put-h-requires
 put-requires-3 c κs =
     let d = c.before.before.before in
     let s = start-7 d in
-    let fit = ranges_fit (from s) s.pre.ranges in
-    (ready (from s) s.args.buffer.now s.pre 7 _ (rows-7 d) (omega arith), search rules)
+    let fit = ranges_fit (from s) s.requires.ranges in
+    (ready (from s) s.args.buffer.now s.requires 7 _ (rows-7 d) (omega arith), search rules)
 
-places-of-requires : tie.Need-places-of-requires
+places-of-requires : tie.Need-places_of-end-requires
 places-of-requires c κs =
     let s = start-8 c.before.before in
-    few_years (from s) s.pre.years
+    few_years (from s) s.requires.years
 
 -- where the fields end, and what the put of the filling bits asks
-ends : (c : tie.After-places-of) → c.places_of.result.end ≡ bit_count (start-8 c.before.before.before).args.k
+ends : (c : tie.After-places_of-end) → c.places_of-end.result.end ≡ bit_count (start-8 c.before.before.before).args.k
 unfolding places_of
-ends c = ap (λ (p : Places). p.end) c.places_of.ensures
+ends c = ap (λ (p : Places). p.end) c.places_of-end.ensures
 
-filling : (c : tie.After-put3) → Fills (start-8 c).args.k c.put3.new.0 c.put3.result
+filling : (c : tie.After-put-h) → Fills (start-8 c).args.k c.put-h.new.buffer c.put-h.result
 filling c =
     let s = start-8 c in
-    fills (from s) s.args.buffer.now s.pre (rows-8 c)
+    fills (from s) s.args.buffer.now s.requires (rows-8 c)
 
-mul-put : tie.Need-overflow-mul-put
+mul-put : tie.Need-overflow_mul-buffer
 mul-put c = record { fits = (filling c.before.before.before.before).short }
 
-sub-put : tie.Need-overflow-sub-put
+sub-put : tie.Need-overflow_sub-buffer
 sub-put c = rw (ends c.before) (filling c.before.before.before.before).room
 
-put-requires-4 : tie.Need-put-requires-4
+put-requires-4 : tie.Need-put-requires
 put-requires-4 c κs =
     let f = filling c.before.before.before.before in
     rw (ends c.before) (f.ready, (f.few, pow_pos _))
 
-same_length : tie.Need-same-length
+same_length : tie.Need-shape_of-buffer
 same_length c =
     let p = c.before.before in
-    p.put4.auto.0 ∙ (rows-8 p.before.before.before.before.before).long
+    p.put.auto.0 ∙ (rows-8 p.before.before.before.before.before).long
 
 returns : tie.Need-returns
 returns c =
     let p = c.before.before in
     let d = p.before.before.before.before.before in
     let s = start-8 d in
-    let last = rw (ends p.before.before) at p.put4.ensures in
-    recorded (from s) s.args.buffer.now s.pre (rows-8 d) last p.put4.auto.0 (λ i. (c.slice-known10.given i).fits)
+    let last = rw (ends p.before.before) at p.put.ensures in
+    recorded (from s) s.args.buffer.now s.requires (rows-8 d) last p.put.auto.0 (λ i. (c.slice_known-10-1.given i).fits)
 
-pub put-record-spec : {M : Type 1} → statement M
-put-record-spec =
+pub put_record_spec : {M : Type 1} → statement M
+put_record_spec =
     tie.close
     (tie.spec
     put-requires

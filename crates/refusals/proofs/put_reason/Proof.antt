@@ -20,7 +20,7 @@ abbrev start : tie.After-read_again → tie.Start
 start c = c.before.before.before.before.before.before.before.before.before.before
 
 last-year-of-requires : tie.Need-last_year_of-k-requires
-last-year-of-requires c κs = let s = start c in (years_known_lem s.args.packed.now (opening_yes s.args.packed.now s.pre.0.0).0).0
+last-year-of-requires c κs = let s = start c in (years_known_lem s.args.packed.now (opening_yes s.args.packed.now s.requires.0.0).0).0
 
 year_is : (c : tie.After-last_year_of-k) → c.last_year_of-k.result ≡ (figures_of (start c.before).args.packed.now).k
 unfolding figures_of
@@ -32,7 +32,7 @@ put-development-reason-requires c κs =
     let year = then.before in
     let s = start year.before in
     let read = year.before.read_again.ensures in
-    ready (figures_of s.args.packed.now) (s.pre.1 then.if-development.true) _ _ _ (year_is year) year.last_year_of-k.ensures.1 read.1.1.1.1.1.0 read.1.1.1.1.0 s.pre.0.1.1
+    ready (figures_of s.args.packed.now) (s.requires.1 then.if-development.true) _ _ _ (year_is year) year.last_year_of-k.ensures.1 read.1.1.1.1.1.0 read.1.1.1.1.0 s.requires.0.1.1
 
 returns : tie.Need-returns-then-development
 unfolding development_of
@@ -41,7 +41,7 @@ returns c =
     let year = then.before in
     let s = start year.before in
     let read = year.before.read_again.ensures in
-    let same = development_is (figures_of s.args.packed.now) (s.pre.1 then.if-development.true) _ _ _ (year_is year) year.last_year_of-k.ensures.1 read.1.1.1.1.1.0 read.1.1.1.1.0 in
+    let same = development_is (figures_of s.args.packed.now) (s.requires.1 then.if-development.true) _ _ _ (year_is year) year.last_year_of-k.ensures.1 read.1.1.1.1.1.0 read.1.1.1.1.0 in
     rw then.if-development.true (put_same same c.before.before.put_development_reason.ensures)
 
 returns-2 : tie.Need-returns

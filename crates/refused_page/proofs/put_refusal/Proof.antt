@@ -7,7 +7,7 @@ use borrow.Author.Rules.{rules}
 use Rattle.refused_page.proofs.put_refusal.Statement.{statement}
 use Rattle.refused_page.proofs.put_refusal.Tie as tie
 
-put-refused-rests-requires : tie.Need-put-refused-rests-requires
+put-refused-rests-requires : tie.Need-put_refused_rests-requires
 put-refused-rests-requires c κs e =
     let s = c.before.before.before.before.before.before.before.before in
     late s.args.year s.args.packed.now s.args.n (omega arith) s.requires.1.0
@@ -15,10 +15,10 @@ put-refused-rests-requires c κs e =
 returns : tie.Need-returns
 unfolding refusal
 returns c =
-    put_append (rw c.before.before.before.before.before.before.before.before.find.ensures.0 at c.before.before.before.before.before.before.put-refused-section.ensures) c.before.before.put-refused-rests.ensures
+    put_append (rw c.before.before.before.before.before.before.before.before.find-found.ensures.0 at c.before.before.before.before.before.before.put_refused_section-a.ensures) c.before.before.put_refused_rests.ensures
 
-pub put-refusal-spec : {M : Type 1} → statement M
-put-refusal-spec =
+pub put_refusal_spec : {M : Type 1} → statement M
+put_refusal_spec =
     tie.close
     (tie.spec
     (λ c κs. search rules)

@@ -11,10 +11,10 @@ use borrow.Author.Rules.{rules}
 use Rattle.refused_page.proofs.put_refused_inputs.Statement.{statement}
 use Rattle.refused_page.proofs.put_refused_inputs.Tie as tie
 
-bytes : (c : tie.After-shared-slice-known) → Fit 8 c.before.before.args.packed.now
-bytes c i = omega (arith, c.shared-slice-known.given i)
+bytes : (c : tie.After-shared_slice_known-1) → Fit 8 c.before.before.args.packed.now
+bytes c i = omega (arith, c.shared_slice_known-1.given i)
 
-fill-record-figures-requires : tie.Need-fill-record-figures-requires
+fill-record-figures-requires : tie.Need-fill_record_figures-opened-requires
 unfolding figures_of
 fill-record-figures-requires c κs =
     let k = c.before.before in
@@ -24,21 +24,21 @@ fill-record-figures-requires c κs =
     let four = s.requires.1.1.1 in
     (one, (four, (zeros_listed (figures_of packed).k (sound packed (bytes k) one four).few, refl)))
 
-last-year-of-requires : tie.Need-last-year-of-requires
+last-year-of-requires : tie.Need-last_year_of-k-requires
 last-year-of-requires c κs =
     let s = c.before.before.before.before.before in
     (years_known_lem s.args.packed.now (opening_yes s.args.packed.now s.requires.1.1.0).0).0
 
 -- what is read, and the years of it
-figures_are : (c : tie.After-fill-record-figures) → c.fill-record-figures.new.1.1.0 ≡ input_figures c.before.before.before.before.before.args.packed.now
+figures_are : (c : tie.After-fill_record_figures-opened) → c.fill_record_figures-opened.new.figures ≡ input_figures c.before.before.before.before.before.args.packed.now
 unfolding input_figures
-figures_are c = c.fill-record-figures.ensures.1.1
+figures_are c = c.fill_record_figures-opened.ensures.1.1
 
-years-are : (c : tie.After-last-year-of) → c.last-year-of.result ≡ (figures_of c.before.before.before.before.before.before.args.packed.now).k
+years-are : (c : tie.After-last_year_of-k) → c.last_year_of-k.result ≡ (figures_of c.before.before.before.before.before.before.args.packed.now).k
 unfolding figures_of
-years-are c = c.last-year-of.ensures.0
+years-are c = c.last_year_of-k.ensures.0
 
-fill-summary-requires : tie.Need-fill-summary-requires
+fill-summary-requires : tie.Need-fill_summary-requires
 fill-summary-requires c κs =
     let k = c.before.before in
     let r = k.before in
@@ -47,20 +47,20 @@ fill-summary-requires c κs =
     let packed = s.args.packed.now in
     let one = s.requires.1.1.0 in
     let four = s.requires.1.1.1 in (
-      k.last-year-of.ensures.1,
+      k.last_year_of-k.ensures.1,
       (
         rw (years-are k, figures_are r) (input_figured packed (bytes at) one four),
-        (rw (r.fill-record-figures.ensures.0, r.fill-record-figures.ensures.1.0) (input_told packed (bytes at) one four s.args.year s.requires.1.0), refl),
+        (rw (r.fill_record_figures-opened.ensures.0, r.fill_record_figures-opened.ensures.1.0) (input_told packed (bytes at) one four s.args.year s.requires.1.0), refl),
       ),
     )
 
-put-input-section-requires : tie.Need-put-input-section-requires
+put-input-section-requires : tie.Need-put_input_section-requires
 put-input-section-requires c κs =
     let k = c.before.before.before.before.before.before in
     let r = k.before in
     let at = r.before.before.before in
     let s = at.before.before in
-    (k.last-year-of.ensures.1, (s.requires.0, rw (years-are k, figures_are r) (input_figured s.args.packed.now (bytes at) s.requires.1.1.0 s.requires.1.1.1)))
+    (k.last_year_of-k.ensures.1, (s.requires.0, rw (years-are k, figures_are r) (input_figured s.args.packed.now (bytes at) s.requires.1.1.0 s.requires.1.1.1)))
 
 returns : tie.Need-returns
 unfolding refused_inputs
@@ -68,9 +68,9 @@ returns c =
     let f = c.before.before.before.before.before.before in
     let k = f.before.before.before in
     let r = k.before in
-    rw (f.fill-summary.ensures, r.fill-record-figures.ensures.0, r.fill-record-figures.ensures.1.0, figures_are r, k.last-year-of.ensures.0) at c.before.before.put-input-section.ensures
+    rw (f.fill_summary.ensures, r.fill_record_figures-opened.ensures.0, r.fill_record_figures-opened.ensures.1.0, figures_are r, k.last_year_of-k.ensures.0) at c.before.before.put_input_section.ensures
 
-pub put-refused-inputs-spec : {M : Type 1} → statement M
-put-refused-inputs-spec =
+pub put_refused_inputs_spec : {M : Type 1} → statement M
+put_refused_inputs_spec =
     tie.close
     (tie.spec fill-record-figures-requires last-year-of-requires fill-summary-requires put-input-section-requires (λ c. search rules) returns)

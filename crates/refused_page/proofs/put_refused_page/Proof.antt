@@ -9,29 +9,29 @@ use Rattle.refused_page.proofs.put_refused_page.Tie as tie
 returns : tie.Need-returns
 unfolding refused_page
 returns c =
-    put_three c.before.before.before.before.before.before.before.before.before.before.before.before.before.before.before.before.before.before.before.before.before.before.before.before.before.before.put-page-start.ensures c.before.before.before.before.before.before.before.before.before.before.before.before.before.before.before.before.before.before.before.before.before.before.put-refused-opening.ensures
-    (put_five c.before.before.before.before.before.before.before.before.before.before.before.before.before.before.before.before.before.before.put-refusal.ensures c.before.before.before.before.before.before.before.before.before.before.before.before.before.before.put-known-inputs.ensures c.before.before.before.before.before.before.before.before.before.before.put-refused-proof.ensures c.before.before.before.before.before.before.put-record-section.ensures c.before.before.put-page-end.ensures)
+    put_three c.before.before.before.before.before.before.before.before.before.before.before.before.before.before.before.before.before.before.before.before.before.before.before.before.before.before.put_page_start-a.ensures c.before.before.before.before.before.before.before.before.before.before.before.before.before.before.before.before.before.before.before.before.before.before.put_refused_opening-b.ensures
+    (put_five c.before.before.before.before.before.before.before.before.before.before.before.before.before.before.before.before.before.before.put_refusal-c.ensures c.before.before.before.before.before.before.before.before.before.before.before.before.before.before.put_known_inputs-d.ensures c.before.before.before.before.before.before.before.before.before.before.put_refused_proof-e.ensures c.before.before.before.before.before.before.put_record_section-f.ensures c.before.before.put_page_end.ensures)
 
-same_length : tie.Need-same-length
+same_length : tie.Need-shape_of-out
 same_length c = put_length (returns c)
 
-put-refused-opening-requires : tie.Need-put-refused-opening-requires
+put-refused-opening-requires : tie.Need-put_refused_opening-b-requires
 put-refused-opening-requires c κs =
     let s = c.before.before.before.before.before.before.before.before.before in
     (s.requires.0, some_known s.args.year s.args.packed.now s.args.n s.requires.1.1.0)
 
-put-refusal-requires : tie.Need-put-refusal-requires
+put-refusal-requires : tie.Need-put_refusal-c-requires
 put-refusal-requires c κs =
     let s = c.before.before.before.before.before.before.before.before.before.before.before.before.before in
     (s.requires.0, s.requires.1.1)
 
-put-known-inputs-requires : tie.Need-put-known-inputs-requires
+put-known-inputs-requires : tie.Need-put_known_inputs-d-requires
 put-known-inputs-requires c κs =
     let s = c.before.before.before.before.before.before.before.before.before.before.before.before.before.before.before.before.before in
     (s.requires.0, (s.requires.1.0, inputs_passed s.args.year s.args.packed.now s.args.n s.requires.1.1.0))
 
-pub put-refused-page-spec : {M : Type 1} → statement M
-put-refused-page-spec =
+pub put_refused_page_spec : {M : Type 1} → statement M
+put_refused_page_spec =
     tie.close
     (tie.spec
     (λ c κs. search rules)

@@ -6,16 +6,16 @@ use Rattle.refused_page.specs.RefusedPage.{refused_rests}
 use Rattle.refused_page.proofs.put_refused_rests.Statement.{statement}
 use Rattle.refused_page.proofs.put_refused_rests.Tie as tie
 
-put-rest-section-requires : tie.Need-put-rest-section-requires
-put-rest-section-requires c κs = c.before.before.before.before.requires c.before.if1.true
+put-rest-section-requires : tie.Need-put_rest_section-requires
+put-rest-section-requires c κs = c.before.before.before.before.requires c.before.if-n-eq8.true
 
-returns : tie.Need-returns
+returns : tie.Need-returns-then-n-eq8
 unfolding refused_rests
-returns c = rw (eq-eqb _ _ c.before.before.before.before.if1.true) c.before.before.put-rest-section.ensures
+returns c = rw (eq-eqb _ _ c.before.before.before.before.if-n-eq8.true) c.before.before.put_rest_section.ensures
 
-returns-2 : tie.Need-returns-2
+returns-2 : tie.Need-returns-else-n-eq8
 unfolding refused_rests
-returns-2 c = rw (ne_eqb _ _ c.if1.false) (put_none _ _)
+returns-2 c = rw (ne_eqb _ _ c.if-n-eq8.false) (put_none _ _)
 
-pub put-refused-rests-spec : {M : Type 1} → statement M
-put-refused-rests-spec = tie.close (tie.spec put-rest-section-requires (λ c. search rules) returns returns-2)
+pub put_refused_rests_spec : {M : Type 1} → statement M
+put_refused_rests_spec = tie.close (tie.spec put-rest-section-requires (λ c. search rules) returns returns-2)

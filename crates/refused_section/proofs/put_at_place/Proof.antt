@@ -6,18 +6,18 @@ use borrow.Author.Rules.{rules}
 use Rattle.refused_section.proofs.put_at_place.Statement.{statement}
 use Rattle.refused_section.proofs.put_at_place.Tie as tie
 
-returns : tie.Need-returns
+returns : tie.Need-returns-then-f-eq-NOWHERE
 unfolding at_place
 returns c =
-    rw (eq-eqb _ _ c.if1.true) (put_none _ _)
+    rw (eq-eqb _ _ c.if-f-eq-NOWHERE.true) (put_none _ _)
 
-returns-2 : tie.Need-returns-2
+returns-2 : tie.Need-returns
 unfolding at_place
 returns-2 c =
-    rw (ne_eqb _ _ c.before.before.before.before.if1.false) c.before.before.put-place-words.ensures
+    rw (ne_eqb _ _ c.before.before.before.before.if-f-eq-NOWHERE.false) c.before.before.put_place_words.ensures
 
-pub put-at-place-spec : {M : Type 1} → statement M
-put-at-place-spec =
+pub put_at_place_spec : {M : Type 1} → statement M
+put_at_place_spec =
     tie.close
     (tie.spec
     returns

@@ -8,18 +8,14 @@ use Rattle.refused_section.proofs.put_place_words.Tie as tie
 returns : tie.Need-returns
 unfolding place_words
 returns c =
-    put_three c.before.before.before.before.before.before.before.before.before.before.before.before.put-either.ensures c.before.before.before.before.before.before.before.before.put-place.ensures c.before.before.put-either2.ensures
+    put_three c.before.before.before.before.before.before.before.before.before.before.before.before.before.before.put_either-a.ensures c.before.before.before.before.before.before.before.before.before.before.put_place-b.ensures c.before.before.put_either.ensures
 
-pub put-place-words-spec : {M : Type 1} → statement M
-put-place-words-spec =
+pub put_place_words_spec : {M : Type 1} → statement M
+put_place_words_spec =
     tie.close
     (tie.spec
-    (λ c. search rules)
-    (λ c. search rules)
     (λ c κs. search rules)
     (λ c κs. search rules)
-    (λ c. search rules)
-    (λ c. search rules)
     (λ c κs. search rules)
     (λ c. search rules)
     returns)

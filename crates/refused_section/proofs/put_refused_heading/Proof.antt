@@ -8,30 +8,23 @@ use Rattle.refused_section.proofs.put_refused_heading.Tie as tie
 returns : tie.Need-returns
 unfolding refused_heading
 returns c =
-    put_append c.before.before.before.before.before.before.before.before.before.before.before.before.before.before.before.before.before.before.before.before.before.before.before.before.before.before.before.before.before.before.before.put-either.ensures
-    (put_append c.before.before.before.before.before.before.before.before.before.before.before.before.before.before.before.before.before.before.before.before.before.before.before.before.before.before.before.put-decimal.ensures
-    (put_five c.before.before.before.before.before.before.before.before.before.before.before.before.before.before.before.before.before.before.before.before.before.put-either2.ensures c.before.before.before.before.before.before.before.before.before.before.before.before.before.before.before.before.before.put-decimal2.ensures c.before.before.before.before.before.before.before.before.before.before.before.before.put-bytes.ensures c.before.before.before.before.before.before.before.before.put-at-place.ensures c.before.before.put-either3.ensures))
+    put_append c.before.before.before.before.before.before.before.before.before.before.before.before.before.before.before.before.before.before.before.before.before.before.before.before.before.before.before.before.before.before.before.before.before.before.before.before.put_either-a.ensures
+    (put_append c.before.before.before.before.before.before.before.before.before.before.before.before.before.before.before.before.before.before.before.before.before.before.before.before.before.before.before.before.before.before.before.before.put_decimal-b.ensures
+    (put_five c.before.before.before.before.before.before.before.before.before.before.before.before.before.before.before.before.before.before.before.before.before.before.before.before.put_either-c.ensures c.before.before.before.before.before.before.before.before.before.before.before.before.before.before.before.before.before.before.before.before.put_decimal-d.ensures c.before.before.before.before.before.before.before.before.before.before.before.before.before.before.put_bytes-e.ensures c.before.before.before.before.before.before.before.before.before.before.put_at_place-g.ensures c.before.before.put_either.ensures))
 
-same_length : tie.Need-same-length
+same_length : tie.Need-shape_of-out
 same_length c = put_length (returns c)
 
-pub put-refused-heading-spec : {M : Type 1} → statement M
-put-refused-heading-spec =
+pub put_refused_heading_spec : {M : Type 1} → statement M
+put_refused_heading_spec =
     tie.close
     (tie.spec
-    (λ c. search rules)
-    (λ c. search rules)
     (λ c κs. search rules)
     (λ c κs. search rules)
-    (λ c. search rules)
-    (λ c. search rules)
     (λ c κs. search rules)
     (λ c κs. search rules)
-    (λ c. search rules)
     (λ c κs. search rules)
     (λ c κs. search rules)
-    (λ c. search rules)
-    (λ c. search rules)
     (λ c κs. search rules)
     same_length
     returns)

@@ -12,10 +12,10 @@ use borrow.Author.Rules.{rules}
 use Rattle.reports.proofs.put_accepted.Statement.{statement}
 use Rattle.reports.proofs.put_accepted.Tie as tie
 
-bytes : (c : tie.After-shared-slice-known3) → Fit 8 c.before.before.before.before.args.packed.now
-bytes c i = omega (arith, c.shared-slice-known3.given i)
+bytes : (c : tie.After-shared_slice_known-3-1) → Fit 8 c.before.before.before.before.args.packed.now
+bytes c i = omega (arith, c.shared_slice_known-3-1.given i)
 
-fill-record-figures-requires : tie.Need-fill-record-figures-requires
+fill-record-figures-requires : tie.Need-fill_record_figures-opened-requires
 unfolding figures_of
 fill-record-figures-requires c κs =
     let at = c.before in
@@ -26,21 +26,21 @@ fill-record-figures-requires c κs =
     let run = accepted year packed ok in
     (opening year packed run, (fields year packed run, (rw s.requires.1.1.1 (listed year packed (bytes at) ok), refl)))
 
-last-year-of-requires : tie.Need-last-year-of-requires
+last-year-of-requires : tie.Need-last_year_of-k-requires
 last-year-of-requires c κs =
     let s = c.before.before.before.before.before.before.before.before in
     some s.args.year s.args.packed.now (accepted s.args.year s.args.packed.now s.requires.1.1.0)
 
 -- what is read, and the years of it
-figures_are : (c : tie.After-fill-record-figures)
-    → c.fill-record-figures.new.1.1.0 ≡ record_figures (filled_by c.before.before.before.before.before.before.args.year c.before.before.before.before.before.before.args.packed.now) c.before.before.before.before.before.before.args.packed.now
-figures_are c = rw c.before.before.before.before.before.before.requires.1.1.1 at c.fill-record-figures.ensures.1.1
+figures_are : (c : tie.After-fill_record_figures-opened)
+    → c.fill_record_figures-opened.new.figures ≡ record_figures (filled_by c.before.before.before.before.before.before.args.year c.before.before.before.before.before.before.args.packed.now) c.before.before.before.before.before.before.args.packed.now
+figures_are c = rw c.before.before.before.before.before.before.requires.1.1.1 at c.fill_record_figures-opened.ensures.1.1
 
-years-are : (c : tie.After-last-year-of) → c.last-year-of.result ≡ (figures_of c.before.before.before.before.before.before.before.before.before.args.packed.now).k
+years-are : (c : tie.After-last_year_of-k) → c.last_year_of-k.result ≡ (figures_of c.before.before.before.before.before.before.before.before.before.args.packed.now).k
 unfolding figures_of
-years-are c = c.last-year-of.ensures.0
+years-are c = c.last_year_of-k.ensures.0
 
-fill-summary-requires : tie.Need-fill-summary-requires
+fill-summary-requires : tie.Need-fill_summary-requires
 fill-summary-requires c κs =
     let k = c.before.before in
     let x = k.before in
@@ -50,26 +50,26 @@ fill-summary-requires c κs =
     let year = s.args.year in
     let packed = s.args.packed.now in
     let ok = s.requires.1.1.0 in (
-      k.last-year-of.ensures.1,
+      k.last_year_of-k.ensures.1,
       (
         rw (years-are k, figures_are r) (figured_by year packed (bytes at) ok),
-        (rw (r.fill-record-figures.ensures.0, r.fill-record-figures.ensures.1.0) (told_by year packed (bytes at) ok s.requires.1.0 _ x.read-accepted.ensures.1.0), refl),
+        (rw (r.fill_record_figures-opened.ensures.0, r.fill_record_figures-opened.ensures.1.0) (told_by year packed (bytes at) ok s.requires.1.0 _ x.read_accepted-correction.ensures.1.0), refl),
       ),
     )
 
-shown-rates-requires : tie.Need-shown-rates-requires
+shown-rates-requires : tie.Need-shown_rates-rates-requires
 shown-rates-requires c κs =
     let s = c.before.before.before.before.before.before.before.before.before.before.before.before in
     let run = accepted s.args.year s.args.packed.now s.requires.1.1.0 in
     (opening s.args.year s.args.packed.now run, fields s.args.year s.args.packed.now run)
 
-put-accepted-page-requires : tie.Need-put-accepted-page-requires
+put-accepted-page-requires : tie.Need-put_accepted_page-requires
 put-accepted-page-requires c κs =
     let k = c.before.before.before.before.before.before.before in
     let r = k.before.before.before in
     let at = r.before.before in
     let s = at.before.before.before.before in
-    (k.last-year-of.ensures.1, (s.requires.0, rw (years-are k, figures_are r) (figured_by s.args.year s.args.packed.now (bytes at) s.requires.1.1.0)))
+    (k.last_year_of-k.ensures.1, (s.requires.0, rw (years-are k, figures_are r) (figured_by s.args.year s.args.packed.now (bytes at) s.requires.1.1.0)))
 
 returns : tie.Need-returns
 unfolding report_of
@@ -81,9 +81,9 @@ returns c =
     let r = x.before.before in
     let s = r.before.before.before.before.before.before in
     rw s.requires.1.1.0
-    (rw (h.shown-rates.ensures, f.fill-summary.ensures, r.fill-record-figures.ensures.0, r.fill-record-figures.ensures.1.0, figures_are r, k.last-year-of.ensures.0, x.read-accepted.ensures.0) at c.before.before.put-accepted-page.ensures)
+    (rw (h.shown_rates-rates.ensures, f.fill_summary.ensures, r.fill_record_figures-opened.ensures.0, r.fill_record_figures-opened.ensures.1.0, figures_are r, k.last_year_of-k.ensures.0, x.read_accepted-correction.ensures.0) at c.before.before.put_accepted_page.ensures)
 
-pub put-accepted-spec : {M : Type 1} → statement M
-put-accepted-spec =
+pub put_accepted_spec : {M : Type 1} → statement M
+put_accepted_spec =
     tie.close
     (tie.spec fill-record-figures-requires (λ c κs. search rules) last-year-of-requires fill-summary-requires shown-rates-requires put-accepted-page-requires (λ c. search rules) returns)

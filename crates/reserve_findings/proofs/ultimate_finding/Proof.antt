@@ -40,7 +40,7 @@ good : (c : tie.After-read_provided-given) → Sound (F c)
 good c = let p = passed (start c) in sound_figures (start c).args.packed.now (bytes c) p.opening p.fields
 
 no-eleven : (c : tie.After-read_provided-given) → ultimates_pass (F c).k (paid_in (F c)) (provisions_in (F c)) ≡ false
-no-eleven c = let s = start c in ultimates_no s.args.year s.args.packed.now s.pre
+no-eleven c = let s = start c in ultimates_no s.args.year s.args.packed.now s.requires
 
 last-year-of-requires : tie.Need-last_year_of-requires
 last-year-of-requires c κs = let s = (start c).args.packed.now in (years_known_lem s (opening_yes s (passed (start c)).opening).0).0

@@ -44,19 +44,19 @@ element-copy-out-fill-levels c = search rules
 fill-levels-requires : tie.Need-fill_levels-requires
 fill-levels-requires c κs =
     let s = c.before.before in
-    let h = separated s in
-    (h.sound.few, (stage.levels-fit (F s) _ _ _ _ _ h _, h.sound.indices))
+    let h = separated s.before in
+    (h.sound.few, (stage.levels-fit (F s.before) _ _ _ _ _ h _, h.sound.indices))
 
 complete-requires : tie.Need-complete-requires
 complete-requires c κs =
     let filled = c.before.before.before in
     let s = filled.before.before.before in
-    let h = separated s in
-    (stage.completable (F s) _ _ _ _ _ h _ filled.fill_levels.ensures, (stage.tails-fit (F s) _ _ _ _ _ h _ (tailed s), stage.paid-fits (F s) _ _ _ _ _ h))
+    let h = separated s.before in
+    (stage.completable (F s.before) _ _ _ _ _ h _ filled.fill_levels.ensures, (stage.tails-fit (F s.before) _ _ _ _ _ h _ (tailed s.before), stage.paid-fits (F s.before) _ _ _ _ _ h))
 
 -- question 11
 abbrev start1 : tie.After-complete → tie.Start
-start1 c = c.before.before.before.before.before.before.before
+start1 c = c.before.before.before.before.before.before.before.before
 
 eleven : (c : tie.After-complete) → c.complete.result ≡ ultimates_pass (F (start1 c)).k (paid_in (F (start1 c))) (provisions_in (F (start1 c)))
 eleven c =
@@ -74,7 +74,7 @@ returns c =
     first_refused_lem (filled s.args.year (F s) s.args.out.now) s.args.out.now (completion_questions (F s)) _ 11 (one_no 11 _ no) (λ z. omega arith)
 
 -- the provisions are the figures' own
-provisions_are : (c : tie.Else-not-complete) → c.before.complete.new.sums.1.1.1.1.1.1.0 ≡ provisions_in (F (start1 c.before))
+provisions_are : (c : tie.Else-not-complete) → c.before.complete.new.sums ≡ provisions_in (F (start1 c.before))
 provisions_are c =
     let s = start1 c.before in
     let filled = c.before.before.before.before.before.fill_levels.ensures in
@@ -184,7 +184,7 @@ work : (c : tie.Else-not-complete-2) →
     let two = else2 c.before in
     let one = else1 (used2 two) in
     Worked (start3 c.before).args.year (F (start3 c.before)) one.before.before.before.before.before.fill_levels.last.1.1.1.0 one.before.complete.last.1.1.1.1.1.1.0
-    one.before.complete.last.1.1.1.1.1.1.1.0 (used2 two).ratio-of.result.ratio c.before.complete-2.new.factors.1.1.0
+    one.before.complete.last.1.1.1.1.1.1.1.0 (used2 two).ratio-of.result.ratio c.before.complete-2.new.all
 work c =
     let two = else2 c.before in
     let one = else1 (used2 two) in
@@ -206,7 +206,7 @@ put-results-requires : tie.Need-put_results-requires
 put-results-requires c κs =
     let at = last c in
     let s = start3 at.before in
-    (stage.printable (F s) _ _ _ _ _ (separated s) _ _ _ _ _ s.args.year (work at) _ (tailed s), s.pre.1.1)
+    (stage.printable (F s) _ _ _ _ _ (separated s) _ _ _ _ _ s.args.year (work at) _ (tailed s), s.requires.1.1)
 
 same_length : tie.Need-shape_of-out
 same_length c = search rules

@@ -10,29 +10,29 @@ use Rattle.rest_years.proofs.Years.{no_years, values_next, rows_next, values_cou
 use Rattle.rest_years.proofs.fill_values.Statement.{statement}
 use Rattle.rest_years.proofs.fill_values.Tie as tie
 
-abbrev invariant-loop : tie.invariant-loop
+abbrev invariant-loop : tie.invariant-loop-m
 invariant-loop values₀ corners columns k rows₀ m₀ values rows m =
     (m ≤ k) × ((rows ≡ length (refused_years corners columns m)) × (values ≡ sets values₀ 0 (all_values corners columns m)))
 
-abbrev decreases-loop : tie.decreases-loop
+abbrev decreases-loop : tie.decreases-loop-m
 decreases-loop values₀ corners columns k rows₀ m₀ values rows m = k - m
 
-loop-holds : tie.Need-loop-init invariant-loop decreases-loop
+loop-holds : tie.Need-loop-m-init invariant-loop decreases-loop
 loop-holds c = let none = no_years c.args.corners.now c.args.columns.now in (omega arith, (sym none.1.1, rw none.1.0))
 
-set-row-requires : tie.Need-set-row-requires invariant-loop decreases-loop
+set-row-requires : tie.Need-set_row-rows-requires invariant-loop decreases-loop
 set-row-requires c κs =
-    let l = c.before.before.loop in
+    let l = c.before.before.loop-m in
     let s = c.before.before.before in
     (omega (arith, l.invariant.1.0, years_most s.args.corners.now s.args.columns.now l.m), (omega arith, s.requires.1))
 
-loop-again : tie.Need-loop-preserved invariant-loop decreases-loop
+loop-again : tie.Need-loop-m-preserved invariant-loop decreases-loop
 loop-again c =
-    let l = c.before.before.before.loop in
+    let l = c.before.before.before.loop-m in
     let s = c.before.before.before.before in
     let t = s.args.corners.now in
     let v = s.args.columns.now in
-    let row = c.set-row.ensures in (
+    let row = c.set_row-rows.ensures in (
       omega arith,
       (
         omega (arith, row.0, l.invariant.1.0, rows_next t v l.m),
@@ -42,11 +42,11 @@ loop-again c =
 
 returns : tie.Need-returns invariant-loop decreases-loop
 returns c =
-    let e : c.before.loop.m ≡ c.before.before.args.k = omega arith in
-    rw e at c.before.loop.invariant.1
+    let e : c.before.loop-m.m ≡ c.before.before.args.k = omega arith in
+    rw e at c.before.loop-m.invariant.1
 
-pub fill-values-spec : {M : Type 1} → statement M
-fill-values-spec =
+pub fill_values_spec : {M : Type 1} → statement M
+fill_values_spec =
     tie.close
     (tie.spec
     invariant-loop

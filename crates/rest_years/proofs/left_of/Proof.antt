@@ -1,4 +1,5 @@
 -- The difference of two entries. Assumes nothing.
+use mir.Syntax.{w64}
 use mathlib.Core.Path.{ap₂, ◌∙◌}
 use native.Mathlib.Omega.{arith}
 use lib.IntN.{ℤ, ◌-ℤ◌}
@@ -9,16 +10,16 @@ use Rattle.rest_years.proofs.Held.{entry_held}
 use Rattle.rest_years.proofs.left_of.Statement.{statement}
 use Rattle.rest_years.proofs.left_of.Tie as tie
 
-mul-subtract : tie.Need-overflow-mul-subtract
+mul-subtract : tie.Need-offset_bounds-corners-h
 mul-subtract c = omega arith
 
-element-copy-out-subtract : tie.Need-element-copy-out-subtract
+element-copy-out-subtract : tie.Need-bounds-corners-h
 element-copy-out-subtract c = omega arith
 
-mul-subtract-2 : tie.Need-overflow-mul-subtract-2
+mul-subtract-2 : tie.Need-offset_bounds-columns-h
 mul-subtract-2 c = omega arith
 
-element-copy-out-subtract-2 : tie.Need-element-copy-out-subtract-2
+element-copy-out-subtract-2 : tie.Need-bounds-columns-h
 element-copy-out-subtract-2 c = omega arith
 
 subtract-requires : tie.Need-subtract-requires
@@ -31,12 +32,12 @@ subtract-requires c κs =
 returns : tie.Need-returns
 returns c =
     let s = c.before.before.before in
-    to_z-of_z (sfits_of c.subtract.type_inv)
+    to_z-of_z {w = w64} (sfits_of c.subtract.type_inv)
     ∙ c.subtract.ensures
     ∙ ap₂ (λ (x y : ℤ). x -ℤ y) (entry_held s.args.corners.now s.requires.1.0 s.args.h) (total_held s.args.columns.now s.requires.1.1 s.args.h)
 
-pub left-of-spec : {M : Type 1} → statement M
-left-of-spec =
+pub left_of_spec : {M : Type 1} → statement M
+left_of_spec =
     tie.close
     (tie.spec
     mul-subtract

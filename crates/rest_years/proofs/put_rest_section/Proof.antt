@@ -6,26 +6,26 @@ use Rattle.rest_years.proofs.Tables.{corners_are, corners_small}
 use Rattle.rest_years.proofs.put_rest_section.Statement.{statement}
 use Rattle.rest_years.proofs.put_rest_section.Tie as tie
 
-fill-corner-totals-requires : tie.Need-fill-corner-totals-requires
+fill-corner-totals-requires : tie.Need-fill_corner_totals-requires
 fill-corner-totals-requires c κs =
-    let read = c.before.before.before.totals-again.ensures in
+    let read = c.before.before.before.totals_again-k.ensures in
     let few = rw read.0 at read.1.0 in
     (columns_small _ _ few _ _ read.1.1, diagonals_small _ _ few _ _ read.1.1)
 
-put-year-section-requires : tie.Need-put-year-section-requires
+put-year-section-requires : tie.Need-put_year_section-requires
 put-year-section-requires c κs =
-    let read = c.before.before.before.before.before.before.before.totals-again.ensures in
-    (read.1.0, corners_small _ _ (rw read.0 at read.1.0) _ _ read.1.1 _ c.before.before.before.fill-corner-totals.ensures)
+    let read = c.before.before.before.before.before.before.before.totals_again-k.ensures in
+    (read.1.0, corners_small _ _ (rw read.0 at read.1.0) _ _ read.1.1 _ c.before.before.before.fill_corner_totals.ensures)
 
 returns : tie.Need-returns
 unfolding rest_section
 returns c =
-    let read = c.before.before.before.before.before.before.before.before.before.before.totals-again.ensures in
-    let corners = corners_are _ _ (rw read.0 at read.1.0) _ _ read.1.1 _ c.before.before.before.before.before.before.fill-corner-totals.ensures in
-    rw (corners, read.1.1.totals.0, read.0) at c.before.before.put-year-section.ensures
+    let read = c.before.before.before.before.before.before.before.before.before.before.totals_again-k.ensures in
+    let corners = corners_are _ _ (rw read.0 at read.1.0) _ _ read.1.1 _ c.before.before.before.before.before.before.fill_corner_totals.ensures in
+    rw (corners, read.1.1.totals.0, read.0) at c.before.before.put_year_section.ensures
 
-pub put-rest-section-spec : {M : Type 1} → statement M
-put-rest-section-spec =
+pub put_rest_section_spec : {M : Type 1} → statement M
+put_rest_section_spec =
     tie.close
     (tie.spec
     (λ c κs. search rules)

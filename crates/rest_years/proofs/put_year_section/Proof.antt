@@ -8,15 +8,13 @@ use Rattle.rest_years.proofs.put_year_section.Tie as tie
 returns : tie.Need-returns
 unfolding year_section
 returns c =
-    put_four c.before.before.before.before.before.before.before.before.before.before.before.before.before.before.before.put-section-start.ensures c.before.before.before.before.before.before.before.before.before.before.put-paragraph.ensures c.before.before.before.before.before.before.put-year-table.ensures c.before.before.put-section-end.ensures
+    put_four c.before.before.before.before.before.before.before.before.before.before.before.before.before.before.before.before.put_section_start-a.ensures c.before.before.before.before.before.before.before.before.before.before.put_paragraph-b.ensures c.before.before.before.before.before.before.put_year_table-c.ensures c.before.before.put_section_end.ensures
 
-pub put-year-section-spec : {M : Type 1} → statement M
-put-year-section-spec =
+pub put_year_section_spec : {M : Type 1} → statement M
+put_year_section_spec =
     tie.close
     (tie.spec
-    (λ c. search rules)
     (λ c κs. search rules)
-    (λ c. search rules)
     (λ c κs. search rules)
     (λ c κs. search rules)
     (λ c κs. search rules)

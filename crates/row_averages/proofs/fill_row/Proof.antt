@@ -63,7 +63,7 @@ add-sum : tie.Need-overflow_add-sum invariant-loop decreases-loop
 add-sum c =
     let s = c.before.before.before.before.before in
     let l = c.before.before.loop-j in
-    more_fits s.args.k s.args.increments.now s.args.i s.requires.0 s.args.at s.requires.1.1.1.0 l.j l.sum (omega arith) l.invariant.1
+    more_fits s.args.k s.args.increments.now s.args.i s.requires.0 s.args.at s.requires.1.1.1.0 l.j l.sum-bits (omega arith) l.invariant.1
 
 add-average-requires : tie.Need-add_average-requires invariant-loop decreases-loop
 add-average-requires c κs =
@@ -88,12 +88,12 @@ abbrev number : tie.After-add_average invariant-loop decreases-loop → ℕ
 number c = let s = c.before.before.before.before.before.before.before.before in given_cumulative s.args.k s.args.increments.now s.args.i c.before.before.before.before.before.loop-j.j
 
 sum_read : (c : tie.After-add_average invariant-loop decreases-loop)
-    → held (to_z w64 c.before.before.before.before.before.loop-j.sum +ℤ held (get_or c.before.before.before.before.before.before.before.before.args.increments.now (c.before.before.before.before.before.before.before.before.args.at + c.before.before.before.before.before.loop-j.j) (pos 0)))
+    → held (to_z w64 c.before.before.before.before.before.loop-j.sum-bits +ℤ held (get_or c.before.before.before.before.before.before.before.before.args.increments.now (c.before.before.before.before.before.before.before.before.args.at + c.before.before.before.before.before.loop-j.j) (pos 0)))
     ≡ sum c
 sum_read c =
     let s = c.before.before.before.before.before.before.before.before in
     let l = c.before.before.before.before.before.loop-j in
-    more_read s.args.k s.args.increments.now s.args.i s.requires.0 s.args.at s.requires.1.1.1.0 l.j l.sum (omega arith) l.invariant.1
+    more_read s.args.k s.args.increments.now s.args.i s.requires.0 s.args.at s.requires.1.1.1.0 l.j l.sum-bits (omega arith) l.invariant.1
 
 given : (c : tie.After-add_average invariant-loop decreases-loop) → (sum c ≡ pos (number c)) × (number c ≤ most_cumulative)
 given c =
@@ -117,12 +117,12 @@ was l h =
 
 add-sums : tie.Need-overflow_add-sums invariant-loop decreases-loop
 add-sums c =
-    let t = c.before.before.before.before.before.before.before in
-    let s = t.before.before.before in
-    let j = t.loop-j.j in
+    let t = c.before.before in
+    let s = t.before.before.before.before.before.before.before.before in
+    let j = t.before.before.before.before.before.loop-j.j in
     let most = column_most s.args.k s.args.increments.now (s.args.i + 1) j s.requires.1.1.1.1.1.0 in
     let more = sum_given s.args.k s.args.increments.now s.args.i j (omega arith) in
-    rw (sum_read t, (given t).0, was t (omega arith)) (record { fits = omega (arith, most, more) })
+    rw (sum_read t, (given t).0, was t.before.before.before.before.before (omega arith)) (record { fits = omega (arith, most, more) })
 
 loop-again : tie.Need-loop-j-preserved invariant-loop decreases-loop
 unfolding given_cumulative
@@ -136,23 +136,23 @@ loop-again c =
     let i = s.args.i in
     let kept = to_z-of_z {w = w64} {z = t.add_average.result} (sfits_of t.add_average.type_inv) in
     let read = increment_read k p i s.requires.0 s.args.at l.j s.requires.1.1.1.0 in
-    let value : get_or l.sums-1 l.j 0 + nat_abs (sum t) ≡ column_sum k p (i + 1) l.j = rw (was t.before.before.before.before.before (omega arith)) (sum_given k p i l.j (omega arith)) in
+    let value : get_or l.sums l.j 0 + nat_abs (sum t) ≡ column_sum k p (i + 1) l.j = rw (was t.before.before.before.before.before (omega arith)) (sum_given k p i l.j (omega arith)) in
     let cell : cell_of (averages_of k n p) i l.j ≡ average_of (held (get_or p (s.args.at + l.j) (pos 0))) (get_or n i 0)
     = rw read (cell_inside k n p i l.j (omega arith) s.requires.1.0) in (
       omega arith,
-      more_is k p i s.requires.0 s.args.at s.requires.1.1.1.0 l.j l.sum (omega arith) l.invariant.1,
+      more_is k p i s.requires.0 s.args.at s.requires.1.1.1.0 l.j l.sum-bits (omega arith) l.invariant.1,
       rw (kept, t.add_average.ensures.0, read, l.invariant.2) (first_more (λ r. average_of (paid_of k p i r) (get_or n i 0)) s.args.row.now l.j),
       rw (sum_read t, value, l.invariant.3) (mixed_more (column_sum k p i) (column_sum k p (i + 1)) 16 l.j (omega arith)),
       t.add_average.ensures.1 (averages_of k n p) cell l.invariant.4,
     )
 
 -- the whole sum is the last cumulative
-last : (c : tie.After-loop-j invariant-loop decreases-loop) → to_z w64 c.before.loop-j.sum ≡ cumulative_of c.before.before.before.before.args.k c.before.before.before.before.args.increments.now c.before.before.before.before.args.i (c.before.before.before.before.args.k - c.before.before.before.before.args.i)
+last : (c : tie.After-loop-j invariant-loop decreases-loop) → to_z w64 c.before.loop-j.sum-bits ≡ cumulative_of c.before.before.before.before.args.k c.before.before.before.before.args.increments.now c.before.before.before.before.args.i (c.before.before.before.before.args.k - c.before.before.before.before.args.i)
 last c =
     let s = c.before.before.before.before in
     let l = c.before.loop-j in
     let e : l.j ≡ s.args.k + 1 - s.args.i = omega arith in
-    last_read s.args.k s.args.increments.now s.args.i s.requires.0 l.sum (omega arith) (omega arith) (rw e at l.invariant.1)
+    last_read s.args.k s.args.increments.now s.args.i s.requires.0 l.sum-bits (omega arith) (omega arith) (rw e at l.invariant.1)
 
 cast-result : tie.Need-overflow_cast-result invariant-loop decreases-loop
 cast-result c =

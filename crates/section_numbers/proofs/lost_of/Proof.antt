@@ -8,16 +8,16 @@ use borrow.Author.Rules.{rules}
 use Rattle.section_numbers.proofs.lost_of.Statement.{statement}
 use Rattle.section_numbers.proofs.lost_of.Tie as tie
 
-said : (c : tie.After-is-lost) → c.is_lost.result ≡ is_lost c.before.args.payment c.before.args.average
+said : (c : tie.After-is_lost) → c.is_lost.result ≡ is_lost c.before.args.payment c.before.args.average
 said c = rw (to_z-of_z c.before.ranges.payment, to_z-of_z c.before.ranges.average) at c.is_lost.ensures
 
-returns : tie.Need-returns
+returns : tie.Need-returns-then-is_lost
 unfolding lost_one
-returns c = (rw (sym (said c.before) ∙ c.if1.true), omega arith)
+returns c = (rw (sym (said c.before) ∙ c.if-is_lost.true), omega arith)
 
-returns-2 : tie.Need-returns-2
+returns-2 : tie.Need-returns-else-is_lost
 unfolding lost_one
-returns-2 c = (rw (sym (said c.before) ∙ c.if1.false), omega arith)
+returns-2 c = (rw (sym (said c.before) ∙ c.if-is_lost.false), omega arith)
 
-pub lost-of-spec : {M : Type 1} → statement M
-lost-of-spec = tie.close (tie.spec (λ c κs. search rules) returns returns-2)
+pub lost_of_spec : {M : Type 1} → statement M
+lost_of_spec = tie.close (tie.spec (λ c κs. search rules) returns returns-2)

@@ -20,36 +20,36 @@ use Rattle.section_numbers.proofs.put_largest.Tie as tie
 abbrev one : List ℕ → List ℕ → List ℤ → ℕ → ℤ
 one starts counts xs j = pos (largest_size (get_or starts j 0) (get_or counts j 0) xs)
 
-abbrev invariant-loop : tie.invariant-loop
+abbrev invariant-loop : tie.invariant-loop-j
 invariant-loop out₀ at figures starts counts n j₀ out j = (j ≤ n) × ((out ≡ sets out₀ at (up_to (one starts counts figures) j)) × (length out ≡ length out₀))
 
-abbrev decreases-loop : tie.decreases-loop
+abbrev decreases-loop : tie.decreases-loop-j
 decreases-loop out₀ at figures starts counts n j₀ out j = n - j
 
-loop-holds : tie.Need-loop-init invariant-loop decreases-loop
+loop-holds : tie.Need-loop-j-init invariant-loop decreases-loop
 unfolding up_to
 loop-holds c = (omega arith, (refl, refl))
 
-section-largest-requires : tie.Need-section-largest-requires invariant-loop decreases-loop
+section-largest-requires : tie.Need-section_largest-requires invariant-loop decreases-loop
 section-largest-requires c κs =
-    let l = c.before.before.before in
-    l.before.requires.1.1 l.loop.j (omega arith)
+    let l = c.before.before.before.before.before in
+    l.before.requires.1.1 l.loop-j.j (omega arith)
 
-loop-again : tie.Need-loop-preserved invariant-loop decreases-loop
+loop-again : tie.Need-loop-j-preserved invariant-loop decreases-loop
 loop-again c =
-    let l = c.before.before.before.before in
+    let l = c.before.before.before.before.before.before in
     let s = l.before in
-    let made = to_z_pos w64 c.section-largest.result (omega (arith, c.section-largest.ensures.1)) ∙ ap pos c.section-largest.ensures.0 in
-    (omega arith, (rw (made, l.loop.invariant.1.0) (sets_more (one s.args.starts.now s.args.counts.now s.args.figures.now) s.args.out.now s.args.at l.loop.j), simp length-set l.loop.invariant.1.1))
+    let made = to_z_pos w64 c.section_largest.result (omega (arith, c.section_largest.ensures.1)) ∙ ap pos c.section_largest.ensures.0 in
+    (omega arith, (rw (made, l.loop-j.invariant.1.0) (sets_more (one s.args.starts.now s.args.counts.now s.args.figures.now) s.args.out.now s.args.at l.loop-j.j), simp length-set l.loop-j.invariant.1.1))
 
 returns : tie.Need-returns invariant-loop decreases-loop
 unfolding all_largest
 returns c =
-    let e : c.before.loop.j ≡ c.before.before.args.n = omega arith in
-    rw e at c.before.loop.invariant.1.0
+    let e : c.before.loop-j.j ≡ c.before.before.args.n = omega arith in
+    rw e at c.before.loop-j.invariant.1.0
 
-pub put-largest-spec : {M : Type 1} → statement M
-put-largest-spec =
+pub put_largest_spec : {M : Type 1} → statement M
+put_largest_spec =
     tie.close
     (tie.spec
     invariant-loop
@@ -60,7 +60,7 @@ put-largest-spec =
     (λ c. omega arith)
     (λ c. omega arith)
     section-largest-requires
-    (λ c. record { sfits = omega (arith, c.section-largest.ensures.1) })
+    (λ c. record { sfits = omega (arith, c.section_largest.ensures.1) })
     (λ c. search rules)
     (λ c. search rules)
     (λ c. search rules)

@@ -10,5 +10,5 @@ returns c =
     let is = c.largest_size.ensures in
     (is, rw is (size_most s.args.start s.args.n s.args.figures.now s.requires))
 
-pub section-largest-spec : {M : Type 1} → statement M
-section-largest-spec = tie.close (tie.spec (λ c κs. c.requires.inside) returns)
+pub section_largest_spec : {M : Type 1} → statement M
+section_largest_spec = tie.close (tie.spec (λ c κs. c.requires.inside) returns)

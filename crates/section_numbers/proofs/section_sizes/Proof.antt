@@ -20,48 +20,48 @@ use Rattle.section_numbers.proofs.section_sizes.Tie as tie
 abbrev one : List ℤ → ℕ → ℕ → ℕ
 one xs start i = nat_abs (figure_at xs (start + i))
 
-abbrev invariant-loop : tie.invariant-loop
+abbrev invariant-loop : tie.invariant-loop-i
 invariant-loop figures start n sum₀ i₀ sum i = (i ≤ n) × (sum ≡ total (up_to (one figures start) i))
 
-abbrev decreases-loop : tie.decreases-loop
+abbrev decreases-loop : tie.decreases-loop-i
 decreases-loop figures start n sum₀ i₀ sum i = n - i
 
-loop-holds : tie.Need-loop-init invariant-loop decreases-loop
+loop-holds : tie.Need-loop-i-init invariant-loop decreases-loop
 unfolding total up_to
 loop-holds c = (omega arith, refl)
 
 -- one size more
-next : (c : tie.After-size-of invariant-loop decreases-loop)
-    → c.before.before.before.loop.sum + c.type_size.result
-    ≡ total (up_to (one c.before.before.before.before.args.figures.now c.before.before.before.before.args.start) (c.before.before.before.loop.i + 1))
+next : (c : tie.After-size_of-sum invariant-loop decreases-loop)
+    → c.before.before.before.loop-i.sum + c.size_of-sum.result
+    ≡ total (up_to (one c.before.before.before.before.args.figures.now c.before.before.before.before.args.start) (c.before.before.before.loop-i.i + 1))
 next c =
     let l = c.before.before.before in
     let s = l.before in
-    let kept = to_z-of_z {w = w64} {z = figure_at s.args.figures.now (s.args.start + l.loop.i)} (sfits_of c.before.size-of-arg.given) in
-    ap₂ ◌+◌ l.loop.invariant.1 (c.type_size.ensures ∙ ap nat_abs kept) ∙ total_next (one s.args.figures.now s.args.start) l.loop.i
+    let kept = to_z-of_z {w = w64} {z = figure_at s.args.figures.now (s.args.start + l.loop-i.i)} (sfits_of c.before.size_of-arg-1.given) in
+    ap₂ ◌+◌ l.loop-i.invariant.1 (c.size_of-sum.ensures ∙ ap nat_abs kept) ∙ total_next (one s.args.figures.now s.args.start) l.loop-i.i
 
 -- the sum of i of them
 most : (s : tie.Start invariant-loop decreases-loop) (i : ℕ) → i ≤ s.args.n → total (up_to (one s.args.figures.now s.args.start) i) ≤ i * most_figure
 most s i h = total_each (one s.args.figures.now s.args.start) most_figure i (λ j l. s.requires.small j (omega arith))
 
-add-sum : tie.Need-overflow-add-sum invariant-loop decreases-loop
+add-sum : tie.Need-overflow_add-sum invariant-loop decreases-loop
 add-sum c =
     let l = c.before.before.before in
-    omega (arith, next c, most l.before (l.loop.i + 1) (omega arith), l.before.requires.few)
+    omega (arith, next c, most l.before (l.loop-i.i + 1) (omega arith), l.before.requires.few)
 
-loop-again : tie.Need-loop-preserved invariant-loop decreases-loop
+loop-again : tie.Need-loop-i-preserved invariant-loop decreases-loop
 loop-again c = (omega arith, next c)
 
 returns : tie.Need-returns invariant-loop decreases-loop
 unfolding sizes_of
 returns c =
     let s = c.before.before in
-    let e : c.before.loop.i ≡ s.args.n = omega arith in
-    let is = rw e at c.before.loop.invariant.1 in
+    let e : c.before.loop-i.i ≡ s.args.n = omega arith in
+    let is = rw e at c.before.loop-i.invariant.1 in
     (is, rw is (most s s.args.n (omega arith)))
 
-pub section-sizes-spec : {M : Type 1} → statement M
-section-sizes-spec =
+pub section_sizes_spec : {M : Type 1} → statement M
+section_sizes_spec =
     tie.close
     (tie.spec
     invariant-loop

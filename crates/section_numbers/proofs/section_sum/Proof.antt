@@ -14,7 +14,7 @@ use borrow.Author.Rules.{rules, sfits_of}
 use Rattle.section_numbers.proofs.section_sum.Statement.{statement}
 use Rattle.section_numbers.proofs.section_sum.Tie as tie
 
-sum-along-requires : tie.Need-sum-along-requires
+sum-along-requires : tie.Need-sum_along-requires
 sum-along-requires c κs =
     let s = c.before in
     let long : 1310 ≤ length s.args.figures.now = search rules in
@@ -26,8 +26,8 @@ returns c =
     let s = c.before.before in
     let xs = s.args.figures.now in
     let same = sum_to_same (λ i. figure_at xs (s.args.start + i * 1)) (λ i. figure_at xs (s.args.start + i)) s.args.n (λ i h. rw (mul-one i)) in
-    let is = to_z-of_z {w = w64} {z = c.sum-along.result} (sfits_of c.sum-along.type_inv) ∙ c.sum-along.ensures ∙ same in
+    let is = to_z-of_z {w = w64} {z = c.sum_along.result} (sfits_of c.sum_along.type_inv) ∙ c.sum_along.ensures ∙ same in
     (is, rw is (sum_most s.args.start s.args.n xs s.requires))
 
-pub section-sum-spec : {M : Type 1} → statement M
-section-sum-spec = tie.close (tie.spec sum-along-requires returns)
+pub section_sum_spec : {M : Type 1} → statement M
+section_sum_spec = tie.close (tie.spec sum-along-requires returns)

@@ -10,16 +10,16 @@ use Rattle.section_numbers.proofs.sections_together.Tie as tie
 
 add-requires : tie.Need-add-requires
 add-requires c κs =
-    let first = to_z-of_z {w = w64} {z = c.before.section-sum.result} (sfits_of c.before.section-sum.type_inv) in
-    let second = to_z-of_z {w = w64} {z = c.section-sum2.result} (sfits_of c.section-sum2.type_inv) in
-    (rw first (omega (arith, c.before.section-sum.ensures.1)), rw second (omega (arith, c.section-sum2.ensures.1)))
+    let first = to_z-of_z {w = w64} {z = c.before.section_sum.result} (sfits_of c.before.section_sum.type_inv) in
+    let second = to_z-of_z {w = w64} {z = c.section_sum-2.result} (sfits_of c.section_sum-2.type_inv) in
+    (rw first (omega (arith, c.before.section_sum.ensures.1)), rw second (omega (arith, c.section_sum-2.ensures.1)))
 
 returns : tie.Need-returns
 returns c =
-    let first = to_z-of_z {w = w64} {z = c.before.before.section-sum.result} (sfits_of c.before.before.section-sum.type_inv) in
-    let second = to_z-of_z {w = w64} {z = c.before.section-sum2.result} (sfits_of c.before.section-sum2.type_inv) in
+    let first = to_z-of_z {w = w64} {z = c.before.before.section_sum.result} (sfits_of c.before.before.section_sum.type_inv) in
+    let second = to_z-of_z {w = w64} {z = c.before.section_sum-2.result} (sfits_of c.before.section_sum-2.type_inv) in
     let sum = to_z-of_z {w = w64} {z = c.add.result} (sfits_of c.add.type_inv) in
-    sum ∙ c.add.ensures ∙ ap₂ ◌+ℤ◌ (first ∙ c.before.before.section-sum.ensures.0) (second ∙ c.before.section-sum2.ensures.0)
+    sum ∙ c.add.ensures ∙ ap₂ ◌+ℤ◌ (first ∙ c.before.before.section_sum.ensures.0) (second ∙ c.before.section_sum-2.ensures.0)
 
-pub sections-together-spec : {M : Type 1} → statement M
-sections-together-spec = tie.close (tie.spec (λ c κs. search rules) (λ c κs. search rules) add-requires returns)
+pub sections_together_spec : {M : Type 1} → statement M
+sections_together_spec = tie.close (tie.spec (λ c κs. search rules) (λ c κs. search rules) add-requires returns)

@@ -40,18 +40,18 @@ returns c =
     first_refused_lem (filled s.args.year f s.args.out.now) s.args.out.now (tail_questions f.k (first_tail_average_of f) f.indices) _ n (sym at.carry_tail-carried.ensures.0) c.if-carried-ne-ACCEPTED.true
 
 -- the tail is carried on
-tailed-is : (c : tie.Else-carried-ne-ACCEPTED) → Tailed (F (start c.before)) c.before.carry_tail-carried.new.indices.1.1.1.0
+tailed-is : (c : tie.Else-carried-ne-ACCEPTED) → Tailed (F (start c.before)) c.before.carry_tail-carried.new.tails
 unfolding first_tail_average_of
 tailed-is c =
     let at = c.before in
     let s = start at in
-    tails_are (F s) s.pre.0.sound.few _ at.carry_tail-carried.ensures.1 (sym at.carry_tail-carried.ensures.0 ∙ c.if-carried-ne-ACCEPTED.false)
+    tails_are (F s) s.requires.0.sound.few _ at.carry_tail-carried.ensures.1 (sym at.carry_tail-carried.ensures.0 ∙ c.if-carried-ne-ACCEPTED.false)
 
 finish-requires : tie.Need-finish-requires
 finish-requires c κs =
     let one = c.before.before in
     let s = start one.before in
-    (s.pre.0, (tailed-is one, s.pre.1))
+    (s.requires.0, (tailed-is one, s.requires.1))
 
 same_length : tie.Need-shape_of-out
 same_length c = search rules

@@ -63,7 +63,7 @@ factors-answer-requires c κs = search rules
 
 -- and give the answer
 abbrev walked : tie.After-factors_answer-answer → tie.After-share_step-f
-walked c = c.before.before.before.before
+walked c = c.before.before.before
 
 answered : (c : tie.After-factors_answer-answer) (q : List (List ℤ)) → Whose (begun (walked c)) q → c.factors_answer-answer.result ≡ separate_answer q (begun (walked c)).args.k
 answered c q of =

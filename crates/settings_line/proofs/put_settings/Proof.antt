@@ -64,17 +64,17 @@ loop-less : tie.Need-loop-rest-smaller invariant-loop decreases-loop
 loop-less c =
     let e = c.before.before in
     let u = e.before.before.before in
-    rw c.past-next.ensures (omega (arith, past_length (rest u) (more e)))
+    rw c.past-next.ensures (omega (arith, past_length (rest u.before) (more e.before)))
 
 loop-again : tie.Need-loop-rest-preserved invariant-loop decreases-loop
 loop-again c =
     let e = c.before.before in
     let p = e.before in
-    let u = p.before.before.before.before.before.before in
-    let l = u.loop-rest in
+    let u = p.before.before.before in
+    let l = u.before.before.before.loop-rest in
     let first = words_in (until separates (rest u)) in
-    rw (c.past-next.ensures, (put p).0, (put p).1)
-    (omega (arith, l.invariant.0, ap length (words_more (rest u) (more e)), length-append first (words_of (past separates (rest u)))), l.invariant.1 ∙ settings_more (rest u) l.settings l.n (more e))
+    rw (c.past-next.ensures, (put p.before).0, (put p.before).1)
+    (omega (arith, l.invariant.0, ap length (words_more (rest u) (more e.before)), length-append first (words_of (past separates (rest u)))), l.invariant.1 ∙ settings_more (rest u) l.settings l.n (more e.before))
 
 pub put_settings_spec : {M : Type 1} → statement M
 put_settings_spec =

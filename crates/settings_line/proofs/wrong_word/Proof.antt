@@ -38,14 +38,14 @@ add-result c =
 
 returns : tie.Need-returns-then-is_wrong invariant-loop decreases-loop
 returns c =
-    let w = c.before.before.before.before.before in
-    let l = w.loop-rest in
+    let w = c.before in
+    let l = w.before.before.before.before.loop-rest in
     sym (l.invariant.0 ∙ wrong_here l.n (rest w) (said w ∙ c.if-is_wrong.true))
 
 returns-2 : tie.Need-returns-then-piece-rest invariant-loop decreases-loop
 returns-2 c =
-    let w = c.before.before.before.before.before.before in
-    let l = w.loop-rest in
+    let w = c.before.before in
+    let l = w.before.before.before.before.loop-rest in
     sym (l.invariant.0 ∙ wrong_none l.n (rest w) (said w ∙ c.before.if-is_wrong.false) (omega (arith, cut w, c.if-piece-rest.true)))
 
 -- another piece follows
@@ -58,22 +58,22 @@ counted v = v.words_in-n.ensures ∙ ap (λ (p : List ℕ). length (words_in p))
 
 add-n : tie.Need-overflow_add-n invariant-loop decreases-loop
 add-n c =
-    let w = c.before.before.before.before.before.before.before in
-    omega (arith, w.loop-rest.invariant.1, counted c, words_most (until separates (rest w)), more c.before)
+    let w = c.before.before.before in
+    omega (arith, w.before.before.before.before.loop-rest.invariant.1, counted c, words_most (until separates (rest w)), more c.before)
 
 loop-less : tie.Need-loop-rest-smaller invariant-loop decreases-loop
 loop-less c =
     let e = c.before.before.before in
-    rw c.past-next.ensures (omega (arith, past_length (rest e.before.before.before) (more e)))
+    rw c.past-next.ensures (omega (arith, past_length (rest e.before.before.before) (more e.before)))
 
 loop-again : tie.Need-loop-rest-preserved invariant-loop decreases-loop
 loop-again c =
     let v = c.before.before in
-    let e = v.before.before.before in
-    let w = e.before.before.before.before.before in
-    let l = w.loop-rest in
-    rw (c.past-next.ensures, counted v) (
-      l.invariant.0 ∙ wrong_more l.n (rest w) (said w ∙ e.if-is_wrong.false) (more e),
+    let e = v.before.before in
+    let w = e.before.before in
+    let l = w.before.before.before.before.loop-rest in
+    rw (c.past-next.ensures, counted v.before) (
+      l.invariant.0 ∙ wrong_more l.n (rest w) (said w ∙ e.before.if-is_wrong.false) (more e),
       omega (arith, l.invariant.1, words_most (until separates (rest w)), past_length (rest w) (more e)),
     )
 

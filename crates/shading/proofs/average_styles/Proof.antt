@@ -17,60 +17,60 @@ use borrow.Author.Rules.{rules, sfits_of}
 use Rattle.shading.proofs.average_styles.Statement.{statement}
 use Rattle.shading.proofs.average_styles.Tie as tie
 
-abbrev invariant-loop : tie.invariant-loop
+abbrev invariant-loop : tie.invariant-loop-m
 invariant-loop k figures n at most styles₀ m₀ styles m = (m ≤ n) × (styles ≡ padded 136 0 (up_to (average_style k figures) m))
 
-abbrev decreases-loop : tie.decreases-loop
+abbrev decreases-loop : tie.decreases-loop-m
 decreases-loop k figures n at most styles₀ m₀ styles m = n - m
 
 -- where the cells stand, and the largest size
-places : (c : tie.After-added-at invariant-loop decreases-loop) → Inside c.before.before.args.k c.added-at.result
-places c = inside c.before.before.args.k c.added-at.result c.before.before.requires.0 c.added-at.ensures
+places : (c : tie.After-added_at-at invariant-loop decreases-loop) → Inside c.before.before.args.k c.added_at-at.result
+places c = inside c.before.before.args.k c.added_at-at.result c.before.before.requires.0 c.added_at-at.ensures
 
-sizes : (c : tie.After-added-at invariant-loop decreases-loop) → Small c.before.before.args.k c.added-at.result c.before.before.args.figures.now
-sizes c = small c.before.before.args.k c.added-at.result c.before.before.args.figures.now c.before.before.requires.0 c.added-at.ensures c.before.before.requires.1
+sizes : (c : tie.After-added_at-at invariant-loop decreases-loop) → Small c.before.before.args.k c.added_at-at.result c.before.before.args.figures.now
+sizes c = small c.before.before.args.k c.added_at-at.result c.before.before.args.figures.now c.before.before.requires.0 c.added_at-at.ensures c.before.before.requires.1
 
-most-is : (c : tie.After-largest-size invariant-loop decreases-loop) → c.largest_size.result ≡ largest_size 0 (cells c.before.before.before.args.k) c.before.before.before.args.figures.now
-most-is c = rw c.before.before.Cells-of.ensures.0 at c.largest_size.ensures
+most-is : (c : tie.After-largest_size-most invariant-loop decreases-loop) → c.largest_size-most.result ≡ largest_size 0 (cells c.before.before.before.args.k) c.before.before.before.args.figures.now
+most-is c = rw c.before.before.cells_of-n.ensures.0 at c.largest_size-most.ensures
 
-loop-holds : tie.Need-loop-init invariant-loop decreases-loop
+loop-holds : tie.Need-loop-m-init invariant-loop decreases-loop
 loop-holds c = (omega arith, filled_none 136 0 (average_style c.before.before.before.args.k c.before.before.before.args.figures.now))
 
-average-mark-requires : tie.Need-average-mark-requires invariant-loop decreases-loop
+average-mark-requires : tie.Need-average_mark-requires invariant-loop decreases-loop
 average-mark-requires c κs =
     let l = c.before.before.before.before in
     let b = l.before in
     let s = b.before.before.before in
     let xs = s.args.figures.now in
-    let n = b.before.before.Cells-of.ensures.0 in
-    let kept = to_z-of_z {w = w64} {z = figure_at xs l.loop.m} (sfits_of c.average-mark-arg2.given) in
-    let z : 0 + l.loop.m ≡ l.loop.m = omega arith in (
-      rw (kept, most-is b) (rw z at (size_least 0 (cells s.args.k) xs l.loop.m (omega (arith, n)))),
+    let n = b.before.before.cells_of-n.ensures.0 in
+    let kept = to_z-of_z {w = w64} {z = figure_at xs l.loop-m.m} (sfits_of c.average_mark-arg-in-loop-m-1.given) in
+    let z : 0 + l.loop-m.m ≡ l.loop-m.m = omega arith in (
+      rw (kept, most-is b) (rw z at (size_least 0 (cells s.args.k) xs l.loop-m.m (omega (arith, n)))),
       rw (most-is b) (size_most most_figure 0 (cells s.args.k) xs (sizes b.before).averages),
     )
 
-loop-again : tie.Need-loop-preserved invariant-loop decreases-loop
+loop-again : tie.Need-loop-m-preserved invariant-loop decreases-loop
 loop-again c =
     let l = c.before.before.before.before.before.before in
     let b = l.before in
     let s = b.before.before.before in
     let xs = s.args.figures.now in
-    let n = b.before.before.Cells-of.ensures.0 in
+    let n = b.before.before.cells_of-n.ensures.0 in
     let p = places b.before in
-    let payment = to_z-of_z {w = w64} {z = figure_at xs (b.before.added-at.result.increments + l.loop.m)} (sfits_of c.before.before.before.average-mark-arg.given) in
-    let average = to_z-of_z {w = w64} {z = figure_at xs l.loop.m} (sfits_of c.before.before.average-mark-arg2.given) in
-    let mark = rw (payment, average) at c.before.average-mark.ensures.0 in
-    let style = c.styled.ensures ∙ ap (λ (z : ℕ). styled z 2) mark ∙ average_style_lem s.args.k xs b.before.added-at.result b.largest_size.result l.loop.m b.before.added-at.ensures (most-is b) in
-    (omega arith, rw (style, l.loop.invariant.1) (filled_more 136 0 (average_style s.args.k xs) l.loop.m (omega (arith, n, p.most))))
+    let payment = to_z-of_z {w = w64} {z = figure_at xs (b.before.added_at-at.result.increments + l.loop-m.m)} (sfits_of c.before.before.before.average_mark-arg-1.given) in
+    let average = to_z-of_z {w = w64} {z = figure_at xs l.loop-m.m} (sfits_of c.before.before.average_mark-arg-in-loop-m-1.given) in
+    let mark = rw (payment, average) at c.before.average_mark.ensures.0 in
+    let style = c.styled.ensures ∙ ap (λ (z : ℕ). styled z 2) mark ∙ average_style_lem s.args.k xs b.before.added_at-at.result b.largest_size-most.result l.loop-m.m b.before.added_at-at.ensures (most-is b) in
+    (omega arith, rw (style, l.loop-m.invariant.1) (filled_more 136 0 (average_style s.args.k xs) l.loop-m.m (omega (arith, n, p.most))))
 
 returns : tie.Need-returns invariant-loop decreases-loop
 returns c =
     let s = c.before.before.before.before.before in
-    let e : c.before.loop.m ≡ cells s.args.k = omega (arith, c.before.before.before.before.Cells-of.ensures.0) in
-    rw e at c.before.loop.invariant.1
+    let e : c.before.loop-m.m ≡ cells s.args.k = omega (arith, c.before.before.before.before.cells_of-n.ensures.0) in
+    rw e at c.before.loop-m.invariant.1
 
-pub average-styles-spec : {M : Type 1} → statement M
-average-styles-spec =
+pub average_styles_spec : {M : Type 1} → statement M
+average_styles_spec =
     tie.close
     (tie.spec
     invariant-loop
@@ -85,7 +85,7 @@ average-styles-spec =
     (λ c. omega arith)
     (λ c. omega arith)
     average-mark-requires
-    (λ c κs. (omega (arith, c.average-mark.ensures.1), omega arith))
+    (λ c κs. (omega (arith, c.average_mark.ensures.1), omega arith))
     (λ c. omega arith)
     (λ c. omega arith)
     (λ c. omega arith)

@@ -9,20 +9,20 @@ use borrow.Author.Rules.{rules}
 use Rattle.shading.proofs.exceeds.Statement.{statement}
 use Rattle.shading.proofs.exceeds.Tie as tie
 
-mul-if1 : tie.Need-overflow-mul-if1
+mul-if1 : tie.Need-overflow_mul-t
 mul-if1 c = record { fits = omega (arith, mul-le-mul {n₂ = 50} {m₂ = most_figure} c.requires.0 c.requires.1.1) }
 
-returns : tie.Need-returns
+returns : tie.Need-returns-then-t-fitted
 unfolding exceeds
 returns c =
     let s = c.before in
-    (rw (lt-ltb (s.args.t * s.args.fitted) (100 * s.args.size) c.if1.true), omega arith)
+    (rw (lt-ltb (s.args.t * s.args.fitted) (100 * s.args.size) c.if-t-fitted.true), omega arith)
 
-returns-2 : tie.Need-returns-2
+returns-2 : tie.Need-returns-else-t-fitted
 unfolding exceeds
 returns-2 c =
     let s = c.before in
-    (rw (le-ltb (s.args.t * s.args.fitted) (100 * s.args.size) c.if1.false), omega arith)
+    (rw (le-ltb (s.args.t * s.args.fitted) (100 * s.args.size) c.if-t-fitted.false), omega arith)
 
-pub exceeds-spec : {M : Type 1} → statement M
-exceeds-spec = tie.close (tie.spec mul-if1 (λ c. search rules) returns returns-2)
+pub exceeds_spec : {M : Type 1} → statement M
+exceeds_spec = tie.close (tie.spec mul-if1 (λ c. search rules) returns returns-2)

@@ -10,12 +10,12 @@ use Rattle.shading.proofs.gap_step.Tie as tie
 returns : tie.Need-returns
 unfolding gap_step
 returns c = (
-  ap₂ ◌+◌ (ap₂ ◌+◌ (ap₂ ◌+◌ c.before.before.before.exceeds.ensures.0 c.before.before.exceeds2.ensures.0) c.before.exceeds3.ensures.0) c.exceeds4.ensures.0,
+  ap₂ ◌+◌ (ap₂ ◌+◌ (ap₂ ◌+◌ c.before.before.before.exceeds.ensures.0 c.before.before.exceeds-2.ensures.0) c.before.exceeds-3.ensures.0) c.exceeds-4.ensures.0,
   omega arith,
 )
 
-pub gap-step-spec : {M : Type 1} → statement M
-gap-step-spec =
+pub gap_step_spec : {M : Type 1} → statement M
+gap_step_spec =
     tie.close
     (tie.spec
     (λ c κs. search rules)

@@ -6,13 +6,13 @@ use borrow.Author.Rules.{rules}
 use Rattle.shading.proofs.stepped_mark.Statement.{statement}
 use Rattle.shading.proofs.stepped_mark.Tie as tie
 
-returns : tie.Need-returns
+returns : tie.Need-returns-then-step-eq0
 unfolding stepped
-returns c = (rw (eq-eqb c.before.args.step 0 c.if1.true), omega arith)
+returns c = (rw (eq-eqb c.before.args.step 0 c.if-step-eq0.true), omega arith)
 
-returns-2 : tie.Need-returns-2
+returns-2 : tie.Need-returns-else-step-eq0
 unfolding stepped
-returns-2 c = (rw (ne_eqb c.before.args.step 0 c.if1.false), omega arith)
+returns-2 c = (rw (ne_eqb c.before.args.step 0 c.if-step-eq0.false), omega arith)
 
-pub stepped-mark-spec : {M : Type 1} → statement M
-stepped-mark-spec = tie.close (tie.spec (λ c. search rules) (λ c. search rules) returns returns-2)
+pub stepped_mark_spec : {M : Type 1} → statement M
+stepped_mark_spec = tie.close (tie.spec (λ c. search rules) (λ c. search rules) returns returns-2)

@@ -8,25 +8,24 @@ use borrow.Author.Rules.{rules}
 use Rattle.share_section.proofs.put_level_plot.Statement.{statement}
 use Rattle.share_section.proofs.put_level_plot.Tie as tie
 
-put-plot-requires : tie.Need-put-plot-requires
+put-plot-requires : tie.Need-put_plot-requires
 put-plot-requires c κs =
-    let s = c.before.before.before.before.before.before in
-    rw c.before.before.before.starts-of.ensures (omega arith, (omega arith, level_plotted s.args.k _ s.args.figures.now s.requires.0 s.requires.1.1 c.put-plot-arg3.given))
+    let s = c.before.before.before.before.before.before.before in
+    rw c.before.before.before.before.starts_of-s.ensures (omega arith, (omega arith, level_plotted s.args.k _ s.args.figures.now s.requires.0 s.requires.1.1 c.before.put_plot-arg-then-html-2-1.given))
 
-returns : tie.Need-returns
+returns : tie.Need-returns-then-html
 unfolding level_plot level_plot_words level_series only either
-returns c = rw c.before.before.before.before.before.before.before.if1.true (rw c.before.before.before.before.before.before.starts-of.ensures at c.before.before.put-plot.ensures)
+returns c = rw c.before.before.before.before.before.before.before.before.if-html.true (rw c.before.before.before.before.before.before.before.starts_of-s.ensures at c.before.before.put_plot.ensures)
 
-returns-2 : tie.Need-returns-2
+returns-2 : tie.Need-returns-else-html
 unfolding level_plot only either
-returns-2 c = rw c.if1.false (put_none c.before.before.args.out.now c.before.before.args.at)
+returns-2 c = rw c.if-html.false (put_none c.before.before.args.out.now c.before.before.args.at)
 
-pub put-level-plot-spec : {M : Type 1} → statement M
-put-level-plot-spec =
+pub put_level_plot_spec : {M : Type 1} → statement M
+put_level_plot_spec =
     tie.close
     (tie.spec
     (λ c κs. search rules)
-    (λ c. search rules)
     (λ c. search rules)
     (λ c. search rules)
     (λ c. search rules)

@@ -8,10 +8,10 @@ use Rattle.share_section.proofs.put_levels.Tie as tie
 returns : tie.Need-returns
 unfolding levels
 returns c =
-    put_five c.before.before.before.before.before.before.before.before.before.before.before.before.before.before.before.before.before.before.put-beside-start.ensures c.before.before.before.before.before.before.before.before.before.before.before.before.before.before.put-level-table.ensures c.before.before.before.before.before.before.before.before.before.before.put-future-table.ensures c.before.before.before.before.before.before.put-level-plot.ensures c.before.before.put-beside-end.ensures
+    put_five c.before.before.before.before.before.before.before.before.before.before.before.before.before.before.before.before.before.before.put_beside_start-found.ensures c.before.before.before.before.before.before.before.before.before.before.before.before.before.before.put_level_table-future.ensures c.before.before.before.before.before.before.before.before.before.before.put_future_table-plot.ensures c.before.before.before.before.before.before.put_level_plot-end.ensures c.before.before.put_beside_end.ensures
 
-pub put-levels-spec : {M : Type 1} → statement M
-put-levels-spec =
+pub put_levels_spec : {M : Type 1} → statement M
+put_levels_spec =
     tie.close
     (tie.spec
     (λ c κs. search rules)

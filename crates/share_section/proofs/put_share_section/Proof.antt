@@ -8,15 +8,13 @@ use Rattle.share_section.proofs.put_share_section.Tie as tie
 returns : tie.Need-returns
 unfolding shares_section share_paragraph
 returns c =
-    put_five c.before.before.before.before.before.before.before.before.before.before.before.before.before.before.before.before.before.before.before.put-section-start.ensures c.before.before.before.before.before.before.before.before.before.before.before.before.before.before.put-Only.ensures c.before.before.before.before.before.before.before.before.before.before.put-shares.ensures c.before.before.before.before.before.before.put-levels.ensures c.before.before.put-section-end.ensures
+    put_five c.before.before.before.before.before.before.before.before.before.before.before.before.before.before.before.before.before.before.before.before.put_section_start-paragraph.ensures c.before.before.before.before.before.before.before.before.before.before.before.before.before.before.put_only-shares.ensures c.before.before.before.before.before.before.before.before.before.before.put_shares-levels.ensures c.before.before.before.before.before.before.put_levels-end.ensures c.before.before.put_section_end.ensures
 
-pub put-share-section-spec : {M : Type 1} → statement M
-put-share-section-spec =
+pub put_share_section_spec : {M : Type 1} → statement M
+put_share_section_spec =
     tie.close
     (tie.spec
-    (λ c. search rules)
     (λ c κs. search rules)
-    (λ c. search rules)
     (λ c κs. search rules)
     (λ c κs. search rules)
     (λ c κs. search rules)

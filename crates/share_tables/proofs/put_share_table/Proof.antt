@@ -8,26 +8,24 @@ use borrow.Author.Rules.{rules}
 use Rattle.share_tables.proofs.put_share_table.Statement.{statement}
 use Rattle.share_tables.proofs.put_share_table.Tie as tie
 
-put-column-table-requires : tie.Need-put-column-table-requires
+put-column-table-requires : tie.Need-put_column_table-requires
 put-column-table-requires c κs =
-    let s = c.before.before.before.before.before.before.before.before in
+    let s = c.before.before.before.before.before.before.before.before.before.before in
     let k = s.args.k in
     let here = standing k s.requires.0 in
-    rw (c.before.before.before.before.before.before.starts-of.ensures, c.before.before.before.before.before.added-at.ensures)
+    rw (c.before.before.before.before.before.before.before.before.starts_of-s.ensures, c.before.before.before.before.before.before.before.added_at-a.ensures)
     (columned k 0 (k + 1) 2 _ _ s.args.figures.now s.requires.0 (omega arith) (omega arith) (omega arith) (omega arith) s.requires.1 (omega arith) (omega arith))
 
 returns : tie.Need-returns
 unfolding share_table share_words padded
-returns c = rw (c.before.before.before.before.before.before.before.before.before.starts-of.ensures, c.before.before.before.before.before.before.before.before.added-at.ensures) at c.before.before.put-column-table.ensures
+returns c = rw (c.before.before.before.before.before.before.before.before.before.before.before.starts_of-s.ensures, c.before.before.before.before.before.before.before.before.before.before.added_at-a.ensures) at c.before.before.put_column_table.ensures
 
-pub put-share-table-spec : {M : Type 1} → statement M
-put-share-table-spec =
+pub put_share_table_spec : {M : Type 1} → statement M
+put_share_table_spec =
     tie.close
     (tie.spec
     (λ c κs. search rules)
     (λ c κs. search rules)
-    (λ c. search rules)
-    (λ c. search rules)
     (λ c. search rules)
     put-column-table-requires
     (λ c. search rules)

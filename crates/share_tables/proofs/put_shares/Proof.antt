@@ -8,10 +8,10 @@ use Rattle.share_tables.proofs.put_shares.Tie as tie
 returns : tie.Need-returns
 unfolding shares
 returns c =
-    put_four c.before.before.before.before.before.before.before.before.before.before.before.before.before.before.put-beside-start.ensures c.before.before.before.before.before.before.before.before.before.before.put-share-table.ensures c.before.before.before.before.before.before.put-share-plot.ensures c.before.before.put-beside-end.ensures
+    put_four c.before.before.before.before.before.before.before.before.before.before.before.before.before.before.put_beside_start-table.ensures c.before.before.before.before.before.before.before.before.before.before.put_share_table-plot.ensures c.before.before.before.before.before.before.put_share_plot-end.ensures c.before.before.put_beside_end.ensures
 
-pub put-shares-spec : {M : Type 1} → statement M
-put-shares-spec =
+pub put_shares_spec : {M : Type 1} → statement M
+put_shares_spec =
     tie.close
     (tie.spec
     (λ c κs. search rules)

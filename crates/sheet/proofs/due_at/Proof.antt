@@ -6,83 +6,83 @@ use borrow.Author.Rules.{rules}
 use Rattle.sheet.proofs.due_at.Statement.{statement}
 use Rattle.sheet.proofs.due_at.Tie as tie
 
-returns : tie.Need-returns
+returns : tie.Need-returns-then-place-eq0
 unfolding due_at
-returns c = rw (eq-eqb c.before.args.place 0 c.if1.true)
+returns c = rw (eq-eqb c.before.args.place 0 c.if-place-eq0.true)
 
-returns-2 : tie.Need-returns-2
+returns-2 : tie.Need-returns-then-place-eq1
 unfolding due_at
 returns-2 c =
     let i = c.before.before.args.place in
-    rw (ne_eqb i 0 c.before.if1.false, eq-eqb i 1 c.if2.true)
+    rw (ne_eqb i 0 c.before.if-place-eq0.false, eq-eqb i 1 c.if-place-eq1.true)
 
-returns-3 : tie.Need-returns-3
+returns-3 : tie.Need-returns-then-place-k
 unfolding due_at
 returns-3 c =
     let k = c.before.before.before.args.k in
     let i = c.before.before.before.args.place in
-    rw (ne_eqb i 0 c.before.before.if1.false, ne_eqb i 1 c.before.if2.false, lt-ltb i (k + 3) c.if3.true)
+    rw (ne_eqb i 0 c.before.before.if-place-eq0.false, ne_eqb i 1 c.before.if-place-eq1.false, lt-ltb i (k + 3) c.if-place-k.true)
 
-returns-4 : tie.Need-returns-4
+returns-4 : tie.Need-returns-then-place-k-2
 unfolding due_at
 returns-4 c =
     let k = c.before.before.before.before.args.k in
     let i = c.before.before.before.before.args.place in
-    rw (ne_eqb i 0 c.before.before.before.if1.false, ne_eqb i 1 c.before.before.if2.false, le-ltb i (k + 3) c.before.if3.false, eq-eqb i (k + 3) c.if4.true)
+    rw (ne_eqb i 0 c.before.before.before.if-place-eq0.false, ne_eqb i 1 c.before.before.if-place-eq1.false, le-ltb i (k + 3) c.before.if-place-k.false, eq-eqb i (k + 3) c.if-place-k-2.true)
 
-returns-5 : tie.Need-returns-5
+returns-5 : tie.Need-returns-then-place-k-3
 unfolding due_at
 returns-5 c =
     let k = c.before.before.before.before.before.args.k in
     let i = c.before.before.before.before.before.args.place in
-    rw (ne_eqb i 0 c.before.before.before.before.if1.false, ne_eqb i 1 c.before.before.before.if2.false, le-ltb i (k + 3) c.before.before.if3.false, ne_eqb i (k + 3) c.before.if4.false, eq-eqb i (k + 4) c.if5.true)
+    rw (ne_eqb i 0 c.before.before.before.before.if-place-eq0.false, ne_eqb i 1 c.before.before.before.if-place-eq1.false, le-ltb i (k + 3) c.before.before.if-place-k.false, ne_eqb i (k + 3) c.before.if-place-k-2.false, eq-eqb i (k + 4) c.if-place-k-3.true)
 
-returns-6 : tie.Need-returns-6
+returns-6 : tie.Need-returns-then-place-k-4
 unfolding due_at
 returns-6 c =
     let k = c.before.before.before.before.before.before.args.k in
     let i = c.before.before.before.before.before.before.args.place in
     rw (
-      ne_eqb i 0 c.before.before.before.before.before.if1.false,
-      ne_eqb i 1 c.before.before.before.before.if2.false,
-      le-ltb i (k + 3) c.before.before.before.if3.false,
-      ne_eqb i (k + 3) c.before.before.if4.false,
-      ne_eqb i (k + 4) c.before.if5.false,
-      eq-eqb i (k + 5) c.if6.true,
+      ne_eqb i 0 c.before.before.before.before.before.if-place-eq0.false,
+      ne_eqb i 1 c.before.before.before.before.if-place-eq1.false,
+      le-ltb i (k + 3) c.before.before.before.if-place-k.false,
+      ne_eqb i (k + 3) c.before.before.if-place-k-2.false,
+      ne_eqb i (k + 4) c.before.if-place-k-3.false,
+      eq-eqb i (k + 5) c.if-place-k-4.true,
     )
 
-returns-7 : tie.Need-returns-7
+returns-7 : tie.Need-returns-then-place-k-5
 unfolding due_at
 returns-7 c =
     let k = c.before.before.before.before.before.before.before.args.k in
     let i = c.before.before.before.before.before.before.before.args.place in
     rw (
-      ne_eqb i 0 c.before.before.before.before.before.before.if1.false,
-      ne_eqb i 1 c.before.before.before.before.before.if2.false,
-      le-ltb i (k + 3) c.before.before.before.before.if3.false,
-      ne_eqb i (k + 3) c.before.before.before.if4.false,
-      ne_eqb i (k + 4) c.before.before.if5.false,
-      ne_eqb i (k + 5) c.before.if6.false,
-      eq-eqb i (k + 6) c.if7.true,
+      ne_eqb i 0 c.before.before.before.before.before.before.if-place-eq0.false,
+      ne_eqb i 1 c.before.before.before.before.before.if-place-eq1.false,
+      le-ltb i (k + 3) c.before.before.before.before.if-place-k.false,
+      ne_eqb i (k + 3) c.before.before.before.if-place-k-2.false,
+      ne_eqb i (k + 4) c.before.before.if-place-k-3.false,
+      ne_eqb i (k + 5) c.before.if-place-k-4.false,
+      eq-eqb i (k + 6) c.if-place-k-5.true,
     )
 
-returns-8 : tie.Need-returns-8
+returns-8 : tie.Need-returns
 unfolding due_at
 returns-8 c =
     let k = c.before.before.before.before.before.before.before.args.k in
     let i = c.before.before.before.before.before.before.before.args.place in
     rw (
-      ne_eqb i 0 c.before.before.before.before.before.before.if1.false,
-      ne_eqb i 1 c.before.before.before.before.before.if2.false,
-      le-ltb i (k + 3) c.before.before.before.before.if3.false,
-      ne_eqb i (k + 3) c.before.before.before.if4.false,
-      ne_eqb i (k + 4) c.before.before.if5.false,
-      ne_eqb i (k + 5) c.before.if6.false,
-      ne_eqb i (k + 6) c.if7.false,
+      ne_eqb i 0 c.before.before.before.before.before.before.if-place-eq0.false,
+      ne_eqb i 1 c.before.before.before.before.before.if-place-eq1.false,
+      le-ltb i (k + 3) c.before.before.before.before.if-place-k.false,
+      ne_eqb i (k + 3) c.before.before.before.if-place-k-2.false,
+      ne_eqb i (k + 4) c.before.before.if-place-k-3.false,
+      ne_eqb i (k + 5) c.before.if-place-k-4.false,
+      ne_eqb i (k + 6) c.if-place-k-5.false,
     )
 
-pub due-at-spec : {M : Type 1} → statement M
-due-at-spec =
+pub due_at_spec : {M : Type 1} → statement M
+due_at_spec =
     tie.close
     (tie.spec
     returns

@@ -12,9 +12,13 @@ use Rattle.sheet.proofs.put_label.Tie as tie
 returns : tie.Need-returns
 returns c =
     let words = c.before.before.before.cell_at in
-    put_same (words.ensures ∙ ap (λ (l : List (List ℕ)). get_or l c.before.before.before.before.before.before.before.args.row []) labels_are) c.before.before.put-bytes.ensures
+    put_same (words.ensures ∙ ap (λ (l : List (List ℕ)). get_or l c.before.before.before.before.before.before.before.before.args.row []) labels_are) c.before.before.put_bytes.ensures
 
-pub put-label-spec : {M : Type 1} → statement M
-put-label-spec =
+pub put_label_spec : {M : Type 1} → statement M
+put_label_spec =
     tie.close
-    (tie.spec (λ c. search rules) (λ c κs. search rules) (λ c κs. search rules) (λ c. search rules) returns)
+    (tie.spec
+    (λ c κs. search rules)
+    (λ c κs. search rules)
+    (λ c. search rules)
+    returns)

@@ -21,15 +21,15 @@ returns c =
     let x = i.before in
     let m = x.before in
     let a = m.before.args in
-    let w = a.k + 2 + m.Cells-of.result + (a.k + 1) + (a.k + 1) in
-    let weight = to_z-of_z {w = w64} {z = get_or a.list.now w (pos 0)} (sfits_of g.size-of-arg.given) in
-    let tail = to_z-of_z {w = w64} {z = get_or a.list.now (w + 1 + (a.k + 1)) (pos 0)} (sfits_of t.size-of-arg2.given) in
-    rows_of_are a.k m.Cells-of.result a.list.now x.sizes-of.result i.sizes-of2.result r.sizes-of3.result z.type_size.result u.sizes-of4.result
-    c.size-of2.result m.Cells-of.ensures.0 x.sizes-of.ensures i.sizes-of2.ensures r.sizes-of3.ensures (z.type_size.ensures ∙ ap nat_abs weight)
-    u.sizes-of4.ensures (c.size-of2.ensures ∙ ap nat_abs tail)
+    let w = a.k + 2 + m.cells_of.result + (a.k + 1) + (a.k + 1) in
+    let weight = to_z-of_z {w = w64} {z = get_or a.list.now w (pos 0)} (sfits_of g.size_of-arg-1.given) in
+    let tail = to_z-of_z {w = w64} {z = get_or a.list.now (w + 1 + (a.k + 1)) (pos 0)} (sfits_of t.size_of-arg-2-1.given) in
+    rows_of_are a.k m.cells_of.result a.list.now x.sizes_of-exposures.result i.sizes_of-indices.result r.sizes_of-reporting.result z.size_of-weight.result u.sizes_of-ulae.result
+    c.size_of-tail.result m.cells_of.ensures.0 x.sizes_of-exposures.ensures i.sizes_of-indices.ensures r.sizes_of-reporting.ensures (z.size_of-weight.ensures ∙ ap nat_abs weight)
+    u.sizes_of-ulae.ensures (c.size_of-tail.ensures ∙ ap nat_abs tail)
 
-pub rows-of-spec : {M : Type 1} → statement M
-rows-of-spec =
+pub rows_of_spec : {M : Type 1} → statement M
+rows_of_spec =
     tie.close
     (tie.spec
     (λ c. search rules)

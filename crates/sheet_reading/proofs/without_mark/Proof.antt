@@ -11,23 +11,23 @@ use Rattle.sheet_reading.proofs.without_mark.Statement.{statement}
 use Rattle.sheet_reading.proofs.without_mark.Tie as tie
 
 has-mark : (c : tie.Then1) → marked c.before.before.before.args.text.now ≡ true
-has-mark c = sym c.before.is-marked.ensures ∙ c.if1.true
+has-mark c = sym c.before.is_marked.ensures ∙ c.if-is_marked.true
 
-sub-result : tie.Need-overflow-sub-result
+sub-result : tie.Need-slice_bounds-result-count
 sub-result c = omega (arith, mark_room c.before.before.before.args.text.now (has-mark c))
 
-part-result-start : tie.Need-slice-bounds-result-start
+part-result-start : tie.Need-slice_bounds-result-start
 part-result-start c = omega (arith, mark_room c.before.before.before.args.text.now (has-mark c))
 
-returns : tie.Need-returns
+returns : tie.Need-returns-then-is_marked
 unfolding unmarked
 returns c = rw (has-mark c.before) (from_place c.before.before.before.before.args.text.now 3)
 
-returns-2 : tie.Need-returns-2
+returns-2 : tie.Need-returns
 unfolding unmarked
-returns-2 c = rw (sym c.before.is-marked.ensures ∙ c.if1.false)
+returns-2 c = rw (sym c.before.is_marked.ensures ∙ c.if-is_marked.false)
 
-pub without-mark-spec : {M : Type 1} → statement M
-without-mark-spec =
+pub without_mark_spec : {M : Type 1} → statement M
+without_mark_spec =
     tie.close
     (tie.spec (λ c κs. search rules) sub-result part-result-start (λ c. search rules) returns returns-2)

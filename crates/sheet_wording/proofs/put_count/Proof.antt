@@ -5,16 +5,16 @@ use borrow.Author.Rules.{rules}
 use Rattle.sheet_wording.proofs.put_count.Statement.{statement}
 use Rattle.sheet_wording.proofs.put_count.Tie as tie
 
-returns : tie.Need-returns
+returns : tie.Need-returns-then-n-eq1
 returns c =
-    put_append c.before.before.before.before.before.before.before.put-decimal.ensures (rw (eq-eqb c.before.before.before.before.before.before.before.before.before.before.before.before.args.n 1 c.before.before.before.before.if1.true) c.before.before.put-bytes.ensures)
+    put_append c.before.before.before.before.before.before.before.put_decimal-end.ensures (rw (eq-eqb c.before.before.before.before.before.before.before.before.before.before.before.before.args.n 1 c.before.before.before.before.if-n-eq1.true) c.before.before.put_bytes.ensures)
 
-returns-2 : tie.Need-returns-2
+returns-2 : tie.Need-returns
 returns-2 c =
-    put_append c.before.before.before.before.before.before.before.put-decimal.ensures (rw (ne_eqb c.before.before.before.before.before.before.before.before.before.before.before.before.args.n 1 c.before.before.before.before.if1.false) c.before.before.put-bytes2.ensures)
+    put_append c.before.before.before.before.before.before.before.put_decimal-end.ensures (rw (ne_eqb c.before.before.before.before.before.before.before.before.before.before.before.before.args.n 1 c.before.before.before.before.if-n-eq1.false) c.before.before.put_bytes-2.ensures)
 
-pub put-count-spec : {M : Type 1} → statement M
-put-count-spec =
+pub put_count_spec : {M : Type 1} → statement M
+put_count_spec =
     tie.close
     (tie.spec
     (λ c κs. search rules)

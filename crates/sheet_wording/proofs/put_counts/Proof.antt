@@ -7,20 +7,14 @@ use Rattle.sheet_wording.proofs.put_counts.Tie as tie
 
 returns : tie.Need-returns
 returns c =
-    put_same (counts_are c.before.before.before.before.before.before.before.before.before.before.before.before.before.before.before.before.before.before.before.args.d c.before.before.before.before.before.before.before.before.before.before.before.before.before.before.before.before.before.before.before.args.cell) (put_three c.before.before.before.before.before.before.before.before.before.before.before.before.before.before.put-due.ensures c.before.before.before.before.before.before.before.before.put_count.ensures c.before.before.put-count2.ensures)
+    put_same (counts_are c.before.before.before.before.before.before.before.before.before.before.before.before.before.before.before.before.before.before.before.before.before.before.before.before.before.args.d c.before.before.before.before.before.before.before.before.before.before.before.before.before.before.before.before.before.before.before.before.before.before.before.before.before.args.cell) (put_three c.before.before.before.before.before.before.before.before.before.before.before.before.before.before.before.before.before.before.put_due-takes.ensures c.before.before.before.before.before.before.before.before.before.before.put_count-stand.ensures c.before.before.put_count.ensures)
 
-pub put-counts-spec : {M : Type 1} → statement M
-put-counts-spec =
+pub put_counts_spec : {M : Type 1} → statement M
+put_counts_spec =
     tie.close
     (tie.spec
-    (λ c. search rules)
-    (λ c. search rules)
     (λ c κs. search rules)
-    (λ c. search rules)
-    (λ c. search rules)
     (λ c κs. search rules)
-    (λ c. search rules)
-    (λ c. search rules)
     (λ c κs. search rules)
     (λ c. search rules)
     returns)

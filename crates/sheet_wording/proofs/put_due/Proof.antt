@@ -10,18 +10,16 @@ use Rattle.sheet_wording.proofs.put_due.Tie as tie
 
 returns : tie.Need-returns
 returns c =
-    put_same (ap (λ (l : List ℕ). c.before.before.before.before.before.before.before.before.before.before.before.before.before.before.before.before.before.before.before.before.before.before.before.before.before.args.before.now ++ l) (named_append _ _))
-    (put_five c.before.before.before.before.before.before.before.before.before.before.before.before.before.before.before.before.before.before.before.before.put-bytes.ensures c.before.before.before.before.before.before.before.before.before.before.before.before.before.before.before.put-bytes2.ensures c.before.before.before.before.before.before.before.before.before.before.before.put-label.ensures c.before.before.before.before.before.before.put-bytes3.ensures c.before.before.put-bytes4.ensures)
+    put_same (ap (λ (l : List ℕ). c.before.before.before.before.before.before.before.before.before.before.before.before.before.before.before.before.before.before.before.before.before.before.before.before.before.before.before.args.before.now ++ l) (named_append _ _))
+    (put_five c.before.before.before.before.before.before.before.before.before.before.before.before.before.before.before.before.before.before.before.before.before.before.put_bytes-quote.ensures c.before.before.before.before.before.before.before.before.before.before.before.before.before.before.before.before.put_bytes-label.ensures c.before.before.before.before.before.before.before.before.before.before.before.before.put_label-close.ensures c.before.before.before.before.before.before.put_bytes-end.ensures c.before.before.put_bytes.ensures)
 
-pub put-due-spec : {M : Type 1} → statement M
-put-due-spec =
+pub put_due_spec : {M : Type 1} → statement M
+put_due_spec =
     tie.close
     (tie.spec
     (λ c κs. search rules)
-    (λ c. search rules)
     (λ c κs. search rules)
     (λ c κs. search rules)
-    (λ c. search rules)
     (λ c κs. search rules)
     (λ c κs. search rules)
     (λ c. search rules)

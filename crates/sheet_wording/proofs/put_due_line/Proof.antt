@@ -8,24 +8,23 @@ use borrow.Author.Rules.{rules}
 use Rattle.sheet_wording.proofs.put_due_line.Statement.{statement}
 use Rattle.sheet_wording.proofs.put_due_line.Tie as tie
 
-returns : tie.Need-returns
+returns : tie.Need-returns-then-d-eq3
 returns c =
-    let t = c.before.before.before.before.before.before.before.before.before in
-    let a = c.before.before.before.before.before.before.before.before.before.before.before.before.before.before.args in
-    rw (or_inflation_lem a.d t.if1.true)
-    (put_same (words_between a.before.now (named (label_due a.d)) (ascii " or `inflation`") a.after.now) (put_append c.before.before.before.before.before.before.put-due.ensures c.before.before.put-bytes.ensures))
+    let t = c.before.before.before.before.before.before.before.before.before.before in
+    let a = c.before.before.before.before.before.before.before.before.before.before.before.before.before.before.before.args in
+    rw (or_inflation_lem a.d t.if-d-eq3.true)
+    (put_same (words_between a.before.now (named (label_due a.d)) (ascii " or `inflation`") a.after.now) (put_append c.before.before.before.before.before.before.put_due-end.ensures c.before.before.put_bytes.ensures))
 
-returns-2 : tie.Need-returns-2
+returns-2 : tie.Need-returns
 returns-2 c =
     let t = c.before.before.before.before in
     let a = c.before.before.before.before.before.before.before.before.before.args in
-    rw (or_none a.d t.if1.false) c.before.before.put-due2.ensures
+    rw (or_none a.d t.if-d-eq3.false) c.before.before.put_due.ensures
 
-pub put-due-line-spec : {M : Type 1} → statement M
-put-due-line-spec =
+pub put_due_line_spec : {M : Type 1} → statement M
+put_due_line_spec =
     tie.close
     (tie.spec
-    (λ c. search rules)
     (λ c κs. search rules)
     (λ c κs. search rules)
     (λ c. search rules)

@@ -8,16 +8,14 @@ use Rattle.sheet_wording.proofs.put_named.Tie as tie
 returns : tie.Need-returns
 unfolding named
 returns c =
-    put_three c.before.before.before.before.before.before.before.before.before.before.before.put-bytes.ensures c.before.before.before.before.before.before.before.put-bytes2.ensures c.before.before.put-bytes3.ensures
+    put_three c.before.before.before.before.before.before.before.before.before.before.before.before.put_bytes-start.ensures c.before.before.before.before.before.before.before.before.put_bytes-end.ensures c.before.before.put_bytes.ensures
 
-pub put-named-spec : {M : Type 1} → statement M
-put-named-spec =
+pub put_named_spec : {M : Type 1} → statement M
+put_named_spec =
     tie.close
     (tie.spec
-    (λ c. search rules)
     (λ c κs. search rules)
     (λ c κs. search rules)
-    (λ c. search rules)
     (λ c κs. search rules)
     (λ c. search rules)
     returns)

@@ -14,19 +14,16 @@ use Rattle.sheet_wording.proofs.put_number.Tie as tie
 returns : tie.Need-returns
 unfolding number_text
 returns c =
-    let a = c.before.before.before.before.before.before.before.before.before.before.before.before.before.before.before.before.before.before.before.before.before.before.before.before.before.args in
+    let a = c.before.before.before.before.before.before.before.before.before.before.before.before.before.before.before.before.before.before.before.before.before.before.before.before.before.before.before.before.args in
     put_same (ap (λ (l : List ℕ). ascii "number " ++ (decimal a.cell ++ l)) (words_between (ascii " of ") (named (label_due a.d)) (ascii " is ") (cell_text a.word.now ++ range_text a.d)))
-    (put_five c.before.before.before.before.before.before.before.before.before.before.before.before.before.before.before.before.before.before.before.before.put-bytes.ensures c.before.before.before.before.before.before.before.before.before.before.before.before.before.before.before.before.put-decimal.ensures c.before.before.before.before.before.before.before.before.before.before.put-due.ensures c.before.before.before.before.before.before.put-cell.ensures c.before.before.put-range.ensures)
+    (put_five c.before.before.before.before.before.before.before.before.before.before.before.before.before.before.before.before.before.before.before.before.before.before.put_bytes-number.ensures c.before.before.before.before.before.before.before.before.before.before.before.before.before.before.before.before.before.before.put_decimal-of.ensures c.before.before.before.before.before.before.before.before.before.before.put_due-is.ensures c.before.before.before.before.before.before.put_cell-range.ensures c.before.before.put_range.ensures)
 
-pub put-number-spec : {M : Type 1} → statement M
-put-number-spec =
+pub put_number_spec : {M : Type 1} → statement M
+put_number_spec =
     tie.close
     (tie.spec
-    (λ c. search rules)
     (λ c κs. search rules)
     (λ c κs. search rules)
-    (λ c. search rules)
-    (λ c. search rules)
     (λ c κs. search rules)
     (λ c κs. search rules)
     (λ c κs. search rules)

@@ -8,9 +8,9 @@ use Rattle.sheet_writing.proofs.put_line.Tie as tie
 returns : tie.Need-returns
 unfolding line_of
 returns c =
-    put_three c.before.before.before.before.before.before.before.before.before.before.put-label.ensures c.before.before.before.before.before.before.put-numbers.ensures c.before.before.put_byte.ensures
+    put_three c.before.before.before.before.before.before.before.before.before.before.put_label-numbers.ensures c.before.before.before.before.before.before.put_numbers-end.ensures c.before.before.put_byte.ensures
 
-pub put-line-spec : {M : Type 1} → statement M
-put-line-spec =
+pub put_line_spec : {M : Type 1} → statement M
+put_line_spec =
     tie.close
     (tie.spec (λ c κs. search rules) (λ c κs. search rules) (λ c κs. search rules) (λ c. search rules) returns)

@@ -20,7 +20,7 @@ same_length c = search rules
 returns : tie.Need-returns
 returns c =
     let kept = to_z-of_z c.before.before.before.before.before.before.before.before.before.before.ranges.z in
-    put_signed c.before.before.before.before.before.before.before.before.before.before.args.z (rw kept at c.before.before.before.type_size.ensures) (rw kept at c.before.before.before.before.before.before.before.put_sign-end.ensures) c.before.before.put_decimal.ensures
+    put_signed c.before.before.before.before.before.before.before.before.before.before.args.z (rw kept at c.before.before.before.size_of.ensures) (rw kept at c.before.before.before.before.before.before.before.put_sign-end.ensures) c.before.before.put_decimal.ensures
 
 pub put_integer_spec : {M : Type 1} → statement M
 put_integer_spec =

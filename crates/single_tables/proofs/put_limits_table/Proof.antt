@@ -10,20 +10,18 @@ use borrow.Author.Rules.{rules}
 use Rattle.single_tables.proofs.put_limits_table.Statement.{statement}
 use Rattle.single_tables.proofs.put_limits_table.Tie as tie
 
-put-picked-table-requires : tie.Need-put-picked-table-requires
+put-picked-table-requires : tie.Need-put_picked_table-requires
 unfolding every
 put-picked-table-requires c κs = picks _ _ (omega arith) (omega arith) (omega arith) refl
 
 returns : tie.Need-returns
 unfolding limits_table limit_rows places_of kinds_of padded joined styled
-returns c = c.before.before.put-picked-table.ensures
+returns c = c.before.before.put_picked_table.ensures
 
-pub put-limits-table-spec : {M : Type 1} → statement M
-put-limits-table-spec =
+pub put_limits_table_spec : {M : Type 1} → statement M
+put_limits_table_spec =
     tie.close
     (tie.spec
-    (λ c. search rules)
-    (λ c. search rules)
     put-picked-table-requires
     (λ c. search rules)
     returns)

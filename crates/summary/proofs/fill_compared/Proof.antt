@@ -11,7 +11,7 @@ use borrow.Author.Rules.{rules, sfits_of}
 use Rattle.summary.proofs.fill_compared.Statement.{statement}
 use Rattle.summary.proofs.fill_compared.Tie as tie
 
-sections-apart-requires : tie.Need-sections-apart-requires
+sections-apart-requires : tie.Need-sections_apart-requires
 sections-apart-requires c κs =
     let s = c in
     let k = s.args.k in
@@ -19,7 +19,7 @@ sections-apart-requires c κs =
     let part = spans k s.args.figures.now s.requires.0 s.requires.1.1 in
     rw s.requires.1.0 (omega arith, (part (added_at k).ultimates (k + 1) (omega arith) (omega arith), part (added_at k).ladder (k + 1) (omega arith) (omega arith)))
 
-sections-together-requires : tie.Need-sections-together-requires
+sections-together-requires : tie.Need-sections_together-requires
 sections-together-requires c κs =
     let s = c.before in
     let k = s.args.k in
@@ -31,17 +31,17 @@ returns : tie.Need-returns
 unfolding compared_of
 returns c =
     let s = c.before.before.before in
-    let apart = to_z-of_z {w = w64} {z = c.before.before.sections-apart.result} (sfits_of c.before.before.sections-apart.type_inv) in
-    let together = to_z-of_z {w = w64} {z = c.before.sections-together.result} (sfits_of c.before.sections-together.type_inv) in
+    let apart = to_z-of_z {w = w64} {z = c.before.before.sections_apart.result} (sfits_of c.before.before.sections_apart.type_inv) in
+    let together = to_z-of_z {w = w64} {z = c.before.sections_together.result} (sfits_of c.before.sections_together.type_inv) in
     let tails = to_z-of_z {w = w64} {z = c.tail_allowance_lem.result} (sfits_of c.tail_allowance_lem.type_inv) in
     rw (
-      apart ∙ (rw s.requires.1.0 at c.before.before.sections-apart.ensures),
-      together ∙ (rw s.requires.1.0 at c.before.sections-together.ensures),
+      apart ∙ (rw s.requires.1.0 at c.before.before.sections_apart.ensures),
+      together ∙ (rw s.requires.1.0 at c.before.sections_together.ensures),
       tails ∙ c.tail_allowance_lem.ensures,
     )
 
-pub fill-compared-spec : {M : Type 1} → statement M
-fill-compared-spec =
+pub fill_compared_spec : {M : Type 1} → statement M
+fill_compared_spec =
     tie.close
     (tie.spec
     (λ c. search rules)

@@ -11,37 +11,37 @@ use borrow.Author.Rules.{rules}
 use Rattle.summary.proofs.largest_cumulative.Statement.{statement}
 use Rattle.summary.proofs.largest_cumulative.Tie as tie
 
-section-largest-requires : tie.Need-section-largest-requires
+section-largest-requires : tie.Need-section_largest-requires
 section-largest-requires c κs =
     let s = c.before in
     let k = s.args.k in
     let p = all_placed k s.requires.0 in
-    rw (s.requires.1.1.0, c.Cells-of.ensures.0) (spans k s.args.figures.now s.requires.0 s.requires.1.1.1 (added_at k).cumulatives (cells k) (omega arith) (omega arith))
+    rw (s.requires.1.1.0, c.cells_of-m.ensures.0) (spans k s.args.figures.now s.requires.0 s.requires.1.1.1 (added_at k).cumulatives (cells k) (omega arith) (omega arith))
 
-section-largest-requires-2 : tie.Need-section-largest-requires-2
+section-largest-requires-2 : tie.Need-section_largest-requires-2
 section-largest-requires-2 c κs =
     let s = c.before.before in
     let k = s.args.k in
     let p = all_placed k s.requires.0 in
-    rw (s.requires.1.0, c.before.Cells-of.ensures.0) (spans k s.args.figures.now s.requires.0 s.requires.1.1.1 (starts_of k).completed (cells k - (k + 1)) (omega arith) (omega arith))
+    rw (s.requires.1.0, c.before.cells_of-m.ensures.0) (spans k s.args.figures.now s.requires.0 s.requires.1.1.1 (starts_of k).completed (cells k - (k + 1)) (omega arith) (omega arith))
 
 returns : tie.Need-returns
 unfolding largest_cumulative
 returns c =
     let s = c.before.before.before.before in
-    let m = c.before.before.before.Cells-of.ensures.0 in
-    let first = rw (s.requires.1.1.0, m) at c.before.before.section-largest.ensures in
-    let second = rw (s.requires.1.0, m) at c.before.section-largest2.ensures in
+    let m = c.before.before.before.cells_of-m.ensures.0 in
+    let first = rw (s.requires.1.1.0, m) at c.before.before.section_largest.ensures in
+    let second = rw (s.requires.1.0, m) at c.before.section_largest-2.ensures in
     (c.larger.ensures ∙ ap₂ max first.0 second.0, omega (arith, c.larger.ensures, first.1, second.1))
 
-pub largest-cumulative-spec : {M : Type 1} → statement M
-largest-cumulative-spec =
+pub largest_cumulative_spec : {M : Type 1} → statement M
+largest_cumulative_spec =
     tie.close
     (tie.spec
     (λ c κs. search rules)
     section-largest-requires
     (λ c. search rules)
-    (λ c. omega (arith, all_placed c.before.before.args.k c.before.before.requires.0, c.before.Cells-of.ensures.0))
+    (λ c. omega (arith, all_placed c.before.before.args.k c.before.before.requires.0, c.before.cells_of-m.ensures.0))
     section-largest-requires-2
     (λ c κs. search rules)
     returns)

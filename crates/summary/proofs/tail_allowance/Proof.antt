@@ -13,7 +13,7 @@ use borrow.Author.Rules.{rules, sfits_of}
 use Rattle.summary.proofs.tail_allowance.Statement.{statement}
 use Rattle.summary.proofs.tail_allowance.Tie as tie
 
-section-sum-requires : tie.Need-section-sum-requires
+section-sum-requires : tie.Need-section_sum-requires
 section-sum-requires c κs =
     let s = c in
     let k = s.args.k in
@@ -22,19 +22,19 @@ section-sum-requires c κs =
 
 add-requires : tie.Need-add-requires
 add-requires c κs =
-    let claims = to_z-of_z {w = w64} {z = c.section-sum.result} (sfits_of c.section-sum.type_inv) in
+    let claims = to_z-of_z {w = w64} {z = c.section_sum.result} (sfits_of c.section_sum.type_inv) in
     let years = to_z_pos w64 (100 * (c.before.args.k + 1)) (omega (arith, c.before.requires.0)) in
-    (rw claims (omega (arith, c.section-sum.ensures.1, c.before.requires.0)), rw years (omega (arith, c.before.requires.0)))
+    (rw claims (omega (arith, c.section_sum.ensures.1, c.before.requires.0)), rw years (omega (arith, c.before.requires.0)))
 
 returns : tie.Need-returns
 unfolding tail_allowance
 returns c =
     let s = c.before.before in
-    let claims = to_z-of_z {w = w64} {z = c.before.section-sum.result} (sfits_of c.before.section-sum.type_inv) in
+    let claims = to_z-of_z {w = w64} {z = c.before.section_sum.result} (sfits_of c.before.section_sum.type_inv) in
     let years = to_z_pos w64 (100 * (s.args.k + 1)) (omega (arith, s.requires.0)) in
     let sum = to_z-of_z {w = w64} {z = c.add.result} (sfits_of c.add.type_inv) in
-    sum ∙ c.add.ensures ∙ ap₂ ◌+ℤ◌ (claims ∙ (rw s.requires.1.0 at c.before.section-sum.ensures.0)) years
+    sum ∙ c.add.ensures ∙ ap₂ ◌+ℤ◌ (claims ∙ (rw s.requires.1.0 at c.before.section_sum.ensures.0)) years
 
-pub tail-allowance-spec : {M : Type 1} → statement M
-tail-allowance-spec =
+pub tail_allowance_spec : {M : Type 1} → statement M
+tail_allowance_spec =
     tie.close (tie.spec (λ c. search rules) section-sum-requires (λ c. search rules) (λ c. search rules) add-requires returns)

@@ -52,8 +52,8 @@ returns c =
     let sum = to_z-of_z {w = w64} {z = c.add.result} (sfits_of c.add.type_inv) in
     rw (sum ∙ c.add.ensures, p, q, kept s s.args.starts.ratio t.ratio, s.requires.1.0)
 
-pub fill-entries-spec : {M : Type 1} → statement M
-fill-entries-spec =
+pub fill_entries_spec : {M : Type 1} → statement M
+fill_entries_spec =
     tie.close
     (tie.spec
     (λ c. omega (arith, three c))

@@ -24,8 +24,8 @@ returns c =
       to_z_pos w64 s.args.correction.divisor (omega arith),
     )
 
-pub fill-given-spec : {M : Type 1} → statement M
-fill-given-spec =
+pub fill_given_spec : {M : Type 1} → statement M
+fill_given_spec =
     tie.close
     (tie.spec
     (λ c. search rules)

@@ -9,8 +9,8 @@ returns : tie.Need-returns
 unfolding limits
 returns c = refl
 
-pub fill-limits-spec : {M : Type 1} → statement M
-fill-limits-spec =
+pub fill_limits_spec : {M : Type 1} → statement M
+fill_limits_spec =
     tie.close
     (tie.spec
     (λ c. search rules)

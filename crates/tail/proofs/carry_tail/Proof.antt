@@ -58,7 +58,7 @@ module _ (c : tie.After-fill_tails) where
 
   done : (b : Bool) → c.fill_tails.result ≡ b
       → (cond b 0 19 ≡ first_no (tail_questions s.args.k (first_tail_average s.args.tail s.args.exposures.now) s.args.indices.now))
-      × (c.fill_tails.new.indices.1.1.1.0
+      × (c.fill_tails.new.tails
       ≡ sets s.args.tails.now 0 (tails_carried s.args.k s.args.exposures.now (first_tail_average s.args.tail s.args.exposures.now) s.args.indices.now))
   done b is = (
     nineteen s.args.k s.args.exposures.now _ s.args.indices.now low b (rw (first at) at (sym c.fill_tails.ensures.0) ∙ is),

@@ -32,7 +32,7 @@ returns : tie.Need-returns
 unfolding first_tail_average
 returns c =
     let a = c.before in
-    c.type_size.ensures ∙ ap nat_abs (to_z-of_z {w = w64} {z = a.average.result} (sfits_of a.average.type_inv) ∙ (rw (signed a.before.before.before) at a.average.ensures.0))
+    c.size_of.ensures ∙ ap nat_abs (to_z-of_z {w = w64} {z = a.average.result} (sfits_of a.average.type_inv) ∙ (rw (signed a.before.before.before) at a.average.ensures.0))
 
 pub first_tail_average_spec : {M : Type 1} → statement M
 first_tail_average_spec = tie.close (tie.spec cast-average element-copy-out-average average-requires size-of-requires returns)

@@ -18,7 +18,7 @@ bytes : (c : tie.After-read-opened) → Fit 8 (start c).args.packed.now
 bytes c i = omega (arith, c.before.before.before.before.before.before.shared_slice_known-1.given i)
 
 arrays : (c : tie.After-read-opened) → Filled (start c).args.packed.now
-arrays c = let s = start c in figures_filled s.args.packed.now (bytes c) s.pre.0 s.pre.1.0
+arrays c = let s = start c in figures_filled s.args.packed.now (bytes c) s.requires.0 s.requires.1.0
 
 returns : tie.Need-returns
 returns c =
@@ -27,8 +27,8 @@ returns c =
     let held : ℕ → List ℕ → List ℕ = λ i l. sets l 0 (row_read s.args.packed.now i) in (
       read.1.1.1.1.1.1.1 ∙ (arrays c).tail,
       (
-        read.1.1.0 ∙ ap (held 1) s.pre.1.1.0 ∙ (arrays c).exposures,
-        read.1.1.1.1.0 ∙ ap (held 3) s.pre.1.1.1 ∙ (arrays c).indices,
+        read.1.1.0 ∙ ap (held 1) s.requires.1.1.0 ∙ (arrays c).exposures,
+        read.1.1.1.1.0 ∙ ap (held 3) s.requires.1.1.1 ∙ (arrays c).indices,
       ),
     )
 

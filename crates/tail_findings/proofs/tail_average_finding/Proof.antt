@@ -51,7 +51,7 @@ low : (c : tie.After-first_tail_average-first) → first_tail_average_of (F c.be
 low c =
     let at = c.before.before in
     let s = start at in
-    average_low (F at) (tail_yes s.args.year s.args.packed.now 19 refl s.pre)
+    average_low (F at) (tail_yes s.args.year s.args.packed.now 19 refl s.requires)
 
 last-year-of-requires : tie.Need-last_year_of-requires
 last-year-of-requires c κs =
@@ -83,7 +83,7 @@ few : (c : tie.After-first_over-i) → c.first_over-i.result < 16
 few c =
     let at = (years c).before.before.before in
     let s = start at in
-    omega (arith, over c, over_year (F at) (tails_no s.args.year s.args.packed.now s.pre), (good at).few)
+    omega (arith, over c, over_year (F at) (tails_no s.args.year s.args.packed.now s.requires), (good at).few)
 
 tail-average-requires : tie.Need-tail_average-requires
 tail-average-requires c κs =

@@ -11,27 +11,27 @@ use Rattle.text_packing.proofs.pack_text.Statement.{statement}
 use Rattle.text_packing.proofs.pack_text.Tie as tie
 
 -- what was asked
-asked : (a : tie.After-fault-asked) → a.fault-asked.result ≡ fault_of a.before.before.before.before.args.text.now
-asked a = a.fault-asked.ensures ∙ ap (λ (t : List ℕ). fault_asked (lines t)) a.before.without-mark.ensures
+asked : (a : tie.After-fault_asked-fault) → a.fault_asked-fault.result ≡ fault_of a.before.before.before.before.args.text.now
+asked a = a.fault_asked-fault.ensures ∙ ap (λ (t : List ℕ). fault_asked (lines t)) a.before.without_mark-rest.ensures
 
-returns : tie.Need-returns
+returns : tie.Need-returns-then-fault-ne0
 returns c =
     let a = c.before.before.before.before.before.before in
     let s = a.before.before.before.before.args in
-    let f = a.fault-asked.result in
-    let w = faulty s.text.now f (asked a) c.before.before.before.before.if1.true s.packed.now in
-    (w.0, (w.1.0, put_same (ap (λ (t : List ℕ). fault_line (lines t) f) a.before.without-mark.ensures ∙ w.1.1) c.before.before.put-fault.ensures))
+    let f = a.fault_asked-fault.result in
+    let w = faulty s.text.now f (asked a) c.before.before.before.before.if-fault-ne0.true s.packed.now in
+    (w.0, (w.1.0, put_same (ap (λ (t : List ℕ). fault_line (lines t) f) a.before.without_mark-rest.ensures ∙ w.1.1) c.before.before.put_fault-said.ensures))
 
-returns-2 : tie.Need-returns-2
+returns-2 : tie.Need-returns
 returns-2 c =
     let a = c.before.before.before.before.before.before.before in
     let s = a.before.before.before.before.args in
-    let p = c.before.before.pack-sheet.ensures in
-    let w = faultless s.text.now _ (asked a) c.before.before.before.before.before.if1.false s.packed.now in
+    let p = c.before.before.pack_sheet.ensures in
+    let w = faultless s.text.now _ (asked a) c.before.before.before.before.before.if-fault-ne0.false s.packed.now in
     (p.0 ∙ w.0, (p.1.0 ∙ w.1.0, put_same w.1.1 p.1.1))
 
-pub pack-text-spec : {M : Type 1} → statement M
-pack-text-spec =
+pub pack_text_spec : {M : Type 1} → statement M
+pack_text_spec =
     tie.close
     (tie.spec
     (λ c κs. search rules)

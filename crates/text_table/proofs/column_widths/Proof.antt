@@ -9,40 +9,40 @@ use borrow.Author.Rules.{rules}
 use Rattle.text_table.proofs.column_widths.Statement.{statement}
 use Rattle.text_table.proofs.column_widths.Tie as tie
 
-abbrev invariant-loop : tie.invariant-loop
+abbrev invariant-loop : tie.invariant-loop-j
 invariant-loop words total shape values styles widths₀ n j₀ widths j =
     (j ≤ n) × (widths ≡ padded 20 0 (up_to (column_width words total shape values styles) j))
 
-abbrev decreases-loop : tie.decreases-loop
+abbrev decreases-loop : tie.decreases-loop-j
 decreases-loop words total shape values styles widths₀ n j₀ widths j = n - j
 
-loop-holds : tie.Need-loop-init invariant-loop decreases-loop
+loop-holds : tie.Need-loop-j-init invariant-loop decreases-loop
 loop-holds c =
     let a = c.before.before.args in
     (omega arith, filled_none 20 0 (column_width a.words.now a.total.now a.shape a.values.now a.styles.now))
 
-width-of-requires : tie.Need-width-of-requires invariant-loop decreases-loop
+width-of-requires : tie.Need-width_of-requires invariant-loop decreases-loop
 width-of-requires c κs = (c.before.before.before.before.requires, omega arith)
 
-mul-widths : tie.Need-overflow-mul-widths invariant-loop decreases-loop
+mul-widths : tie.Need-offset_bounds-widths-j invariant-loop decreases-loop
 mul-widths c = omega (arith, c.before.before.before.before.before.requires.columns_most)
 
-array-write-widths : tie.Need-array-write-widths invariant-loop decreases-loop
+array-write-widths : tie.Need-bounds-widths-j invariant-loop decreases-loop
 array-write-widths c = omega (arith, c.before.before.before.before.before.requires.columns_most)
 
-loop-again : tie.Need-loop-preserved invariant-loop decreases-loop
+loop-again : tie.Need-loop-j-preserved invariant-loop decreases-loop
 loop-again c =
     let a = c.before.before.before.before.before.args in
     let f = column_width a.words.now a.total.now a.shape a.values.now a.styles.now in
-    let j = c.before.before.loop.j in
-    (omega arith, rw (c.before.before.loop.invariant.1, c.width_of_lem.ensures) (filled_more 20 0 f j (omega (arith, c.before.before.before.before.before.requires.columns_most))))
+    let j = c.before.before.loop-j.j in
+    (omega arith, rw (c.before.before.loop-j.invariant.1, c.width_of_lem.ensures) (filled_more 20 0 f j (omega (arith, c.before.before.before.before.before.requires.columns_most))))
 
 returns : tie.Need-returns invariant-loop decreases-loop
 returns c =
-    let e : c.before.loop.j ≡ c.before.before.before.before.args.shape.columns = omega arith in
-    rw e at c.before.loop.invariant.1
+    let e : c.before.loop-j.j ≡ c.before.before.before.before.args.shape.columns = omega arith in
+    rw e at c.before.loop-j.invariant.1
 
-pub column-widths-spec : {M : Type 1} → statement M
-column-widths-spec =
+pub column_widths_spec : {M : Type 1} → statement M
+column_widths_spec =
     tie.close
     (tie.spec invariant-loop decreases-loop loop-holds width-of-requires mul-widths array-write-widths (λ c. search rules) (λ c. search rules) loop-again returns)

@@ -7,9 +7,14 @@ use Rattle.text_table.proofs.put_head_line.Tie as tie
 
 returns : tie.Need-returns
 unfolding head_line
-returns c = put_three c.before.before.before.before.before.before.before.before.before.before.before.put-left-line.ensures c.before.before.before.before.before.before.before.put-column-heads.ensures c.before.before.put-bytes.ensures
+returns c = put_three c.before.before.before.before.before.before.before.before.before.before.before.before.put_left_line-heads.ensures c.before.before.before.before.before.before.before.before.put_column_heads-end.ensures c.before.before.put_bytes.ensures
 
-pub put-head-line-spec : {M : Type 1} → statement M
-put-head-line-spec =
+pub put_head_line_spec : {M : Type 1} → statement M
+put_head_line_spec =
     tie.close
-    (tie.spec (λ c κs. search rules) (λ c κs. search rules) (λ c. search rules) (λ c κs. search rules) (λ c. search rules) returns)
+    (tie.spec
+    (λ c κs. search rules)
+    (λ c κs. search rules)
+    (λ c κs. search rules)
+    (λ c. search rules)
+    returns)

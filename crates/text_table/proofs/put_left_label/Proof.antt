@@ -10,9 +10,9 @@ use Rattle.text_table.proofs.put_left_label.Tie as tie
 returns : tie.Need-returns
 returns c =
     let a = c.before.before.before.before.before.before.before.before.before.before.before.before.before.args in
-    put_at_left a.w (label a.labels.now a.total.now a.shape a.i) (c.before.before.before.left-of.ensures ∙ ap (λ (n : ℕ). a.w - n) c.before.before.before.before.label-length.ensures) c.before.before.before.before.before.before.before.before.put-label.ensures c.before.before.put-spaces.ensures
+    put_at_left a.w (label a.labels.now a.total.now a.shape a.i) (c.before.before.before.left_of.ensures ∙ ap (λ (n : ℕ). a.w - n) c.before.before.before.before.label_length.ensures) c.before.before.before.before.before.before.before.before.put_label-end.ensures c.before.before.put_spaces.ensures
 
-pub put-left-label-spec : {M : Type 1} → statement M
-put-left-label-spec =
+pub put_left_label_spec : {M : Type 1} → statement M
+put_left_label_spec =
     tie.close
     (tie.spec (λ c κs. search rules) (λ c κs. search rules) (λ c κs. search rules) (λ c κs. search rules) (λ c. search rules) returns)

@@ -10,9 +10,9 @@ use Rattle.text_table.proofs.put_left_line.Tie as tie
 returns : tie.Need-returns
 returns c =
     let a = c.before.before.before.before.before.before.before.before.before.before.before.before.args in
-    put_at_left a.w (line_of a.n a.text.now) (c.before.before.before.left-of.ensures ∙ ap (λ (n : ℕ). a.w - n) c.before.before.before.before.line-length.ensures) c.before.before.before.before.before.before.before.before.put-line.ensures c.before.before.put-spaces.ensures
+    put_at_left a.w (line_of a.n a.text.now) (c.before.before.before.left_of.ensures ∙ ap (λ (n : ℕ). a.w - n) c.before.before.before.before.line_length.ensures) c.before.before.before.before.before.before.before.before.put_line-end.ensures c.before.before.put_spaces.ensures
 
-pub put-left-line-spec : {M : Type 1} → statement M
-put-left-line-spec =
+pub put_left_line_spec : {M : Type 1} → statement M
+put_left_line_spec =
     tie.close
     (tie.spec (λ c κs. search rules) (λ c κs. search rules) (λ c κs. search rules) (λ c κs. search rules) (λ c. search rules) returns)

@@ -53,7 +53,7 @@ asked : (c : tie.After-totals_pass) (q : List (List ℤ)) → Whose (start c) q 
 asked c q of =
     let s = start c in
     c.totals_pass.ensures.0
-    ∙ seven q s.args.k s.pre.0 of.outside s.args.columns.now s.args.diagonals.now (column_at s q of) (diagonal_at s q of)
+    ∙ seven q s.args.k s.requires.0 of.outside s.args.columns.now s.args.diagonals.now (column_at s q of) (diagonal_at s q of)
 
 returns : tie.Need-returns-then-not-totals_pass
 returns c =
@@ -65,14 +65,14 @@ returns c =
     }
 
 -- where it says yes, the lists hold the sizes of the totals
-totals : (c : tie.Else-not-totals_pass) (q : List (List ℤ)) → Whose (start c.before) q → TotalsOf q (start c.before).args.k c.before.totals_pass.new.d.1.1.0 c.before.totals_pass.new.d.1.1.1.0
+totals : (c : tie.Else-not-totals_pass) (q : List (List ℤ)) → Whose (start c.before) q → TotalsOf q (start c.before).args.k c.before.totals_pass.new.v c.before.totals_pass.new.d
 unfolding column_of diagonal_of
 totals c q of =
     let s = start c.before in
     let pass = c.if-not-totals_pass.false in
     let sizes = c.before.totals_pass.ensures.1 pass in
     record {
-      few = s.pre.0;
+      few = s.requires.0;
       outside = of.outside;
       pass = sym (asked c.before q of) ∙ pass;
       column = λ h l. sizes.0 h (omega arith) ∙ ap nat_abs (column_at s q of h l);
@@ -80,24 +80,24 @@ totals c q of =
     }
 
 -- those of the one square
-abbrev some : (c : tie.Else-not-totals_pass) → TotalsOf (start c.before).requires.1.0.0 (start c.before).args.k c.before.totals_pass.new.d.1.1.0 c.before.totals_pass.new.d.1.1.1.0
+abbrev some : (c : tie.Else-not-totals_pass) → TotalsOf (start c.before).requires.1.0.0 (start c.before).args.k c.before.totals_pass.new.v c.before.totals_pass.new.d
 some c = totals c (start c.before).requires.1.0.0 (start c.before).requires.1.0.1
 
-diagonals_most : (c : tie.Else-not-totals_pass) (i : ℕ) → i ≤ (start c.before).args.k → get_or c.before.totals_pass.new.d.1.1.1.0 i 0 ≤ billion
+diagonals_most : (c : tie.Else-not-totals_pass) (i : ℕ) → i ≤ (start c.before).args.k → get_or c.before.totals_pass.new.d i 0 ≤ billion
 diagonals_most c i l =
     let s = start c.before in
     let of = some c in
-    rw (of.diagonal i l) (diagonal_most s.pre.1.0.0 s.args.k s.pre.0 of.outside of.pass i l)
+    rw (of.diagonal i l) (diagonal_most s.requires.1.0.0 s.args.k s.requires.0 of.outside of.pass i l)
 
 fill-corners-requires : tie.Need-fill_corners-requires
 fill-corners-requires c κs =
-    let at = c.before.before.before in
+    let at = c.before in
     let s = start at.before in
-    (s.pre.0, (diagonals_most at, s.pre.1.1.1.1))
+    (s.requires.0, (diagonals_most at, s.requires.1.1.1.1))
 
 -- what question 8 answers
 abbrev passed : tie.After-fill_corners → tie.Else-not-totals_pass
-passed c = c.before.before.before.before
+passed c = c.before.before
 
 returns-2 : tie.Need-returns-then-not-fill_corners
 returns-2 c =
@@ -118,7 +118,7 @@ begun c = start (passed c.before).before
 yes-eight : (c : tie.Else-not-fill_corners) (q : List (List ℤ)) → Whose (begun c) q → rests_pass q (begun c).args.k ≡ true
 yes-eight c q of = sym (c.before.fill_corners.ensures q (totals (passed c.before) q of)).0 ∙ c.if-not-fill_corners.false
 
-corners-found : (c : tie.Else-not-fill_corners) (q : List (List ℤ)) → Whose (begun c) q → CornersOf q (begun c).args.k c.before.fill_corners.new.diagonals.1.1.0
+corners-found : (c : tie.Else-not-fill_corners) (q : List (List ℤ)) → Whose (begun c) q → CornersOf q (begun c).args.k c.before.fill_corners.new.totals
 corners-found c q of = (c.before.fill_corners.ensures q (totals (passed c.before) q of)).1 (c.if-not-fill_corners.false)
 
 returns-3 : tie.Need-returns

@@ -77,7 +77,7 @@ add-sum c =
     let l = c.before.before.before.before.before.before.before.loop-i in
     let s = c.before.before.before.before.before.before.before.before in
     rw (to_z-of_z {w = w64} {z = get_or s.args.columns.now l.i (pos 0)} (sfits_of c.before.before.before.before.before.a-1.given))
-    (record { fits = omega (arith, l.invariant.sum_most, small c) })
+    (record { fits = omega (arith, l.invariant.sum_most, small c.before.before) })
 
 add-i : tie.Need-overflow_step-i invariant-loop decreases-loop
 add-i c = omega arith
@@ -90,7 +90,7 @@ loop-again c =
     let l = c.before.before.before.before.before.before.before.loop-i in
     let s = c.before.before.before.before.before.before.before.before in
     more s.args.columns.now s.args.diagonals.now s.args.n l.v l.d l.sum l.i l.invariant (omega arith) s.requires.0
-    (sfits_of c.before.before.before.before.before.a-1.given) c.before.before.before.before.if-a-lt0.false (sfits_of c.before.before.before.b-1.given) c.before.before.if-b-lt0.false (small c)
+    (sfits_of c.before.before.before.before.before.a-1.given) c.before.before.before.before.if-a-lt0.false (sfits_of c.before.before.before.b-1.given) c.before.before.if-b-lt0.false (small c.before.before)
 
 returns-3 : tie.Need-returns invariant-loop decreases-loop
 returns-3 c =

@@ -52,7 +52,7 @@ add-sum-2 c =
     let a = s.args in
     let i = c.before.before.loop-i.i in
     let is : get_or a.values.now (i * a.columns + a.j) (pos 0) ≡ term a.values.now a.columns a.rows a.j i = sym (term_is a.values.now a.columns a.rows a.j i s.requires.1.1.0 (omega arith)) in
-    rw is (step_fits (term a.values.now a.columns a.rows a.j) most_value (term_small a.values.now a.columns a.rows a.j s.requires.1.1.1) i c.before.before.loop-i.sum (omega (arith, s.requires.1.0)) c.before.before.loop-i.invariant.1)
+    rw is (step_fits (term a.values.now a.columns a.rows a.j) most_value (term_small a.values.now a.columns a.rows a.j s.requires.1.1.1) i c.before.before.loop-i.sum-bits (omega (arith, s.requires.1.0)) c.before.before.loop-i.invariant.1)
 
 loop-again : tie.Need-loop-i-preserved invariant-loop decreases-loop
 loop-again c =
@@ -60,14 +60,14 @@ loop-again c =
     let a = s.args in
     let i = c.before.before.loop-i.i in
     let is : get_or a.values.now (i * a.columns + a.j) (pos 0) ≡ term a.values.now a.columns a.rows a.j i = sym (term_is a.values.now a.columns a.rows a.j i s.requires.1.1.0 (omega arith)) in
-    (omega arith, rw is (ap (of_z w64) (sum_to_step (term a.values.now a.columns a.rows a.j) most_value (term_small a.values.now a.columns a.rows a.j s.requires.1.1.1) i c.before.before.loop-i.sum (omega (arith, s.requires.1.0)) c.before.before.loop-i.invariant.1)))
+    (omega arith, rw is (ap (of_z w64) (sum_to_step (term a.values.now a.columns a.rows a.j) most_value (term_small a.values.now a.columns a.rows a.j s.requires.1.1.1) i c.before.before.loop-i.sum-bits (omega (arith, s.requires.1.0)) c.before.before.loop-i.invariant.1)))
 
 returns : tie.Need-returns invariant-loop decreases-loop
 returns c =
     let s = c.before.before in
     let a = s.args in
     let e : c.before.loop-i.i ≡ a.rows = omega arith in
-    sum_to_read (term a.values.now a.columns a.rows a.j) most_value (term_small a.values.now a.columns a.rows a.j s.requires.1.1.1) a.rows c.before.loop-i.sum (omega (arith, s.requires.1.0)) (rw e at c.before.loop-i.invariant.1)
+    sum_to_read (term a.values.now a.columns a.rows a.j) most_value (term_small a.values.now a.columns a.rows a.j s.requires.1.1.1) a.rows c.before.loop-i.sum-bits (omega (arith, s.requires.1.0)) (rw e at c.before.loop-i.invariant.1)
     ∙ term_sum a.values.now a.columns a.rows a.j s.requires.1.1.0
 
 pub column_sum_spec : {M : Type 1} → statement M

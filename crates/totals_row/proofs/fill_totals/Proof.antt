@@ -49,7 +49,7 @@ loop-again c =
     let n = a.rows * a.columns in
     let f = total_value a.values.now a.columns a.rows a.first a.end in
     let g = total_style a.styles.now a.first a.end in
-    let kept : to_z w64 (of_z w64 c.before.before.before.total_value-total.result) ≡ c.before.before.before.total_value-total.result = to_z-of_z (sfits_of c.before.before.before.total_value-total.type_inv) in
+    let kept : to_z w64 (of_z w64 c.before.before.before.total_value-total.result) ≡ c.before.before.before.total_value-total.result = to_z-of_z {w = w64} (sfits_of c.before.before.before.total_value-total.type_inv) in
     let value : c.before.before.before.total_value-total.result ≡ f j = c.before.before.before.total_value-total.ensures ∙ value_same c.before.before.before.before.before.loop-j.values a.values.now a.columns a.rows a.first a.end j (omega arith) (λ p h. ap (λ (l : List ℤ). get_or l p (pos 0)) c.before.before.before.before.before.loop-j.invariant.1 ∙ before_kept (up_to f j) a.values.now n p (pos 0) h) in
     let first : get_or c.before.before.before.before.before.loop-j.styles j 0 ≡ get_or a.styles.now j 0 = ap (λ (l : List ℕ). get_or l j 0) c.before.before.before.before.before.loop-j.invariant.2 ∙ before_kept (up_to g j) a.styles.now n j 0 (omega (arith, mul-le-mul_right a.columns s.requires.1.0)) in
     let style : c.total_style-style.result ≡ g j = c.total_style-style.ensures ∙ ap (λ (x : ℕ). cond (has_total a.first a.end j) (styled 0 (decimals_of x)) 0) first in (

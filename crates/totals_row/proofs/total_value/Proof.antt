@@ -1,4 +1,5 @@
 -- The sum, or 0. Assumes nothing.
+use mir.Syntax.{w64}
 use mathlib.Core.Path.{sym, ◌∙◌}
 use mir.Facts.{to_z-of_z}
 use borrow.Author.Rules.{rules, sfits_of}
@@ -11,7 +12,7 @@ column-sum-requires c κs = c.before.before.requires
 
 returns : tie.Need-returns-then-has_total
 unfolding total_value
-returns c = rw (sym c.before.before.has_total.ensures ∙ c.before.if-has_total.true) (to_z-of_z (sfits_of c.column_sum.type_inv) ∙ c.column_sum.ensures)
+returns c = rw (sym c.before.before.has_total.ensures ∙ c.before.if-has_total.true) (to_z-of_z {w = w64} (sfits_of c.column_sum.type_inv) ∙ c.column_sum.ensures)
 
 returns-2 : tie.Need-returns-else-has_total
 unfolding total_value

@@ -1,4 +1,5 @@
 -- All are far below 2^63. Assumes nothing.
+use mir.Syntax.{w64}
 use mathlib.Core.Path.{◌≡◌, ap₂, ◌∙◌}
 use native.Mathlib.Omega.{arith}
 use lib.IntN.{ℤ, ◌+ℤ◌, ◌-ℤ◌}
@@ -15,13 +16,13 @@ add-requires : tie.Need-add-requires
 add-requires c κs =
     let s = c.before in
     let e : c.subtract.result ≡ s.args.t -ℤ s.args.d = c.subtract.ensures ∙ ap₂ (λ (a b : ℤ). a -ℤ b) (to_z-of_z s.ranges.t) (to_z-of_z s.ranges.d) in
-    rw (to_z-of_z (sfits_of c.subtract.type_inv), to_z-of_z s.ranges.v, e) (omega (arith, difference_size s.args.t s.args.d, s.requires.0, s.requires.1.0), omega (arith, s.requires.1.1))
+    rw (to_z-of_z {w = w64} (sfits_of c.subtract.type_inv), to_z-of_z s.ranges.v, e) (omega (arith, difference_size s.args.t s.args.d, s.requires.0, s.requires.1.0), omega (arith, s.requires.1.1))
 
 returns : tie.Need-returns
 returns c =
     let s = c.before.before in
     let e : c.before.subtract.result ≡ s.args.t -ℤ s.args.d = c.before.subtract.ensures ∙ ap₂ (λ (a b : ℤ). a -ℤ b) (to_z-of_z s.ranges.t) (to_z-of_z s.ranges.d) in
-    to_z-of_z (sfits_of c.add.type_inv) ∙ c.add.ensures ∙ ap₂ (λ (a b : ℤ). a +ℤ b) (to_z-of_z (sfits_of c.before.subtract.type_inv) ∙ e) (to_z-of_z s.ranges.v)
+    to_z-of_z {w = w64} (sfits_of c.add.type_inv) ∙ c.add.ensures ∙ ap₂ (λ (a b : ℤ). a +ℤ b) (to_z-of_z {w = w64} (sfits_of c.before.subtract.type_inv) ∙ e) (to_z-of_z s.ranges.v)
 
 pub next_corner_spec : {M : Type 1} → statement M
 next_corner_spec = tie.close (tie.spec subtract-requires add-requires returns)

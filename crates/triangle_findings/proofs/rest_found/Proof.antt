@@ -65,7 +65,7 @@ next-corner-requires c κs =
     let d = s.args.diagonals.now in
     let a = s.requires.1.0 in
     let b = s.requires.1.1.0 in
-    rw (corner_held v d a b l.m l.t-1 (omega arith) l.invariant.1.0, total_held d b l.m, total_held v a (l.m + 1))
+    rw (corner_held v d a b l.m l.t (omega arith) l.invariant.1.0, total_held d b l.m, total_held v a (l.m + 1))
     (corner_size (λ j. get_or v j (pos 0)) (λ h. get_or d h (pos 0)) a b l.m (omega arith), (omega (arith, b l.m), omega (arith, a (l.m + 1))))
 
 -- the T of the year after m, and what it leaves above its column
@@ -79,12 +79,12 @@ next-is c =
     let a = s.requires.1.0 in
     let b = s.requires.1.1.0 in
     c.next_corner-t.ensures
-    ∙ ap₂ (λ (x y : ℤ). x +ℤ y) (ap₂ (λ (x y : ℤ). x -ℤ y) (corner_held v d a b l.m l.t-1 (omega arith) l.invariant.1.0) (total_held d b l.m)) (total_held v a (l.m + 1))
+    ∙ ap₂ (λ (x y : ℤ). x +ℤ y) (ap₂ (λ (x y : ℤ). x -ℤ y) (corner_held v d a b l.m l.t (omega arith) l.invariant.1.0) (total_held d b l.m)) (total_held v a (l.m + 1))
     ∙ corner_next (λ j. get_or v j (pos 0)) (λ h. get_or d h (pos 0)) l.m
 
 next-held : (c : tie.After-next_corner-t invariant-loop decreases-loop)
     → held c.next_corner-t.result ≡ corner c.before.before.before.before.before.before.args.columns.now c.before.before.before.before.before.before.args.diagonals.now (c.before.before.before.before.loop-m.m + 1)
-next-held c = to_z-of_z (sfits_of c.next_corner-t.type_inv) ∙ next-is c
+next-held c = to_z-of_z {w = w64} (sfits_of c.next_corner-t.type_inv) ∙ next-is c
 
 subtract-requires : tie.Need-subtract-rest-requires invariant-loop decreases-loop
 subtract-requires c κs =
@@ -102,7 +102,7 @@ rest-held : (c : tie.After-subtract-rest invariant-loop decreases-loop)
 rest-held c =
     let l = c.before.before.before.before.before.loop-m in
     let s = c.before.before.before.before.before.before.before in
-    to_z-of_z (sfits_of c.subtract-rest.type_inv) ∙ c.subtract-rest.ensures ∙ ap₂ (λ (x y : ℤ). x -ℤ y) (next-held c.before) (total_held s.args.columns.now s.requires.1.0 (l.m + 1))
+    to_z-of_z {w = w64} (sfits_of c.subtract-rest.type_inv) ∙ c.subtract-rest.ensures ∙ ap₂ (λ (x y : ℤ). x -ℤ y) (next-held c.before) (total_held s.args.columns.now s.requires.1.0 (l.m + 1))
 
 returns : tie.Need-returns-then-rest-lt1 invariant-loop decreases-loop
 unfolding rest_passes_of

@@ -34,7 +34,7 @@ returns : tie.Need-returns
 returns c =
     let s = start c in
     let totals = c.before.read_again.ensures.1.1.1.1.1.1 in
-    (year_is c, (c.last_year_of.ensures.1, summed (figures_of s.args.packed.now) (sound_figures s.args.packed.now (bytes c) s.pre.0 s.pre.1.0) _ _ totals))
+    (year_is c, (c.last_year_of.ensures.1, summed (figures_of s.args.packed.now) (sound_figures s.args.packed.now (bytes c) s.requires.0 s.requires.1.0) _ _ totals))
 
 pub totals_again_spec : {M : Type 1} → statement M
 totals_again_spec = tie.close (tie.spec read-again-requires last-year-of-requires returns)

@@ -1,4 +1,5 @@
 -- By the first column, and then the first diagonal, that is below zero. Assumes nothing.
+use mir.Syntax.{w64}
 use mathlib.Core.Path.{◌≡◌, ap, ◌∙◌}
 use native.Mathlib.Omega.{arith}
 use lib.IntN.{ℤ, pos}
@@ -32,7 +33,7 @@ returns c =
     let j = c.before.before.first_below-j in
     let v : ℕ → ℤ = λ j. get_or s.args.columns.now j (pos 0) in
     let d : ℕ → ℤ = λ h. get_or s.args.diagonals.now h (pos 0) in (
-      ap (λ (z : ℤ). found development_year 0 j.result z (pos 0) (pos 0)) (to_z-of_z (sfits_of c.result.given))
+      ap (λ (z : ℤ). found development_year 0 j.result z (pos 0) (pos 0)) (to_z-of_z {w = w64} (sfits_of c.result.given))
           ∙ column_found v d (sum_to v (s.args.k + 1)) s.args.k j.result j.ensures c.before.if-j-n.true,
       (omega arith, omega arith),
     )
@@ -53,7 +54,7 @@ returns-2 c =
     let h = c.before.before.first_below-h in
     let v : ℕ → ℤ = λ j. get_or s.args.columns.now j (pos 0) in
     let d : ℕ → ℤ = λ h. get_or s.args.diagonals.now h (pos 0) in (
-      ap (λ (z : ℤ). found payment_year h.result 0 z (pos 0) (pos 0)) (to_z-of_z (sfits_of c.result-then-h-n-1.given))
+      ap (λ (z : ℤ). found payment_year h.result 0 z (pos 0) (pos 0)) (to_z-of_z {w = w64} (sfits_of c.result-then-h-n-1.given))
           ∙ diagonal_found v d (sum_to v (s.args.k + 1)) s.args.k j.result h.result j.ensures c.before.before.before.if-j-n.false h.ensures c.before.if-h-n.true,
       (omega arith, omega arith),
     )
@@ -72,7 +73,7 @@ returns-3 c =
     let d : ℕ → ℤ = λ h. get_or s.args.diagonals.now h (pos 0) in
     let sum : c.sum_along.result ≡ sum_to v (s.args.k + 1)
     = c.sum_along.ensures ∙ sum_to_same _ v (s.args.k + 1) (λ i l. let e : 0 + i * 1 ≡ i = omega arith in ap v e) in (
-      ap (λ (z : ℤ). found nowhere 0 0 z (pos 0) (pos 0)) (to_z-of_z (sfits_of c.sum_along.type_inv) ∙ sum)
+      ap (λ (z : ℤ). found nowhere 0 0 z (pos 0) (pos 0)) (to_z-of_z {w = w64} (sfits_of c.sum_along.type_inv) ∙ sum)
           ∙ all_found v d (sum_to v (s.args.k + 1)) s.args.k j.result h.result j.ensures c.before.before.before.before.if-j-n.false h.ensures c.before.before.if-h-n.false,
       (omega arith, omega arith),
     )

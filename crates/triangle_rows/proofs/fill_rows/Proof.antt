@@ -99,9 +99,9 @@ index-1-fill-row c = omega arith
 
 fill-row-requires : tie.Need-fill_row-requires invariant-loop decreases-loop
 fill-row-requires c κs =
-    let e = c.before.before.before.before.before.before.before in
-    let s = e.before.before.before in
-    let l = e.loop-i in
+    let e = c.before.before.before.before in
+    let s = e.before.before.before.before.before.before in
+    let l = e.before.before.before.loop-i in
     let passing = every_next (row_passes s.args.k s.args.increments.now) (λ (j : ℕ). j) l.i l.invariant.2 (passed e) in
     (s.requires.1.1.0, (omega arith, (omega arith, (l.invariant.1, (s.requires.1.0, (passing, (l.invariant.4, l.invariant.6)))))))
 
@@ -128,9 +128,9 @@ loop-less c = omega arith
 
 loop-again : tie.Need-loop-i-preserved invariant-loop decreases-loop
 loop-again c =
-    let e = c.before.before.before.before.before.before.before.before.before in
-    let s = e.before.before.before in
-    let l = e.loop-i in
+    let e = c.before.before.before.before.before.before in
+    let s = e.before.before.before.before.before.before in
+    let l = e.before.before.before.loop-i in
     let k = s.args.k in
     let n = s.args.exposures.now in
     let p = s.args.increments.now in (

@@ -19,5 +19,5 @@ returns : tie.Need-returns
 unfolding column_of
 returns c = c.place.ensures
 
-pub place-column-spec : {M : Type 1} → statement M
-place-column-spec = tie.close (tie.spec (λ c. search rules) place-requires returns)
+pub place_column_spec : {M : Type 1} → statement M
+place_column_spec = tie.close (tie.spec (λ c. search rules) place-requires returns)

@@ -47,15 +47,15 @@ add-sum-2 c =
     let l = c.before.before in
     let s = l.before in
     rw (read l (omega arith))
-    (sum_fits (λ j. figure_at s.args.out.now (s.args.a + j)) most_figure s.args.n s.requires.1.1.1 l.loop-i.i l.loop-i.sum (omega arith) (omega arith) l.loop-i.invariant.1.1)
+    (sum_fits (λ j. figure_at s.args.out.now (s.args.a + j)) most_figure s.args.n s.requires.1.1.1 l.loop-i.i l.loop-i.sum-bits (omega arith) (omega arith) l.loop-i.invariant.1.1)
 
 loop-again : tie.Need-loop-i-preserved invariant-loop decreases-loop
 loop-again c =
     let l = c.before.before in
     let s = l.before in
     let f : ℕ → ℤ = λ j. figure_at s.args.out.now (s.args.a + j) in
-    let step = sum_step f most_figure s.args.n s.requires.1.1.1 l.loop-i.i l.loop-i.sum (omega arith) (omega arith) l.loop-i.invariant.1.1 in
-    let fits = sum_fits f most_figure s.args.n s.requires.1.1.1 l.loop-i.i l.loop-i.sum (omega arith) (omega arith) l.loop-i.invariant.1.1 in (
+    let step = sum_step f most_figure s.args.n s.requires.1.1.1 l.loop-i.i l.loop-i.sum-bits (omega arith) (omega arith) l.loop-i.invariant.1.1 in
+    let fits = sum_fits f most_figure s.args.n s.requires.1.1.1 l.loop-i.i l.loop-i.sum-bits (omega arith) (omega arith) l.loop-i.invariant.1.1 in (
       omega arith,
       (
         rw (read l (omega arith), to_z-of_z fits, step, l.loop-i.invariant.1.0) (sets_more (one s.args.out.now s.args.a) s.args.out.now s.args.at l.loop-i.i),

@@ -11,30 +11,30 @@ use borrow.Author.Rules.{rules}
 use Rattle.web_rows.proofs.put_web_cells.Statement.{statement}
 use Rattle.web_rows.proofs.put_web_cells.Tie as tie
 
-abbrev invariant-loop : tie.invariant-loop
+abbrev invariant-loop : tie.invariant-loop-j
 invariant-loop out₀ at values styles p n end₀ j₀ out end j = (j ≤ n) × Put out₀ out at end (joined (up_to (λ j. web_cell_at values styles (p + j)) j))
 
-abbrev decreases-loop : tie.decreases-loop
+abbrev decreases-loop : tie.decreases-loop-j
 decreases-loop out₀ at values styles p n end₀ j₀ out end j = n - j
 
-loop-holds : tie.Need-loop-init invariant-loop decreases-loop
+loop-holds : tie.Need-loop-j-init invariant-loop decreases-loop
 loop-holds c = (omega arith, put_first (λ j. web_cell_at c.before.args.values.now c.before.args.styles.now (c.before.args.p + j)) _ _)
 
-loop-again : tie.Need-loop-preserved invariant-loop decreases-loop
+loop-again : tie.Need-loop-j-preserved invariant-loop decreases-loop
 loop-again c =
     let a = c.before.before.before.before.before.before.before.args in
-    (omega arith, put_more (λ j. web_cell_at a.values.now a.styles.now (a.p + j)) c.before.before.before.before.before.loop.j c.before.before.before.before.before.loop.invariant.1 c.before.before.put-web-cell-at.ensures)
+    (omega arith, put_more (λ j. web_cell_at a.values.now a.styles.now (a.p + j)) c.before.before.before.before.before.loop-j.j c.before.before.before.before.before.loop-j.invariant.1 c.before.before.put_web_cell_at-end.ensures)
 
-same_length : tie.Need-same-length invariant-loop decreases-loop
-same_length c = put_length c.before.loop.invariant.1
+same_length : tie.Need-shape_of-out invariant-loop decreases-loop
+same_length c = put_length c.before.loop-j.invariant.1
 
 returns : tie.Need-returns invariant-loop decreases-loop
 unfolding web_cells
 returns c =
-    let e : c.before.loop.j ≡ c.before.before.before.args.n = omega arith in
-    rw e at c.before.loop.invariant.1
+    let e : c.before.loop-j.j ≡ c.before.before.before.args.n = omega arith in
+    rw e at c.before.loop-j.invariant.1
 
-pub put-web-cells-spec : {M : Type 1} → statement M
-put-web-cells-spec =
+pub put_web_cells_spec : {M : Type 1} → statement M
+put_web_cells_spec =
     tie.close
     (tie.spec invariant-loop decreases-loop loop-holds (λ c. search rules) (λ c κs. search rules) (λ c. search rules) (λ c. search rules) loop-again same_length returns)

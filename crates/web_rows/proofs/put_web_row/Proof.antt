@@ -7,27 +7,35 @@ use borrow.Author.Rules.{rules}
 use Rattle.web_rows.proofs.put_web_row.Statement.{statement}
 use Rattle.web_rows.proofs.put_web_row.Tie as tie
 
-put-label-requires : tie.Need-put-label-requires
+put-label-requires : tie.Need-put_label-a-requires
 put-label-requires c κs =
-    let s = c.before.before.before.before.before.before.before.before.before in
+    let s = c.before.before.before.before.before.before.before.before.before.before in
     (s.requires.0.from_most, omega (arith, s.requires.1, s.requires.0.rows_most))
 
-mul-put-web-cells : tie.Need-overflow-mul-put-web-cells
+mul-put-web-cells : tie.Need-overflow_mul-i
 mul-put-web-cells c =
-    let s = c.before.before.before.before.before.before.before.before.before.before.before.before.before.before.before.before.before.before.before in
+    let s = c.before.before.before.before.before.before.before.before.before.before.before.before.before.before.before.before.before.before.before.before.before in
     omega (arith, row_room s.args.shape s.args.i s.requires.0 s.requires.1)
 
-put-web-cells-requires : tie.Need-put-web-cells-requires
+put-web-cells-requires : tie.Need-put_web_cells-end-requires
 put-web-cells-requires c κs =
-    let s = c.before.before.before.before.before.before.before.before.before.before.before.before.before.before.before.before.before.before.before in
+    let s = c.before.before.before.before.before.before.before.before.before.before.before.before.before.before.before.before.before.before.before.before.before in
     row_room s.args.shape s.args.i s.requires.0 s.requires.1
 
 returns : tie.Need-returns
 unfolding web_row
 returns c =
-    put_five c.before.before.before.before.before.before.before.before.before.before.before.before.before.before.before.before.before.before.before.before.before.put-bytes.ensures c.before.before.before.before.before.before.before.before.before.before.before.before.before.before.before.before.before.put-label.ensures c.before.before.before.before.before.before.before.before.before.before.before.before.put-bytes2.ensures c.before.before.before.before.before.before.before.put-web-cells.ensures c.before.before.put-bytes3.ensures
+    put_five c.before.before.before.before.before.before.before.before.before.before.before.before.before.before.before.before.before.before.before.before.before.before.before.put_bytes-text.ensures c.before.before.before.before.before.before.before.before.before.before.before.before.before.before.before.before.before.before.before.put_label-a.ensures c.before.before.before.before.before.before.before.before.before.before.before.before.before.put_bytes-b.ensures c.before.before.before.before.before.before.before.before.put_web_cells-end.ensures c.before.before.put_bytes.ensures
 
-pub put-web-row-spec : {M : Type 1} → statement M
-put-web-row-spec =
+pub put_web_row_spec : {M : Type 1} → statement M
+put_web_row_spec =
     tie.close
-    (tie.spec (λ c. search rules) (λ c κs. search rules) put-label-requires (λ c. search rules) (λ c κs. search rules) mul-put-web-cells put-web-cells-requires (λ c. search rules) (λ c κs. search rules) (λ c. search rules) returns)
+    (tie.spec
+    (λ c κs. search rules)
+    put-label-requires
+    (λ c κs. search rules)
+    mul-put-web-cells
+    put-web-cells-requires
+    (λ c κs. search rules)
+    (λ c. search rules)
+    returns)

@@ -7,9 +7,14 @@ use Rattle.web_table.proofs.put_web_body.Tie as tie
 
 returns : tie.Need-returns
 unfolding web_body
-returns c = put_three c.before.before.before.before.before.before.before.before.before.before.before.put-bytes.ensures c.before.before.before.before.before.before.before.put-web-rows.ensures c.before.before.put-bytes2.ensures
+returns c = put_three c.before.before.before.before.before.before.before.before.before.before.before.before.put_bytes-first.ensures c.before.before.before.before.before.before.before.before.put_web_rows-end.ensures c.before.before.put_bytes.ensures
 
-pub put-web-body-spec : {M : Type 1} → statement M
-put-web-body-spec =
+pub put_web_body_spec : {M : Type 1} → statement M
+put_web_body_spec =
     tie.close
-    (tie.spec (λ c. search rules) (λ c κs. search rules) (λ c κs. search rules) (λ c. search rules) (λ c κs. search rules) (λ c. search rules) returns)
+    (tie.spec
+    (λ c κs. search rules)
+    (λ c κs. search rules)
+    (λ c κs. search rules)
+    (λ c. search rules)
+    returns)

@@ -10,30 +10,30 @@ use borrow.Author.Rules.{rules}
 use Rattle.web_table.proofs.put_web_column_heads.Statement.{statement}
 use Rattle.web_table.proofs.put_web_column_heads.Tie as tie
 
-abbrev invariant-loop : tie.invariant-loop
+abbrev invariant-loop : tie.invariant-loop-j
 invariant-loop out₀ at words shape end₀ n j₀ out end j = (j ≤ n) × Put out₀ out at end (joined (up_to (web_head words shape) j))
 
-abbrev decreases-loop : tie.decreases-loop
+abbrev decreases-loop : tie.decreases-loop-j
 decreases-loop out₀ at words shape end₀ n j₀ out end j = n - j
 
-loop-holds : tie.Need-loop-init invariant-loop decreases-loop
+loop-holds : tie.Need-loop-j-init invariant-loop decreases-loop
 loop-holds c = (omega arith, put_first _ _ _)
 
-put-web-head-requires : tie.Need-put-web-head-requires invariant-loop decreases-loop
+put-web-head-requires : tie.Need-put_web_head-end-requires invariant-loop decreases-loop
 put-web-head-requires c κs = omega (arith, c.before.before.before.before.before.requires)
 
-loop-again : tie.Need-loop-preserved invariant-loop decreases-loop
-loop-again c = (omega arith, put_more (web_head c.before.before.before.before.before.before.before.before.args.words.now c.before.before.before.before.before.before.before.before.args.shape) c.before.before.before.before.before.loop.j c.before.before.before.before.before.loop.invariant.1 c.before.before.put-web-head.ensures)
+loop-again : tie.Need-loop-j-preserved invariant-loop decreases-loop
+loop-again c = (omega arith, put_more (web_head c.before.before.before.before.before.before.before.before.args.words.now c.before.before.before.before.before.before.before.before.args.shape) c.before.before.before.before.before.loop-j.j c.before.before.before.before.before.loop-j.invariant.1 c.before.before.put_web_head-end.ensures)
 
-same_length : tie.Need-same-length invariant-loop decreases-loop
-same_length c = put_length c.before.loop.invariant.1
+same_length : tie.Need-shape_of-out invariant-loop decreases-loop
+same_length c = put_length c.before.loop-j.invariant.1
 
 returns : tie.Need-returns invariant-loop decreases-loop
 returns c =
-    let e : c.before.loop.j ≡ c.before.before.before.before.args.shape.columns = omega arith in
-    rw e at c.before.loop.invariant.1
+    let e : c.before.loop-j.j ≡ c.before.before.before.before.args.shape.columns = omega arith in
+    rw e at c.before.loop-j.invariant.1
 
-pub put-web-column-heads-spec : {M : Type 1} → statement M
-put-web-column-heads-spec =
+pub put_web_column_heads_spec : {M : Type 1} → statement M
+put_web_column_heads_spec =
     tie.close
     (tie.spec invariant-loop decreases-loop loop-holds put-web-head-requires (λ c. search rules) (λ c. search rules) loop-again same_length returns)

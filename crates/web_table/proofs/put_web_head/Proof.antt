@@ -7,9 +7,14 @@ use Rattle.web_table.proofs.put_web_head.Tie as tie
 
 returns : tie.Need-returns
 unfolding web_head
-returns c = put_three c.before.before.before.before.before.before.before.before.before.before.before.put-bytes.ensures c.before.before.before.before.before.before.before.put-head.ensures c.before.before.put-bytes2.ensures
+returns c = put_three c.before.before.before.before.before.before.before.before.before.before.before.before.put_bytes-text.ensures c.before.before.before.before.before.before.before.before.put_head-end.ensures c.before.before.put_bytes.ensures
 
-pub put-web-head-spec : {M : Type 1} → statement M
-put-web-head-spec =
+pub put_web_head_spec : {M : Type 1} → statement M
+put_web_head_spec =
     tie.close
-    (tie.spec (λ c. search rules) (λ c κs. search rules) (λ c κs. search rules) (λ c. search rules) (λ c κs. search rules) (λ c. search rules) returns)
+    (tie.spec
+    (λ c κs. search rules)
+    (λ c κs. search rules)
+    (λ c κs. search rules)
+    (λ c. search rules)
+    returns)

@@ -8,9 +8,16 @@ use Rattle.web_table.proofs.put_web_heads.Tie as tie
 returns : tie.Need-returns
 unfolding web_heads
 returns c =
-    put_five c.before.before.before.before.before.before.before.before.before.before.before.before.before.before.before.before.before.before.before.before.put-bytes.ensures c.before.before.before.before.before.before.before.before.before.before.before.before.before.before.before.before.put-line.ensures c.before.before.before.before.before.before.before.before.before.before.before.put-bytes2.ensures c.before.before.before.before.before.before.before.put-web-column-heads.ensures c.before.before.put-bytes3.ensures
+    put_five c.before.before.before.before.before.before.before.before.before.before.before.before.before.before.before.before.before.before.before.before.before.before.put_bytes-text.ensures c.before.before.before.before.before.before.before.before.before.before.before.before.before.before.before.before.before.before.put_line-a.ensures c.before.before.before.before.before.before.before.before.before.before.before.before.put_bytes-b.ensures c.before.before.before.before.before.before.before.before.put_web_column_heads-end.ensures c.before.before.put_bytes.ensures
 
-pub put-web-heads-spec : {M : Type 1} → statement M
-put-web-heads-spec =
+pub put_web_heads_spec : {M : Type 1} → statement M
+put_web_heads_spec =
     tie.close
-    (tie.spec (λ c. search rules) (λ c κs. search rules) (λ c κs. search rules) (λ c. search rules) (λ c κs. search rules) (λ c κs. search rules) (λ c. search rules) (λ c κs. search rules) (λ c. search rules) returns)
+    (tie.spec
+    (λ c κs. search rules)
+    (λ c κs. search rules)
+    (λ c κs. search rules)
+    (λ c κs. search rules)
+    (λ c κs. search rules)
+    (λ c. search rules)
+    returns)

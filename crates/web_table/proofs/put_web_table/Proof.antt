@@ -9,25 +9,34 @@ use borrow.Author.Rules.{rules}
 use Rattle.web_table.proofs.put_web_table.Statement.{statement}
 use Rattle.web_table.proofs.put_web_table.Tie as tie
 
-rows-in-requires : tie.Need-rows-in-requires
+rows-in-requires : tie.Need-rows_in-requires
 rows-in-requires c κs = c.before.before.before.before.requires.rows_most
 
-measure-of-requires : tie.Need-measure-of-requires
+measure-of-requires : tie.Need-measure_of-width-requires
 measure-of-requires c κs =
     let s = c.before.before.before.before.before in
     (s.requires.columns_most, rw c.rows_in.ensures (rows_in_room s.args.total.now s.args.shape s.requires))
 
-put-web-heads-requires : tie.Need-put-web-heads-requires
+put-web-heads-requires : tie.Need-put_web_heads-body-requires
 put-web-heads-requires c κs = c.before.before.before.before.before.before.before.before.before.before.before.requires.columns_most
 
 returns : tie.Need-returns
 unfolding web_table
 returns c =
-    let a = c.before.before.before.before.before.before.before.before.before.before.before.before.before.before.before.before.before.before.before.before.before.before.before.before.before.before.before.args in
-    let width : c.before.before.before.before.before.before.before.before.before.before.before.before.before.before.before.before.before.before.before.before.before.measure-of.result ≡ measure a.values.now a.styles.now a.shape.columns (rows_in a.total.now a.shape) = c.before.before.before.before.before.before.before.before.before.before.before.before.before.before.before.before.before.before.before.before.before.measure-of.ensures ∙ ap (measure a.values.now a.styles.now a.shape.columns) c.before.before.before.before.before.before.before.before.before.before.before.before.before.before.before.before.before.before.before.before.before.before.rows_in.ensures in
-    put_five (rw width at c.before.before.before.before.before.before.before.before.before.before.before.before.before.before.before.before.before.before.before.put-web-top.ensures) c.before.before.before.before.before.before.before.before.before.before.before.before.before.before.before.put-web-heads.ensures c.before.before.before.before.before.before.before.before.before.before.before.put-web-body.ensures c.before.before.before.before.before.before.before.put-web-foot.ensures c.before.before.put-bytes.ensures
+    let a = c.before.before.before.before.before.before.before.before.before.before.before.before.before.before.before.before.before.before.before.before.before.before.before.before.before.before.before.before.args in
+    let width : c.before.before.before.before.before.before.before.before.before.before.before.before.before.before.before.before.before.before.before.before.before.before.measure_of-width.result ≡ measure a.values.now a.styles.now a.shape.columns (rows_in a.total.now a.shape) = c.before.before.before.before.before.before.before.before.before.before.before.before.before.before.before.before.before.before.before.before.before.before.measure_of-width.ensures ∙ ap (measure a.values.now a.styles.now a.shape.columns) c.before.before.before.before.before.before.before.before.before.before.before.before.before.before.before.before.before.before.before.before.before.before.before.rows_in.ensures in
+    put_five (rw width at c.before.before.before.before.before.before.before.before.before.before.before.before.before.before.before.before.before.before.before.before.put_web_top-heads.ensures) c.before.before.before.before.before.before.before.before.before.before.before.before.before.before.before.before.put_web_heads-body.ensures c.before.before.before.before.before.before.before.before.before.before.before.before.put_web_body-foot.ensures c.before.before.before.before.before.before.before.before.put_web_foot-end.ensures c.before.before.put_bytes.ensures
 
-pub put-web-table-spec : {M : Type 1} → statement M
-put-web-table-spec =
+pub put_web_table_spec : {M : Type 1} → statement M
+put_web_table_spec =
     tie.close
-    (tie.spec rows-in-requires measure-of-requires (λ c κs. search rules) put-web-heads-requires (λ c κs. search rules) (λ c κs. search rules) (λ c. search rules) (λ c κs. search rules) (λ c. search rules) returns)
+    (tie.spec
+    rows-in-requires
+    measure-of-requires
+    (λ c κs. search rules)
+    put-web-heads-requires
+    (λ c κs. search rules)
+    (λ c κs. search rules)
+    (λ c κs. search rules)
+    (λ c. search rules)
+    returns)
