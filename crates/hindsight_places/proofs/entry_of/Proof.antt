@@ -31,7 +31,7 @@ element-copy-out-result c =
 
 returns : tie.Need-returns
 unfolding entry_at
-returns c = rw (← c.before.setting_count.ensures) (to_z-of_z {w = w64} (sfits_of c.result.given))
+returns c = rw (← c.before.setting_count.ensures) (to_z-of_z {w = w64} (sfits_of c.result-1.given))
 
 pub entry_of_spec : {M : Type 1} → statement M
 entry_of_spec =

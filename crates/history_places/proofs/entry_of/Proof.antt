@@ -22,7 +22,7 @@ element-copy-out-result c = entry_inside c.args.width c.args.a c.args.e c.requir
 
 returns : tie.Need-returns
 unfolding position_entry
-returns c = to_z-of_z {w = w64} (sfits_of c.result.given)
+returns c = to_z-of_z {w = w64} (sfits_of c.result-1.given)
 
 pub entry_of_spec : {M : Type 1} → statement M
 entry_of_spec =

@@ -56,7 +56,7 @@ found c q of =
     let at = passed c in
     let totals = at.before.totals_answer-first.ensures in
     let k = (begun c).args.k in
-    c.share_step-f.ensures q (totals.sizes q of at.if-first-ne-ACCEPTED.left) (totals.corners-1 q of at.if-first-ne-ACCEPTED.left) (le_refl k) (latest_running q k)
+    c.share_step-f.ensures q (totals.sizes q of at.if-first-ne-ACCEPTED.false) (totals.corners q of at.if-first-ne-ACCEPTED.false) (le_refl k) (latest_running q k)
 
 factors-answer-requires : tie.Need-factors_answer-answer-requires
 factors-answer-requires c κs = search rules
@@ -69,7 +69,7 @@ answered : (c : tie.After-factors_answer-answer) (q : List (List ℤ)) → Whose
 answered c q of =
     let at = passed (walked c) in
     c.factors_answer-answer.ensures
-    ∙ factors_give q (begun (walked c)).args.k (sym (at.before.totals_answer-first.ensures.number q of) ∙ at.if-first-ne-ACCEPTED.left) _ (found (walked c) q of)
+    ∙ factors_give q (begun (walked c)).args.k (sym (at.before.totals_answer-first.ensures.number q of) ∙ at.if-first-ne-ACCEPTED.false) _ (found (walked c) q of)
 
 refused-requires-2 : tie.Need-refused-requires-then-answer-ne-ACCEPTED
 refused-requires-2 c κs = search rules

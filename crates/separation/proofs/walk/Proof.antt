@@ -37,7 +37,7 @@ returns-2 c q of =
     let totals = at.before.totals_answer.ensures in
     let k = (start at.before).args.k in
     rw (sym (totals.number q of) ∙ at.if-totals_answer-ne-ACCEPTED.false)
-    (c.level_step.ensures q (totals.sizes q of at.if-totals_answer-ne-ACCEPTED.false) (totals.corners-1 q of at.if-totals_answer-ne-ACCEPTED.false) (le_refl k) (latest_running q k))
+    (c.level_step.ensures q (totals.sizes q of at.if-totals_answer-ne-ACCEPTED.false) (totals.corners q of at.if-totals_answer-ne-ACCEPTED.false) (le_refl k) (latest_running q k))
 
 pub walk_spec : {M : Type 1} → statement M
 walk_spec =

@@ -33,7 +33,7 @@ returns c =
     let j = c.before.before.first_below-j in
     let v : ℕ → ℤ = λ j. get_or s.args.columns.now j (pos 0) in
     let d : ℕ → ℤ = λ h. get_or s.args.diagonals.now h (pos 0) in (
-      ap (λ (z : ℤ). found development_year 0 j.result z (pos 0) (pos 0)) (to_z-of_z {w = w64} (sfits_of c.result.given))
+      ap (λ (z : ℤ). found development_year 0 j.result z (pos 0) (pos 0)) (to_z-of_z {w = w64} (sfits_of c.result-1.given))
           ∙ column_found v d (sum_to v (s.args.k + 1)) s.args.k j.result j.ensures c.before.if-j-n.true,
       (omega arith, omega arith),
     )
