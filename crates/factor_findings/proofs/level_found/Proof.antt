@@ -61,7 +61,7 @@ returns c =
     let h = c.before.before.before.before.before.first_level-h in
     let sum = c.before.before.before.sum_of-running in (
       held_found (λ h. get_or s.args.diagonals.now h (pos 0)) (λ h. total (take (h + 1) s.args.shares.now)) (λ h. get_or s.args.levels.now h 0) s.args.k h.result sum.result
-          h.ensures (sfits_of c.before.result-1.given) sum.ensures (omega (arith, sum.ensures, running_most c.before.before.before)) (omega (arith, s.requires.1.1.0 h.result)),
+          h.ensures (sfits_of c.before.before.result-1.given) sum.ensures (omega (arith, sum.ensures, running_most c.before.before.before)) (omega (arith, s.requires.1.1.0 h.result)),
       (year c.before.before.before.before.before, omega arith),
     )
 
