@@ -20,9 +20,8 @@ use Rattle.laws.proofs.Questions.{yes_said, after_refusal}
 use Rattle.listing.proofs.Sections.{take_up_to}
 use Rattle.opening.proofs.Opened.{years_known_lem}
 use Rattle.hindsight_questions.proofs.Passed.{Settings, settings_known}
-use Rattle.wording.specs.Wording.{refusal_text}
 use Rattle.settings_line.specs.Settings.{most_words, wrong_word, settings_of}
-use Rattle.hindsight_run.specs.Listed.{answer_of, has_report, report_of, wrong_text, said_of}
+use Rattle.hindsight_run.specs.Listed.{refused_text, answer_of, has_report, report_of, wrong_text, said_of}
 
 -- settings in an array of zeros: as many as there are, and the first eight
 module _ (settings : List ℕ) where
@@ -60,7 +59,7 @@ module _ (line packed : List ℕ) where
 
   module _ (right : wrong_word line ≡ 0) where
     -- the call refuses
-    pub refused : (answer_of line packed ≡ 0 → ⊥) → (has_report line packed ≡ false) × (said_of line packed ≡ refusal_text (answer_of line packed))
+    pub refused : (answer_of line packed ≡ 0 → ⊥) → (has_report line packed ≡ false) × (said_of line packed ≡ refused_text (answer_of line packed))
     unfolding has_report said_of
     refused some = rw (eq-eqb (wrong_word line) 0 right, ne_eqb (answer_of line packed) 0 some) (refl, refl)
 

@@ -24,9 +24,14 @@ report_of line packed = hindsight_of (figures_of packed) (settings_of line)
 unfoldable pub wrong_text : ℕ → List ℕ
 wrong_text n = ascii "settings: word " ++ (decimal n ++ ascii " is no whole number of millionths (1000000 is an index of 1)\n")
 
+-- the line of a refusal; question 29 is asked of hindsight runs alone
+unfoldable pub refused_text : ℕ → List ℕ
+refused_text n =
+    cond (eqb n 29) (ascii "refused 29: there are no settings or more than 8, one is not from 1 to 5,000,000, or k is 1\n") (refusal_text n)
+
 -- what is said where there is no report: what is wrong with the settings, since there is nothing to call with then, and otherwise the refusal
 unfoldable pub said_of : List ℕ → List ℕ → List ℕ
-said_of line packed = cond (eqb (wrong_word line) 0) (refusal_text (answer_of line packed)) (wrong_text (wrong_word line))
+said_of line packed = cond (eqb (wrong_word line) 0) (refused_text (answer_of line packed)) (wrong_text (wrong_word line))
 
 -- what is found where there is none, said bytes of a message
 abbrev pub unlisted_of : ℕ → Listed

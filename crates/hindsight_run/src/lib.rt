@@ -7,7 +7,7 @@ ghost use Rattle.rules.specs.Lists.{up_to};
 ghost use Rattle.rules.specs.Hindsight.{most_settings};
 ghost use Rattle.composing.specs.Text.{Put};
 ghost use Rattle.settings_line.specs.Settings.{most_line};
-ghost use Rattle.hindsight_run.specs.Listed.{has_report, report_of, wrong_text, said_of, unlisted_of, Found};
+ghost use Rattle.hindsight_run.specs.Listed.{has_report, report_of, refused_text, wrong_text, said_of, unlisted_of, Found};
 
 use composing::{put_bytes, put_decimal};
 use hindsight::doonamurk_hindsight;
@@ -37,6 +37,21 @@ fn put_wrong(out: &mut [u8], n: usize) -> usize
         end,
         b" is no whole number of millionths (1000000 is an index of 1)\n",
     )
+}
+
+// The line of a refusal; question 29 is asked of hindsight runs alone.
+fn put_refused(out: &mut [u8], n: u64) -> usize
+    ensures { Put out.old out.new 0 result (refused_text n) }
+{
+    if n == 29 {
+        put_bytes(
+            out,
+            0,
+            b"refused 29: there are no settings or more than 8, one is not from 1 to 5,000,000, or k is 1\n",
+        )
+    } else {
+        put_refusal(out, 0, n)
+    }
 }
 
 // The first eight settings.
@@ -84,7 +99,7 @@ pub fn list_hindsight(
     let count = put_settings(line, &mut all);
     let answer = doonamurk_hindsight(packed, &all[..count], list);
     if answer != 0 {
-        return unlisted(put_refusal(message, 0, answer));
+        return unlisted(put_refused(message, answer));
     }
     Listed {
         listed: true,

@@ -2,14 +2,13 @@
 -- Assumes nothing.
 use Rattle.std.specs.Prelude.{ℕ, ◌≡◌, Bool, true, List, ℤ}
 use Rattle.std.proofs.lemmas.List.Edits.{sets}
-use Rattle.rules.specs.Questions.{first_no}
+use Rattle.rules.specs.Questions.{first_no, after_call}
 use Rattle.rules.specs.Record.{Figures}
 use Rattle.rules.specs.Triangle.{cumulatives_pass}
 use Rattle.rules.specs.Separation.{separate_answer}
 use Rattle.rules.specs.Tail.{tail_questions}
 use Rattle.rules.specs.Results.{square_of, factors_in, first_tail_average_of, paid_in, tails_in, development_in, results_of}
 use Rattle.rules.specs.Engine.{development_passes}
-use Rattle.answering.specs.Answers.{AnswersWith}
 use Rattle.reading.specs.Reading.{Sound}
 
 -- figures whose development factors and separation were accepted: their square s, the development factors m, the paid cumulatives c, the shares r and the levels l
@@ -35,4 +34,4 @@ filled year f out = sets out 0 (results_of year f)
 
 -- what a function that asks the questions qs of a valuation year and the figures f answers, n, and leaves in the buffer that held `out`
 abbrev pub Answers : List (ℕ × Bool) → ℕ → Figures → List ℤ → List ℤ → ℕ → Type 0
-Answers qs year f out left n = AnswersWith qs (filled year f out) out left n
+Answers qs year f out left n = (n ≡ first_no qs) × (left ≡ after_call (first_no qs) (sets out 0 (results_of year f)) out)

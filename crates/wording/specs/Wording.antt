@@ -1,4 +1,4 @@
--- Refusals in words: what is not so where a question's answer is no (document 01, "Questions in their order"; requests 1, 3, 5, 11 and 12 of document 02). Assumes nothing.
+-- Refusals in words: what is not so where a question's answer is no (document 01, "Questions in their order"; requests 1 and 3 of document 02). Assumes nothing.
 use Rattle.std.specs.Prelude.{ℕ, List, [], ◌∷◌, ◌++◌, get_or}
 use Rattle.composing.specs.Text.{ascii, decimal}
 
@@ -6,7 +6,7 @@ use Rattle.composing.specs.Text.{ascii, decimal}
 abbrev pub other_text_of : List ℕ
 other_text_of = ascii "no question has this number"
 
--- the words of the questions by their numbers, of which 22 to 26 are none. Those of 1 to 5 are true of the reader, the writer and the engine, whichever of them asks
+-- the words of the questions by their numbers. Those of 1 to 5 are true of the reader, the writer and the engine, whichever of them asks
 unfoldable pub question_texts : List (List ℕ)
 question_texts =
     other_text_of
@@ -29,16 +29,6 @@ question_texts =
     ∷ ascii "the ULAE ratio corrected for growth, from valuation year 2027 on, is above 1"
     ∷ ascii "the average of what is still to be paid for year 0 after the last year is above 1,000,000,000 hundredths a claim"
     ∷ ascii "an average of what is still to be paid after the last year, carried to some year by the indices, is above 5,000,000,000 hundredths a claim"
-    ∷ ascii "a rate of inflation is not from -0.5 to 1.0, the year of a shock is none of the years wanted, or these are not 1 to 16"
-    ∷ ascii "the index of a year is not from 1 to 5,000,000"
-    ∷ other_text_of
-    ∷ other_text_of
-    ∷ other_text_of
-    ∷ other_text_of
-    ∷ other_text_of
-    ∷ ascii "the history has more than 64 years, or the width is not from 2 to 16 or above the history's years"
-    ∷ ascii "a length is not what the years and the width of the history call for, or an exposure or a cell is out of its range"
-    ∷ ascii "there are no settings or more than 8, one is not from 1 to 5,000,000, or k is 1"
     ∷ []
 
 -- what is not so where question n's answer is no

@@ -34,16 +34,6 @@ the divisor of the ULAE ratio under growth, M - w + w * B / Y, from valuation ye
 the ULAE ratio corrected for growth, from valuation year 2027 on, is above 1
 the average of what is still to be paid for year 0 after the last year is above 1,000,000,000 hundredths a claim
 an average of what is still to be paid after the last year, carried to some year by the indices, is above 5,000,000,000 hundredths a claim
-a rate of inflation is not from -0.5 to 1.0, the year of a shock is none of the years wanted, or these are not 1 to 16
-the index of a year is not from 1 to 5,000,000
-no question has this number
-no question has this number
-no question has this number
-no question has this number
-no question has this number
-the history has more than 64 years, or the width is not from 2 to 16 or above the history's years
-a length is not what the years and the width of the history call for, or an exposure or a cell is out of its range
-there are no settings or more than 8, one is not from 1 to 5,000,000, or k is 1
 ",
         n,
     )

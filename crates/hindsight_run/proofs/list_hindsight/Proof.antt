@@ -7,8 +7,7 @@ use lib.Seq.{length-sets}
 use Rattle.rules.specs.Hindsight.{hindsight_into}
 use Rattle.composing.proofs.Puts.{put_same}
 use Rattle.settings_line.specs.Settings.{most_words, settings_of}
-use Rattle.wording.specs.Wording.{refusal_text}
-use Rattle.hindsight_run.specs.Listed.{answer_of, wrong_text}
+use Rattle.hindsight_run.specs.Listed.{refused_text, answer_of, wrong_text}
 use Rattle.hindsight_run.proofs.Outcomes.{stored_settings, stored_first, wrong, refused, kept, listed, some_record, asked, filled}
 use borrow.Author.Rules.{rules}
 use Rattle.hindsight_run.proofs.list_hindsight.Statement.{statement}
@@ -33,7 +32,7 @@ slice-aggregate-doonamurk-hindsight c = c.before.put_settings-count.ensures.0 �
 answered : (d : tie.After-doonamurk_hindsight-answer) → (d.doonamurk_hindsight-answer.result ≡ answer_of d.before.before.before.before.before.before.before.before.before.before.args.line.now d.before.before.before.before.before.before.before.before.before.before.args.packed.now)
     × (d.doonamurk_hindsight-answer.new.report ≡ hindsight_into d.before.before.before.before.before.before.before.before.before.before.args.packed.now (settings_of d.before.before.before.before.before.before.before.before.before.before.args.line.now) d.before.before.before.before.before.before.before.before.before.before.args.list.now)
 unfolding answer_of
-answered d = rw (stored d.before.before.before, d.before.doonamurk_hindsight-arg-1.given.1) at d.doonamurk_hindsight-answer.ensures
+answered d = rw (stored d.before.before.before, d.before.doonamurk_hindsight-arg-1.given) at d.doonamurk_hindsight-answer.ensures
 
 returns : tie.Need-returns-then-wrong-ne0
 returns c =
@@ -53,10 +52,10 @@ returns-2 c =
     let no : answer_of s.args.line.now s.args.packed.now ≡ 0 → ⊥ = λ e. c.before.before.before.before.before.if-answer-ne0.true ((answered d).0 ∙ e) in
     let none = refused s.args.line.now s.args.packed.now right no in
     rw c.unlisted-then-answer-ne0.ensures (
-      (sym none.0, (λ some. absurd (false≢true some), λ e. put_same (ap refusal_text (answered d).0 ∙ sym none.1) c.before.before.before.put_refusal.ensures)),
+      (sym none.0, (λ some. absurd (false≢true some), λ e. put_same (ap refused_text (answered d).0 ∙ sym none.1) c.before.before.before.put_refused.ensures)),
       (
         λ some. absurd (false≢true some),
-        λ e. (refl, (answered d).1 ∙ kept s.args.line.now s.args.packed.now s.args.list.now d.before.doonamurk_hindsight-arg-1.given.1 no),
+        λ e. (refl, (answered d).1 ∙ kept s.args.line.now s.args.packed.now s.args.list.now d.before.doonamurk_hindsight-arg-1.given no),
       ),
     )
 
@@ -85,7 +84,7 @@ returns-3 c =
               tried = put.0;
               settings = c.first_settings.ensures ∙ rw put.1.1 (stored_first (settings_of line) (asked line packed (taken e)).few);
             },
-            (answered e.before).1 ∙ filled line packed (taken e) s.args.list.now e.before.before.doonamurk_hindsight-arg-1.given.1,
+            (answered e.before).1 ∙ filled line packed (taken e) s.args.list.now e.before.before.doonamurk_hindsight-arg-1.given,
           ),
           λ none. absurd (true≢false none),
         ),

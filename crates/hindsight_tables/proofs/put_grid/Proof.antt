@@ -18,7 +18,7 @@ put-table-requires c κs =
     let rows = rows_most t k n s.requires.0.known s.requires.0.few in
     let columns = columns_most t k n s.requires.0.known s.requires.0.few in
     let places : (rows_of t k n + 1) * columns_of t k n ≤ 15 * 15 = mul-le-mul {n₂ = 15} {m₂ = 15} (omega (arith, rows)) columns in
-    rw (c.before.before.before.before.before.before.rows_of_lem.ensures, c.before.before.before.before.before.before.before.columns_of.ensures)
+    rw (c.before.before.before.before.before.before.before.before.rows_of.ensures, c.before.before.before.before.before.before.before.columns_of.ensures)
     (record {
       columns_most = omega (arith, columns);
       places_most = omega (arith, places);
@@ -28,7 +28,7 @@ put-table-requires c κs =
 
 returns : tie.Need-returns
 unfolding grid_table grid_shape
-returns c = rw (c.before.before.before.before.before.before.before.before.before.before.before.before.before.grid_values-values.ensures, c.before.before.before.before.before.before.before.before.before.before.before.before.grid_styles-styles.ensures, c.before.before.before.before.before.before.before.before.before.rows_of_lem.ensures, c.before.before.before.before.before.before.before.before.before.before.columns_of.ensures) at c.before.before.put_table.ensures
+returns c = rw (c.before.before.before.before.before.before.before.before.before.before.before.before.before.grid_values-values.ensures, c.before.before.before.before.before.before.before.before.before.before.before.before.grid_styles-styles.ensures, c.before.before.before.before.before.before.before.before.before.before.before.rows_of.ensures, c.before.before.before.before.before.before.before.before.before.before.columns_of.ensures) at c.before.before.put_table.ensures
 
 pub put_grid_spec : {M : Type 1} → statement M
 put_grid_spec =

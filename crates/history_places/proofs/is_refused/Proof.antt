@@ -8,11 +8,11 @@ use Rattle.history_places.proofs.is_refused.Tie as tie
 
 returns : tie.Need-returns-then-number_of-eq0
 unfolding refused
-returns c = rw (eq-eqb _ 0 (sym c.before.number_of_lem.ensures ∙ c.if-number_of-eq0.true))
+returns c = rw (eq-eqb _ 0 (sym c.before.number_of.ensures ∙ c.if-number_of-eq0.true))
 
 returns-2 : tie.Need-returns-else-number_of-eq0
 unfolding refused
-returns-2 c = rw (ne_eqb _ 0 (λ e. c.if-number_of-eq0.false (c.before.number_of_lem.ensures ∙ e)))
+returns-2 c = rw (ne_eqb _ 0 (λ e. c.if-number_of-eq0.false (c.before.number_of.ensures ∙ e)))
 
 pub is_refused_spec : {M : Type 1} → statement M
 is_refused_spec =

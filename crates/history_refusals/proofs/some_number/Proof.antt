@@ -26,7 +26,7 @@ loop-again : tie.Need-loop-a-preserved invariant-loop decreases-loop
 unfolding some_number
 loop-again c =
     let l = c.before.before.before.loop-a in
-    (omega arith, rw (c.found_or-found.ensures, c.before.number_of_lem.ensures, l.invariant.1, add-one l.a))
+    (omega arith, rw (c.found_or-found.ensures, c.before.number_of.ensures, l.invariant.1, add-one l.a))
 
 returns : tie.Need-returns invariant-loop decreases-loop
 returns c =

@@ -13,7 +13,7 @@ returns : tie.Need-returns
 unfolding line_wanted
 returns c =
     let ls = lines c.before.before.before.before.args.text.now in
-    c.content_of.ensures ∙ ap content_of (c.before.line_at_lem.ensures ∙ ap (λ (n : ℕ). get_or ls n []) c.before.before.lines_before.ensures.0)
+    c.content_of.ensures ∙ ap content_of (c.before.line_at.ensures ∙ ap (λ (n : ℕ). get_or ls n []) c.before.before.lines_before.ensures.0)
 
 pub line_wanted_spec : {M : Type 1} → statement M
 line_wanted_spec = tie.close (tie.spec (λ c κs. search rules) (λ c κs. search rules) (λ c κs. search rules) returns)

@@ -43,7 +43,7 @@ returns-2 c =
     wrong_line _ _ (labelled f.before) (λ e. c.if-wrong-ne0.true (fault-is f ∙ e))
 
 -- nothing
-none : (e : tie.Else2) → (fault_in (last_year_of (start e.before.before.before).args.packed.now + 1) (start e.before.before.before).args.line.now).kind ≡ 0
+none : (e : tie.Else-wrong-ne0) → (fault_in (last_year_of (start e.before.before.before).args.packed.now + 1) (start e.before.before.before).args.line.now).kind ≡ 0
 none e = sym (fault-is e.before.before) ∙ e.if-wrong-ne0.false
 
 makes-requires : tie.Need-makes-requires

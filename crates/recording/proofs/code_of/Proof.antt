@@ -8,10 +8,10 @@ use Rattle.recording.proofs.WrittenSigns.{Below, Above, is_below, is_above}
 use Rattle.recording.proofs.code_of.Statement.{statement}
 use Rattle.recording.proofs.code_of.Tie as tie
 
-negative : (c : tie.Then1) → Below c.before.args.p
+negative : (c : tie.Then-p-lt0) → Below c.before.args.p
 negative c = is_below c.before.args.p (rw (to_z-of_z c.before.ranges.p) at c.if-p-lt0.true) c.before.requires
 
-positive : (c : tie.Else1) → Above c.before.args.p
+positive : (c : tie.Else-p-lt0) → Above c.before.args.p
 positive c = is_above c.before.args.p (rw (to_z-of_z c.before.ranges.p) at c.if-p-lt0.false) c.before.requires
 
 sub-result : tie.Need-overflow_sub-result

@@ -10,7 +10,7 @@ use Rattle.kinds.proofs.Mark.{mark_room}
 use Rattle.sheet_reading.proofs.without_mark.Statement.{statement}
 use Rattle.sheet_reading.proofs.without_mark.Tie as tie
 
-has-mark : (c : tie.Then1) → marked c.before.before.before.args.text.now ≡ true
+has-mark : (c : tie.Then-is_marked) → marked c.before.before.before.args.text.now ≡ true
 has-mark c = sym c.before.is_marked.ensures ∙ c.if-is_marked.true
 
 sub-result : tie.Need-slice_bounds-result-count

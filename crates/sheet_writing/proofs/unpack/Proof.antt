@@ -13,10 +13,10 @@ use Rattle.sheet_writing.proofs.unpack.Statement.{statement}
 use Rattle.sheet_writing.proofs.unpack.Tie as tie
 
 -- an accepted record
-bytes : (c : tie.Else1) → Fit 8 c.before.before.before.before.before.before.args.packed.now
+bytes : (c : tie.Else-answer-ne-ACCEPTED) → Fit 8 c.before.before.before.before.before.before.args.packed.now
 bytes c i = omega (arith, c.before.before.before.before.before.shared_slice_known-1.given i)
 
-answered : (c : tie.Else1) → read_answer_of c.before.before.before.before.before.before.args.packed.now most_fields ≡ 0
+answered : (c : tie.Else-answer-ne-ACCEPTED) → read_answer_of c.before.before.before.before.before.before.args.packed.now most_fields ≡ 0
 answered c = sym c.before.before.doonamurk_read-answer.ensures.0 ∙ c.if-answer-ne-ACCEPTED.false
 
 returns : tie.Need-returns-then-answer-ne-ACCEPTED

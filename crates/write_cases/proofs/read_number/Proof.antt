@@ -20,7 +20,7 @@ array-read-signed : tie.Need-array-read-signed
 array-read-signed c = search rules
 
 signed-requires : tie.Need-signed-requires
-signed-requires c κs = rw c.field.ensures (field_lt _ 8 56)
+signed-requires c κs = rw c.field-size.ensures (field_lt _ 8 56)
 
 returns : tie.Need-returns
 returns c = search rules

@@ -46,10 +46,10 @@ asked_2 : (c : tie.After-given_lengths) → given_lengths (from (start-2 c)) (le
 unfolding given_lengths layout
 asked_2 c = sym c.given_lengths.ensures
 
-said-1 : (c : tie.Else1) → given_last_year (from (start-1 c.before)) ≡ true
+said-1 : (c : tie.Else-not-given_last_year) → given_last_year (from (start-1 c.before)) ≡ true
 said-1 c = asked_1 c.before ∙ c.if-not-given_last_year.false
 
-said-2 : (c : tie.Else2) → given_lengths (from (start-2 c.before)) (length (start-2 c.before).args.buffer.now) ≡ true
+said-2 : (c : tie.Else-not-given_lengths) → given_lengths (from (start-2 c.before)) (length (start-2 c.before).args.buffer.now) ≡ true
 said-2 c = asked_2 c.before ∙ c.if-not-given_lengths.false
 
 by_rows : (c : tie.After-given_ranges) → ranges_of (from (start-4 c)) ≡ c.given_ranges.result
@@ -62,11 +62,11 @@ asked_4 c =
     let m = length s.args.buffer.now in
     ranges_are (from s) m (lengths_are (from s) m (said-2 c.before)) (said-1 c.before.before.before) ∙ by_rows c
 
-said-4 : (c : tie.Else3) → given_ranges (from (start-4 c.before)) ≡ true
+said-4 : (c : tie.Else-not-given_ranges) → given_ranges (from (start-4 c.before)) ≡ true
 said-4 c = asked_4 c.before ∙ c.if-not-given_ranges.false
 
 -- what has passed questions 1, 2 and 4
-writable : (c : tie.Else3) → Writable (from (start-4 c.before)) (length (start-4 c.before).args.buffer.now)
+writable : (c : tie.Else-not-given_ranges) → Writable (from (start-4 c.before)) (length (start-4 c.before).args.buffer.now)
 writable c =
     let d = c.before.before in
     record { years = said-1 d.before.before; lengths = said-2 d; ranges = by_rows c.before ∙ c.if-not-given_ranges.false }
