@@ -53,7 +53,7 @@ last-year c = c.last_year_of.ensures.0
 ready : (c : tie.After-last_year_of) →
     let read = c.before.read_provided-given in
     (c.last_year_of.result < 16)
-    × (((i : ℕ) → get_or read.new.1.1.1.1.0 i 0 ≤ most_cumulative) × ((i : ℕ) → get_or read.new.1.1.1.1.1.0 i 0 ≤ 16 * most_payment))
+    × (((i : ℕ) → get_or read.new.paid i 0 ≤ most_cumulative) × ((i : ℕ) → get_or read.new.provisions i 0 ≤ 16 * most_payment))
 ready c =
     let at = c.before in
     let p = passed (start at) in
