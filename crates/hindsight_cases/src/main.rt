@@ -1,10 +1,12 @@
 // Test of the hindsight run. Each case on standard input is the length of a record, the number of settings and the length of the lent report (two bytes each, high
 // byte first), then the record, and the settings, eight bytes each. The report is lent full of -7. Writes the answer, and then the whole report after an answer of
 // 0, or whether a refusal left it unchanged.
+#![tactic(auto)]
+
 ghost use Rattle.std.specs.Prelude.{◌≤◌, length};
 
 use hindsight::doonamurk_hindsight;
-use printing::put_outcome;
+use printing::{put_outcome, read_full};
 use valuation::pair_at;
 
 // What each entry of the lent report holds before the call.
@@ -20,11 +22,11 @@ fn number_in(bytes: &[u8]) -> u64
 }
 
 // Reads the settings that the list has room for; false where the input ends before.
-fn read_settings(list: &mut [u64]) -> bool {
+fn read_settings(rt: &HostRuntime, list: &mut [u64]) -> bool {
     let n = list.len();
     for i in 0..n {
         let mut bytes = [0u8; 8];
-        if io::read_full(0, &mut bytes) < 8 {
+        if read_full(rt, &mut bytes) < 8 {
             return false;
         }
         list[i] = number_in(&bytes);
@@ -33,22 +35,22 @@ fn read_settings(list: &mut [u64]) -> bool {
 }
 
 // Reads a record of this length and the settings and shows what is made of them; false where the input ends before.
-fn show(packed: &mut [u8], settings: &mut [u64], report: &mut [i64]) -> bool {
-    if io::read_full(0, packed) < packed.len() {
+fn show(rt: &HostRuntime, packed: &mut [u8], settings: &mut [u64], report: &mut [i64]) -> bool {
+    if read_full(rt, packed) < packed.len() {
         return false;
     }
-    if !read_settings(settings) {
+    if !read_settings(rt, settings) {
         return false;
     }
     let answer = doonamurk_hindsight(packed, settings, report);
-    put_outcome(answer, report, LENT);
+    put_outcome(rt, answer, report, LENT);
     true
 }
 
 // One case; false at the end of the input, or where a list is too long.
-fn case() -> bool {
+fn case(rt: &HostRuntime) -> bool {
     let mut head = [0u8; 6];
-    if io::read_full(0, &mut head) < 6 {
+    if read_full(rt, &mut head) < 6 {
         return false;
     }
     let size = pair_at(&head, 0);
@@ -63,15 +65,20 @@ fn case() -> bool {
     if 1024 < room {
         return false;
     }
-    let mut packed = io::buffer();
+    let mut packed = [0u8; 4096];
     let mut settings = [0u64; 512];
     let mut report = [LENT; 1024];
-    show(&mut packed[..size], &mut settings[..n], &mut report[..room])
+    show(
+        rt,
+        &mut packed[..size],
+        &mut settings[..n],
+        &mut report[..room],
+    )
 }
 
-fn main() {
+fn main(rt: HostRuntime) {
     for _ in 0..1000usize {
-        if !case() {
+        if !case(&rt) {
             return;
         }
     }

@@ -1,22 +1,23 @@
 // Writes the comma-separated values of the hindsight run of a record on standard input, behind the years and the title of a report's input and, in the place of its line, the settings; what is wrong with
 // the settings, or a refusal, goes to standard error.
+#![tactic(auto)]
+
 use hindsight_csv_lengths::MOST_HINDSIGHT_CSV;
 use hindsight_reports::csv_hindsight;
-use libc::STDERR_FILENO;
 use printing::{put_composed, put_first};
 use report_input::read_report;
 
-fn main() {
-    let mut input = io::buffer();
-    let n = read_report(&mut input);
+fn main(rt: HostRuntime) {
+    let mut input = [0u8; 4096];
+    let n = read_report(&rt, &mut input);
     if n > 0 {
         let mut text = [0u8; MOST_HINDSIGHT_CSV];
         let mut message = [0u8; 256];
         let written = csv_hindsight(&input[..n], &mut text, &mut message);
         if written.listed {
-            put_composed(&text, written.end);
+            put_composed(&rt, &text, written.end);
         } else {
-            put_first(STDERR_FILENO, &message, written.end);
+            put_first(&rt.stderr(), &message, written.end);
         }
     }
 }

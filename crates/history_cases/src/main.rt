@@ -1,11 +1,13 @@
 // Test of the windows of a history. Each case on standard input is the years and the width (eight bytes each, high byte first), how many exposures, cells and
 // entries of the lent result there are (two bytes each), then the exposures, eight bytes each, and the cells, a sign byte, 1 for negative, and a size of seven
 // bytes each. The result is lent full of -7. Writes the answer, and then the whole result after an answer of 0, or whether a refusal left it unchanged.
+#![tactic(auto)]
+
 ghost use Rattle.std.specs.Prelude.{◌<◌, ◌≤◌, ◌^◌, length};
 
 use history::doonamurk_history;
 use packing::field;
-use printing::put_outcome;
+use printing::{put_outcome, read_full};
 use valuation::pair_at;
 
 // What each entry of the lent result holds before the call.
@@ -34,11 +36,11 @@ fn cell_in(bytes: &[u8; 8]) -> i64 {
 }
 
 // Reads the exposures that the list has room for; false where the input ends before.
-fn read_exposures(list: &mut [u64]) -> bool {
+fn read_exposures(rt: &HostRuntime, list: &mut [u64]) -> bool {
     let n = list.len();
     for i in 0..n {
         let mut bytes = [0u8; 8];
-        if io::read_full(0, &mut bytes) < 8 {
+        if read_full(rt, &mut bytes) < 8 {
             return false;
         }
         list[i] = number_in(&bytes);
@@ -47,11 +49,11 @@ fn read_exposures(list: &mut [u64]) -> bool {
 }
 
 // Reads the cells that the list has room for; false where the input ends before.
-fn read_cells(list: &mut [i64]) -> bool {
+fn read_cells(rt: &HostRuntime, list: &mut [i64]) -> bool {
     let n = list.len();
     for i in 0..n {
         let mut bytes = [0u8; 8];
-        if io::read_full(0, &mut bytes) < 8 {
+        if read_full(rt, &mut bytes) < 8 {
             return false;
         }
         list[i] = cell_in(&bytes);
@@ -60,22 +62,29 @@ fn read_cells(list: &mut [i64]) -> bool {
 }
 
 // Reads exposures and cells and shows what is made of them; false where the input ends before.
-fn show(years: u64, width: u64, exposures: &mut [u64], cells: &mut [i64], res: &mut [i64]) -> bool {
-    if !read_exposures(exposures) {
+fn show(
+    rt: &HostRuntime,
+    years: u64,
+    width: u64,
+    exposures: &mut [u64],
+    cells: &mut [i64],
+    res: &mut [i64],
+) -> bool {
+    if !read_exposures(rt, exposures) {
         return false;
     }
-    if !read_cells(cells) {
+    if !read_cells(rt, cells) {
         return false;
     }
     let answer = doonamurk_history(years, width, exposures, cells, res);
-    put_outcome(answer, res, LENT);
+    put_outcome(rt, answer, res, LENT);
     true
 }
 
 // One case; false at the end of the input, or where a list is too long.
-fn case() -> bool {
+fn case(rt: &HostRuntime) -> bool {
     let mut head = [0u8; 22];
-    if io::read_full(0, &mut head) < 22 {
+    if read_full(rt, &mut head) < 22 {
         return false;
     }
     let years = number_in(&head);
@@ -96,6 +105,7 @@ fn case() -> bool {
     let mut cells = [0i64; 1024];
     let mut result = [LENT; 2048];
     show(
+        rt,
         years,
         width,
         &mut exposures[..n],
@@ -104,9 +114,9 @@ fn case() -> bool {
     )
 }
 
-fn main() {
+fn main(rt: HostRuntime) {
     for _ in 0..1000usize {
-        if !case() {
+        if !case(&rt) {
             return;
         }
     }

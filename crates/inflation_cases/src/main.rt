@@ -1,9 +1,11 @@
 // Test of the inflation calls. Each case on standard input is a shape (one byte: 0 flat, 1 fading, 2 shock) and four numbers of eight bytes, high byte first: the bits
 // of the rate and of the second rate, the shock year and the years wanted. Writes the number and the sixteen indices on a line.
+#![tactic(auto)]
+
 ghost use Rattle.std.specs.Prelude.{◌≤◌, length};
 
 use inflation::{doonamurk_fading, doonamurk_flat, doonamurk_shock};
-use printing::{put_number, put_text};
+use printing::{put_number, put_text, read_full};
 use rate_text::float_of;
 use rules::Indices;
 use valuation::pair_at;
@@ -18,25 +20,25 @@ fn number_in(bytes: &[u8]) -> u64
 }
 
 // An index behind a blank.
-fn put_index(x: u64) {
-    put_text(b" ");
-    put_number(x);
+fn put_index(rt: &HostRuntime, x: u64) {
+    put_text(rt, b" ");
+    put_number(rt, x);
 }
 
 // The number and the indices of a call.
-fn show(made: Indices) {
-    put_number(made.refused);
+fn show(rt: &HostRuntime, made: Indices) {
+    put_number(rt, made.refused);
     let values = made.values;
     for i in 0..16usize {
-        put_index(values[i]);
+        put_index(rt, values[i]);
     }
-    put_text(b"\n");
+    put_text(rt, b"\n");
 }
 
 // One case; false at the end of the input.
-fn case() -> bool {
+fn case(rt: &HostRuntime) -> bool {
     let mut head = [0u8; 33];
-    if io::read_full(0, &mut head) < 33 {
+    if read_full(rt, &mut head) < 33 {
         return false;
     }
     let rate = float_of(number_in(&head[1..]));
@@ -44,18 +46,18 @@ fn case() -> bool {
     let year = number_in(&head[17..]);
     let years = number_in(&head[25..]);
     if head[0] == 0 {
-        show(doonamurk_flat(rate, years));
+        show(rt, doonamurk_flat(rate, years));
     } else if head[0] == 1 {
-        show(doonamurk_fading(rate, second, years));
+        show(rt, doonamurk_fading(rate, second, years));
     } else {
-        show(doonamurk_shock(rate, second, year, years));
+        show(rt, doonamurk_shock(rate, second, year, years));
     }
     true
 }
 
-fn main() {
+fn main(rt: HostRuntime) {
     for _ in 0..1000usize {
-        if !case() {
+        if !case(&rt) {
             return;
         }
     }

@@ -1,13 +1,15 @@
 // Taylor's motor account (document 004, example 1), whose record, in tenths, is read from standard input behind a valuation year: whether the shares, the levels and the
 // fitted run-off triangle that come of it are those that he prints, to his digits. Writes a line for each figure, and then how many are as printed.
 // The account's cut to three years is not compared.
+#![tactic(auto)]
+
 ghost use Rattle.std.specs.Prelude.{◌+◌, ◌≤◌, ◌<◌};
 ghost use Rattle.rules.specs.Separation.{billion};
 ghost use Rattle.rules.specs.Results.{most_entries};
 
 use engine::doonamurk_run;
 use entries::size_of;
-use printing::{put_number, put_text};
+use printing::{put_number, put_text, read_full};
 use rules::{BILLION, MOST_ENTRIES};
 use valuation::{record_start, year_of};
 
@@ -37,21 +39,22 @@ fn nearest(amount: u64, unit: u64) -> u64
 }
 
 // Ends the line of a figure; 1 where it is as printed, and 0 where it differs.
-fn compare(figure: u64, printed: u64) -> u64
+fn compare(rt: &HostRuntime, figure: u64, printed: u64) -> u64
     ensures { result ≤ 1 }
 {
-    put_text(b" ");
-    put_number(figure);
+    put_text(rt, b" ");
+    put_number(rt, figure);
     if figure == printed {
-        put_text(b" as printed\n");
+        put_text(rt, b" as printed\n");
         return 1;
     }
-    put_text(b" differs\n");
+    put_text(rt, b" differs\n");
     0
 }
 
 // How many of the four factors of this name, from this place of the list on, are as printed.
 fn compare_factors(
+    rt: &HostRuntime,
     name: &[u8],
     list: &[i64; MOST_ENTRIES],
     from: usize,
@@ -63,9 +66,9 @@ fn compare_factors(
 {
     let mut same: u64 = 0;
     for h in 0..4 {
-        put_text(name);
-        put_number(h as u64);
-        same += compare(nearest(entry(list, from + h), digit), printed[h]);
+        put_text(rt, name);
+        put_number(rt, h as u64);
+        same += compare(rt, nearest(entry(list, from + h), digit), printed[h]);
     }
     same
 }
@@ -81,15 +84,16 @@ fn fitted(list: &[i64; MOST_ENTRIES], shares: usize, levels: usize, i: usize, j:
 }
 
 // Begins the line of the cell in row i and column j.
-fn put_cell(i: usize, j: usize) {
-    put_text(b"cell ");
-    put_number(i as u64);
-    put_text(b" ");
-    put_number(j as u64);
+fn put_cell(rt: &HostRuntime, i: usize, j: usize) {
+    put_text(rt, b"cell ");
+    put_number(rt, i as u64);
+    put_text(rt, b" ");
+    put_number(rt, j as u64);
 }
 
 // How many of the fitted cells of row i are as printed.
 fn compare_row(
+    rt: &HostRuntime,
     list: &[i64; MOST_ENTRIES],
     shares: usize,
     levels: usize,
@@ -102,36 +106,38 @@ fn compare_row(
     let mut same: u64 = 0;
     let n = 4 - i;
     for j in 0..n {
-        put_cell(i, j);
-        same += compare(fitted(list, shares, levels, i, j), printed[j]);
+        put_cell(rt, i, j);
+        same += compare(rt, fitted(list, shares, levels, i, j), printed[j]);
     }
     same
 }
 
 // Compares the shares in ten-thousandths, the levels in tenths and the cells in tenths.
-fn compare_all(list: &[i64; MOST_ENTRIES], shares: usize, levels: usize)
+fn compare_all(rt: &HostRuntime, list: &[i64; MOST_ENTRIES], shares: usize, levels: usize)
     requires { (shares ≤ 100) × (levels ≤ 100) }
 {
     let same = compare_factors(
+        rt,
         b"share ",
         list,
         shares,
         SHARE_DIGIT,
         &[5835, 2878, 866, 421],
     ) + compare_factors(
+        rt,
         b"level ",
         list,
         levels,
         LEVEL_DIGIT,
         &[864, 989, 1020, 1139],
-    ) + compare_row(list, shares, levels, 0, &[504, 285, 88, 48])
-        + compare_row(list, shares, levels, 1, &[577, 294, 99, 0])
-        + compare_row(list, shares, levels, 2, &[595, 328, 0, 0])
-        + compare_row(list, shares, levels, 3, &[665, 0, 0, 0]);
-    put_number(same);
-    put_text(b" of ");
-    put_number(FIGURES);
-    put_text(b" as printed\n");
+    ) + compare_row(rt, list, shares, levels, 0, &[504, 285, 88, 48])
+        + compare_row(rt, list, shares, levels, 1, &[577, 294, 99, 0])
+        + compare_row(rt, list, shares, levels, 2, &[595, 328, 0, 0])
+        + compare_row(rt, list, shares, levels, 3, &[665, 0, 0, 0]);
+    put_number(rt, same);
+    put_text(rt, b" of ");
+    put_number(rt, FIGURES);
+    put_text(rt, b" as printed\n");
 }
 
 // The places of the shares and the levels in the list of four years.
@@ -145,16 +151,16 @@ fn run(input: &[u8], list: &mut [i64]) -> u64 {
     doonamurk_run(year_of(input), &input[from..], list)
 }
 
-fn main() {
-    let mut buffer = io::buffer();
-    let n = io::read_full(0, &mut buffer);
+fn main(rt: HostRuntime) {
+    let mut buffer = [0u8; 4096];
+    let n = read_full(&rt, &mut buffer);
     let mut list = [0i64; MOST_ENTRIES];
     let answer = run(&buffer[..n], &mut list);
     if answer == 0 {
-        compare_all(&list, SHARES, LEVELS);
+        compare_all(&rt, &list, SHARES, LEVELS);
     } else {
-        put_text(b"refused ");
-        put_number(answer);
-        put_text(b"\n");
+        put_text(&rt, b"refused ");
+        put_number(&rt, answer);
+        put_text(&rt, b"\n");
     }
 }

@@ -1,18 +1,19 @@
 // Writes the result list of the valuation year and the record on standard input as comma-separated values; a refusal goes to standard error.
+#![tactic(auto)]
+
 use csv_report::csv;
-use libc::STDERR_FILENO;
 use printing::{put_composed, put_first, read_valuation};
 
-fn main() {
-    let mut input = io::buffer();
-    let n = read_valuation(&mut input);
+fn main(rt: HostRuntime) {
+    let mut input = [0u8; 4096];
+    let n = read_valuation(&rt, &mut input);
     if n > 0 {
-        let mut text = io::large_buffer();
+        let mut text = [0u8; 65536];
         let written = csv(&input[..n], &mut text);
         if written.answer == 0 {
-            put_composed(&text, written.end);
+            put_composed(&rt, &text, written.end);
         } else {
-            put_first(STDERR_FILENO, &text, written.end);
+            put_first(&rt.stderr(), &text, written.end);
         }
     }
 }

@@ -1,11 +1,12 @@
 // Runs the engine on each record of the stream on standard input, where the valuation year of all of them stands first, in two bytes with the high one first,
 // and then each record behind its length, in two bytes too. Prints a line for each: the entries of its result list with blanks between them, or `refused` and
 // the number.
+#![tactic(auto)]
+
 ghost use Rattle.std.specs.Prelude.{◌+◌, ◌≤◌, length};
 
-use libc::{STDERR_FILENO, STDIN_FILENO, STDOUT_FILENO};
 use list_stream::{Taken, move_down, put_rows};
-use printing::{put_first, read_input, say};
+use printing::{put_first, read_input, read_once, say, say_number};
 use valuation::year_of;
 
 // Twice the most that a record and its length can take, so that there is always room to read more.
@@ -47,74 +48,66 @@ fn take_rows(
 }
 
 // Writes the first n bytes of the text.
-fn write_rows(text: &[u8; TEXT], n: usize) -> bool {
-    put_first(STDOUT_FILENO, text, n)
+fn write_rows(rt: &HostRuntime, text: &[u8; TEXT], n: usize) -> bool {
+    put_first(rt, text, n)
 }
 
 // Moves the pending bytes to the start and reads more behind them.
-fn read_more(input: &mut [u8], from: usize, have: usize) -> Filled
+fn read_more(rt: &HostRuntime, input: &mut [u8], from: usize, have: usize) -> Filled
     requires { (from ≤ have) × (have ≤ length input.old) }
     ensures { result.have ≤ length input.old }
 {
     let rest = have - from;
     move_down(input, from, have);
-    let more = &mut input[rest..];
-    let got = libc::read(STDIN_FILENO, more);
-    if got < 0 {
-        return Filled {
-            failed: true,
-            have: rest,
-        };
-    }
-    let n = io::count(got, more);
+    let more = read_once(rt, &mut input[rest..]);
     Filled {
-        failed: false,
-        have: rest + n,
+        failed: more.failed,
+        have: rest + more.size,
     }
 }
 
 // The same of the program's array.
-fn refill(input: &mut [u8; INPUT], from: usize, have: usize) -> Filled
+fn refill(rt: &HostRuntime, input: &mut [u8; INPUT], from: usize, have: usize) -> Filled
     requires { (from ≤ have) × (have ≤ 131072) }
     ensures { result.have ≤ 131072 }
 {
-    read_more(input, from, have)
+    read_more(rt, input, from, have)
 }
 
 // Says that the input ends within the record of this place, counted from 1.
-fn say_cut(place: u64) {
-    say(b"the input ends within record ");
-    io::print_decimal(STDERR_FILENO, place);
-    say(b"\n");
+fn say_cut(rt: &HostRuntime, place: u64) {
+    say(rt, b"the input ends within record ");
+    say_number(rt, place);
+    say(rt, b"\n");
 }
 
 // Reads the records behind the year, and writes the line of each.
-fn put_all(year: u64) {
+fn put_all(rt: &HostRuntime, year: u64) {
     let mut input = [0u8; INPUT];
-    let mut text = io::large_buffer();
+    let mut text = [0u8; 65536];
     let mut from: usize = 0;
     let mut have: usize = 0;
     let mut place: u64 = 1;
     for turn in 0..TURNS {
         let taken = take_rows(year, &input, from, have, &mut text);
-        if !write_rows(&text, taken.end) {
-            say(b"the output could not be written\n");
+        if !write_rows(rt, &text, taken.end) {
+            say(rt, b"the output could not be written\n");
             return;
         }
         from += taken.from;
-        place = std::num::wrapping_add_u64(place, taken.count as u64);
+        place = place.wrapping_add(taken.count as u64);
         if taken.count == 0 {
             let rest = have - from;
-            let filled = refill(&mut input, from, have);
+            let filled = refill(rt, &mut input, from, have);
             if filled.failed {
-                say(b"the input could not be read\n");
+                say(rt, b"the input could not be read\n");
                 return;
             }
             from = 0;
             have = filled.have;
             if have == rest {
                 if rest > 0 {
-                    say_cut(place);
+                    say_cut(rt, place);
                 }
                 return;
             }
@@ -122,16 +115,16 @@ fn put_all(year: u64) {
     }
 }
 
-fn main() {
+fn main(rt: HostRuntime) {
     let mut head = [0u8; 2];
-    let arrived = read_input(&mut head);
+    let arrived = read_input(&rt, &mut head);
     if arrived.failed {
-        say(b"the input could not be read\n");
+        say(&rt, b"the input could not be read\n");
         return;
     }
     if arrived.size < 2 {
-        say(b"the input ends within the valuation year\n");
+        say(&rt, b"the input ends within the valuation year\n");
         return;
     }
-    put_all(year_of(&head));
+    put_all(&rt, year_of(&head));
 }

@@ -1,6 +1,8 @@
 // Document 01's case of three years: k = 2, n 100 each, cells 0, 5000, 999999 / 0, 0 / 1. Question 13 refuses its record before it is separated, so here its averages, which in
 // hundredths are those same numbers, are separated by themselves: whether A_1 is 1000, A_0 is 0, l_1 is too large, that is above S, and the answer is 9. Writes a line
 // for each figure, and then how many are as printed.
+#![tactic(auto)]
+
 ghost use Rattle.std.specs.Prelude.{◌≤◌, ◌<◌, ◌≡◌, ◌∷◌, pos, replicate};
 ghost use Rattle.rules.specs.Separation.{billion};
 ghost use Rattle.totals.specs.CellSizes.{Cells};
@@ -47,49 +49,49 @@ fn share(shares: &[u64; 16], h: usize) -> u64
 }
 
 // Ends the line of a figure; 1 where it is as printed, and 0 where it differs.
-fn put_verdict(same: bool) -> u64
+fn put_verdict(rt: &HostRuntime, same: bool) -> u64
     ensures { result ≤ 1 }
 {
     if same {
-        put_text(b" as printed\n");
+        put_text(rt, b" as printed\n");
         return 1;
     }
-    put_text(b" differs\n");
+    put_text(rt, b" differs\n");
     0
 }
 
 // The line of a figure that is printed itself.
-fn compare(name: &[u8], figure: u64, printed: u64) -> u64
+fn compare(rt: &HostRuntime, name: &[u8], figure: u64, printed: u64) -> u64
     ensures { result ≤ 1 }
 {
-    put_text(name);
-    put_number(figure);
-    put_verdict(figure == printed)
+    put_text(rt, name);
+    put_number(rt, figure);
+    put_verdict(rt, figure == printed)
 }
 
 // The line of a level of which it is printed that it is too large.
-fn compare_too_large(name: &[u8], level: u64) -> u64
+fn compare_too_large(rt: &HostRuntime, name: &[u8], level: u64) -> u64
     ensures { result ≤ 1 }
 {
-    put_text(name);
-    put_number(level);
-    put_text(b" too large");
-    put_verdict(level > BILLION)
+    put_text(rt, name);
+    put_number(rt, level);
+    put_text(rt, b" too large");
+    put_verdict(rt, level > BILLION)
 }
 
 // How many of these factors' figures are as printed. A running share is the sum of the shares up to its year.
-fn compare_factors<'a>(shares: &'a [u64; 16], levels: &'a [u64; 16]) -> u64
+fn compare_factors<'a>(rt: &HostRuntime, shares: &'a [u64; 16], levels: &'a [u64; 16]) -> u64
     ensures { result ≤ 3 }
 {
     let earliest = share(shares, 0);
     let running = earliest + share(shares, 1);
-    compare(b"running share 1 ", running, 1000)
-        + compare(b"running share 0 ", earliest, 0)
-        + compare_too_large(b"level 1 ", levels[1])
+    compare(rt, b"running share 1 ", running, 1000)
+        + compare(rt, b"running share 0 ", earliest, 0)
+        + compare_too_large(rt, b"level 1 ", levels[1])
 }
 
 // How many figures of the walk over a square's totals are as printed.
-fn compare_walk(square: &[[i64; 16]; 16]) -> u64
+fn compare_walk(rt: &HostRuntime, square: &[[i64; 16]; 16]) -> u64
     requires { Cells square.now }
     ensures { result ≤ 3 }
 {
@@ -97,16 +99,16 @@ fn compare_walk(square: &[[i64; 16]; 16]) -> u64
     let mut diagonals = [0i64; 16];
     fill_totals(square, 0, LATEST, &mut columns, &mut diagonals);
     let f = walk(&columns, &diagonals, LATEST);
-    compare_factors(&f.shares, &f.levels)
+    compare_factors(rt, &f.shares, &f.levels)
 }
 
-fn main() {
+fn main(rt: HostRuntime) {
     let square = averages();
-    let walked = compare_walk(&square);
+    let walked = compare_walk(&rt, &square);
     let separation = separate(&square, 0, LATEST);
-    let same = walked + compare(b"refused ", separation.answer, 9);
-    put_number(same);
-    put_text(b" of ");
-    put_number(FIGURES);
-    put_text(b" as printed\n");
+    let same = walked + compare(&rt, b"refused ", separation.answer, 9);
+    put_number(&rt, same);
+    put_text(&rt, b" of ");
+    put_number(&rt, FIGURES);
+    put_text(&rt, b" as printed\n");
 }

@@ -1,11 +1,12 @@
 // Test of the writer. A number on standard input is a sign byte, 1 for negative, and a size of seven bytes, high byte first. Each case is the
 // length of the buffer, k, the weight, the amount still to be paid, and then each of the five lists with its length before it. The buffer is lent
 // full of 165. Writes the answer, and then the buffer's bytes in hexadecimal after an answer of 0, or whether a refusal left it unchanged.
+#![tactic(auto)]
+
 ghost use Rattle.std.specs.Prelude.{◌≡◌, ◌<◌, ◌≤◌, ◌^◌, length, take};
 
-use libc::STDOUT_FILENO;
 use packing::field;
-use printing::{put_number, put_text};
+use printing::{put_number, put_text, read_full};
 use writing::doonamurk_write;
 
 // A number and its size, and whether it was read whole. Once the input has ended no number is.
@@ -34,9 +35,9 @@ fn signed(sign: u8, size: u64) -> i64
 }
 
 // The next number.
-fn read_number() -> Number {
+fn read_number(rt: &HostRuntime) -> Number {
     let mut bytes = [0u8; 8];
-    let got = io::read_full(0, &mut bytes);
+    let got = read_full(rt, &mut bytes);
     let size = field(&bytes, 8, 56);
     Number {
         whole: got == 8,
@@ -46,13 +47,13 @@ fn read_number() -> Number {
 }
 
 // The next list. Its count lies within both arrays, which lending a part of one needs.
-fn read_list() -> List
+fn read_list(rt: &HostRuntime) -> List
     ensures { ((result.count ≤ length result.sizes) × (result.count ≡ length (take result.count result.sizes)))
         × ((result.count ≤ length result.values) × (result.count ≡ length (take result.count result.values))) }
 {
     let mut sizes = [0u64; 160];
     let mut values = [0i64; 160];
-    let head = read_number();
+    let head = read_number(rt);
     if head.size > 160 {
         return List {
             whole: false,
@@ -64,7 +65,7 @@ fn read_list() -> List
     let count = head.size as usize;
     let mut whole = head.whole;
     for i in 0..count {
-        let x = read_number();
+        let x = read_number(rt);
         whole = x.whole;
         sizes[i] = x.size;
         let value = x.value;
@@ -89,20 +90,18 @@ fn unchanged(bytes: &[u8]) -> bool {
     true
 }
 
-fn wide(x: u8) -> u64 {
-    x as u64
-}
-
 // Writes the bytes in hexadecimal, two digits each.
-fn put_hexadecimal(bytes: &[u8]) {
+fn put_hexadecimal(rt: &HostRuntime, bytes: &[u8]) {
     let n = bytes.len();
     for i in 0..n {
-        io::print_hex(STDOUT_FILENO, wide(bytes[i]), 2);
+        let byte = bytes[i];
+        let _ = print!(rt; "{byte:02x}");
     }
 }
 
 // Shows what the writer makes of these fields.
 fn show(
+    rt: &HostRuntime,
     k: u64,
     exposures: &[u64],
     increments: &[i64],
@@ -116,30 +115,30 @@ fn show(
     let answer = doonamurk_write(
         k, exposures, increments, indices, reporting, weight, totals, tail, buffer,
     );
-    put_text(b"answer ");
-    put_number(answer);
-    put_text(b"\n");
+    put_text(rt, b"answer ");
+    put_number(rt, answer);
+    put_text(rt, b"\n");
     if answer == 0 {
-        put_hexadecimal(buffer);
-        put_text(b"\n");
+        put_hexadecimal(rt, buffer);
+        put_text(rt, b"\n");
     } else if unchanged(buffer) {
-        put_text(b"unchanged\n");
+        put_text(rt, b"unchanged\n");
     } else {
-        put_text(b"changed\n");
+        put_text(rt, b"changed\n");
     }
 }
 
 // One case; false where the input ends, or a list or the buffer is too long.
-fn case() -> bool {
-    let size = read_number().size;
-    let k = read_number().size;
-    let weight = read_number().size;
-    let tail = read_number().size;
-    let exposures = read_list();
-    let increments = read_list();
-    let indices = read_list();
-    let reporting = read_list();
-    let totals = read_list();
+fn case(rt: &HostRuntime) -> bool {
+    let size = read_number(rt).size;
+    let k = read_number(rt).size;
+    let weight = read_number(rt).size;
+    let tail = read_number(rt).size;
+    let exposures = read_list(rt);
+    let increments = read_list(rt);
+    let indices = read_list(rt);
+    let reporting = read_list(rt);
+    let totals = read_list(rt);
     if !(exposures.whole && increments.whole && indices.whole && reporting.whole && totals.whole) {
         return false;
     }
@@ -147,8 +146,7 @@ fn case() -> bool {
         return false;
     }
     let mut buffer = [165u8; 1000];
-    // The same number: the contract of `count` says that the buffer has so many bytes.
-    let room = io::count(size as isize, &buffer);
+    let room = size as usize;
     let a = exposures.count;
     let b = increments.count;
     let c = indices.count;
@@ -160,6 +158,7 @@ fn case() -> bool {
     let reporting = reporting.sizes;
     let totals = totals.sizes;
     show(
+        rt,
         k,
         &exposures[..a],
         &increments[..b],
@@ -173,9 +172,9 @@ fn case() -> bool {
     true
 }
 
-fn main() {
+fn main(rt: HostRuntime) {
     for _ in 0..1000usize {
-        if !case() {
+        if !case(&rt) {
             return;
         }
     }

@@ -23,7 +23,7 @@ array-set-from-square-3 : tie.Need-array-set-from-square-3
 array-set-from-square-3 c = search rules
 
 returns : tie.Need-returns
-returns c = rw (c.row-3.ensures, c.before.row-2.ensures, c.before.before.row.ensures) cells
+returns c = rw (c.row3.ensures, c.before.row2.ensures, c.before.before.row.ensures) cells
 
 pub averages-spec : {M : Type 1} → statement M
 averages-spec =

@@ -1,0 +1,2 @@
+-- What the contracts of what was read cite.
+pub mod Counts
