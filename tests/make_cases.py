@@ -1235,7 +1235,7 @@ def gather(record):
 
 
 def examples():
-    """The record, the page and the list of every example, the page with its line of inflation where it has one; the longest of them is what pack, unpack and csv
+    """The record, the page and the list of every example, the page with its line of inflation where it has one; the longest of them is what pack, unpack and report_csv
     are given."""
     for path in sorted(glob.glob(os.path.join(HERE, "..", "examples", "*.txt"))):
         name = os.path.splitext(os.path.basename(path))[0]
@@ -1251,7 +1251,7 @@ def examples():
         if name == "liability_book":
             store("pack", given, record)
             store("unpack", record, page.sheet(fields))
-            store("csv", of_year(2027, record), page.csv(2027, record))
+            store("report_csv", of_year(2027, record), page.csv(2027, record))
 
 
 def store_pages(path, year, record, title=b"", first=0, line=b""):
