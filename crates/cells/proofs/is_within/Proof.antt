@@ -11,8 +11,8 @@ use Rattle.cells.proofs.is_within.Statement.{statement}
 use Rattle.cells.proofs.is_within.Tie as tie
 
 -- the number that was read
-value : (c : tie.After-number_of-v) → to_z w64 (of_z w64 c.number_of_lem.result) ≡ whole_of c.before.before.args.word.now
-value c = to_z-of_z {w = w64} (sfits_of c.number_of_lem.type_inv) ∙ c.number_of_lem.ensures
+value : (c : tie.After-number_of-v) → to_z w64 (of_z w64 c.number_of-v.result) ≡ whole_of c.before.before.args.word.now
+value c = to_z-of_z {w = w64} (sfits_of c.number_of-v.type_inv) ∙ c.number_of-v.ensures
 
 returns : tie.Need-returns-then-v-least
 unfolding is_within

@@ -94,18 +94,18 @@ cast-t14 c = record { sfits = (limits c.before.before.before.before.before.befor
 
 returns : tie.Need-returns
 returns c =
-    let spot = c.before.before.before.before in
-    let call = spot.before.before.before in
+    let spot = c.before.before.before in
+    let call = spot.before.before.before.before in
     let start = call.before.before in
     let whole = is_whole call.before in
     let p = start.requires.1 in
     let row = call.row_of-row in
     let value = c.before.before.value in
     let least = c.before.least_value in
-    of_parts start.args.s.now start.args.k start.args.r start.args.m p.0 spot.spot_of_lem.ensures
+    of_parts start.args.s.now start.args.k start.args.r start.args.m p.0 spot.spot_of-place.ensures
     (to_z-of_z {w = w64} {z = value.result} (sfits_of value.type_inv)
-    ∙ (value.ensures ∙ (held_value whole p.0 row.ensures p.1.1.0 spot.field-code.result
-    ∙ ap (value_of (kind_of (last_year_of start.args.s.now) start.args.r)) (spot.field-code.ensures ∙ held_code whole p.0 row.ensures p.1.1.0 start.args.m (has-field call)))))
+    ∙ (value.ensures ∙ (held_value whole p.0 row.ensures p.1.1.0 spot.before.field-code.result
+    ∙ ap (value_of (kind_of (last_year_of start.args.s.now) start.args.r)) (spot.before.field-code.ensures ∙ held_code whole p.0 row.ensures p.1.1.0 start.args.m (has-field call)))))
     (to_z-of_z {w = w64} {z = least.result} (sfits_of least.type_inv) ∙ (least.ensures ∙ held_least whole p.0 row.ensures p.1.1.0))
     (to_z_pos w64 row.result.most (limits call).1 ∙ ap pos (held_most whole p.0 row.ensures p.1.1.0))
 

@@ -29,11 +29,11 @@ decreases-loop list k n t columns places styles₀ p₀ styles p = places - p
 mul-places : tie.Need-overflow_mul-places invariant-loop decreases-loop
 mul-places c =
     let s = c.before.before in
-    let e : c.rows_of_lem.result * c.before.columns_of-columns.result ≡ rows_of s.args.t s.args.k s.args.n * columns_of s.args.t s.args.k s.args.n = rw (c.rows_of_lem.ensures, c.before.columns_of-columns.ensures) in
+    let e : c.rows_of.result * c.before.columns_of-columns.result ≡ rows_of s.args.t s.args.k s.args.n * columns_of s.args.t s.args.k s.args.n = rw (c.rows_of.ensures, c.before.columns_of-columns.ensures) in
     record { fits = omega (arith, e, places_most s.args.t s.args.k s.args.n s.requires.0 s.requires.1) }
 
 loop-holds : tie.Need-loop-p-init invariant-loop decreases-loop
-loop-holds c = ((c.before.columns_of-columns.ensures, rw (c.rows_of_lem.ensures, c.before.columns_of-columns.ensures)), (omega arith, filled_none most_places 0 _))
+loop-holds c = ((c.before.columns_of-columns.ensures, rw (c.rows_of.ensures, c.before.columns_of-columns.ensures)), (omega arith, filled_none most_places 0 _))
 
 div-cell-style : tie.Need-nonzero_div-p invariant-loop decreases-loop
 div-cell-style c =

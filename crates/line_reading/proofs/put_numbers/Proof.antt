@@ -35,7 +35,7 @@ loop-again : tie.Need-loop-i-preserved invariant-loop decreases-loop
 loop-again c =
     let l = c.before.before.before.loop-i in
     let a = c.before.before.before.before.before.args in
-    let v = to_z-of_z {w = w64} {z = c.number_of_lem.result} (sfits_of c.number_of_lem.type_inv) ∙ c.number_of_lem.ensures ∙ ap whole_of c.before.cell_at.ensures in
+    let v = to_z-of_z {w = w64} {z = c.number_of.result} (sfits_of c.number_of.type_inv) ∙ c.number_of.ensures ∙ ap whole_of c.before.cell_at.ensures in
     (omega arith, rw (v, l.invariant.1) (sets_more (λ (i : ℕ). whole_of (get_or (cells_of a.line.now) i [])) _ a.at l.i))
 
 same_length : tie.Need-shape_of-list invariant-loop decreases-loop

@@ -68,10 +68,10 @@ loop-less c = omega arith
 
 loop-again : tie.Need-loop-i-preserved invariant-loop decreases-loop
 loop-again c =
-    let coded = c.before.before.before.before in
-    let loop = coded.before.before.before.loop-i in
-    let ps = coded.before.before.before.before.before.args.ps.now in
-    let code = rw (to_z-of_z {w = w64} (sfits_of coded.code_of-arg-1.given)) at coded.code_of_lem.ensures.0 in
+    let coded = c.before.before.before in
+    let loop = coded.before.before.before.before.loop-i in
+    let ps = coded.before.before.before.before.before.before.args.ps.now in
+    let code = rw (to_z-of_z {w = w64} (sfits_of coded.before.code_of-arg-1.given)) at coded.code_of.ensures.0 in
     let e : 35 * (loop.i + 1) ≡ 35 * loop.i + 35 = omega arith in (
       omega arith,
       omega arith,

@@ -21,56 +21,56 @@ array-share-prefix-exposures : tie.Need-slice_bounds-exposures-end
 array-share-prefix-exposures c =
     let b = c in
     let s = start b in
-    let r = (rows b).rows_of_lem in
+    let r = (rows b).rows_of-rows in
     exposures_fit s.args.k s.args.list.now s.requires.0 s.requires.1.0 r.result r.ensures
 
 slice-aggregate-doonamurk-write : tie.Need-slice_bounds-doonamurk_write-end
 slice-aggregate-doonamurk-write c =
     let b = c.before in
     let s = start b in
-    let r = (rows b).rows_of_lem in
+    let r = (rows b).rows_of-rows in
     exposures_cut s.args.k s.args.list.now s.requires.0 s.requires.1.0 r.result r.ensures
 
 array-share-prefix-indices : tie.Need-slice_bounds-indices-end
 array-share-prefix-indices c =
     let b = c.before.before in
     let s = start b in
-    let r = (rows b).rows_of_lem in
+    let r = (rows b).rows_of-rows in
     indices_fit s.args.k s.args.list.now s.requires.0 s.requires.1.0 r.result r.ensures
 
 slice-aggregate-doonamurk-write-2 : tie.Need-slice_bounds-doonamurk_write-end-3
 slice-aggregate-doonamurk-write-2 c =
     let b = c.before.before.before in
     let s = start b in
-    let r = (rows b).rows_of_lem in
+    let r = (rows b).rows_of-rows in
     indices_cut s.args.k s.args.list.now s.requires.0 s.requires.1.0 r.result r.ensures
 
 array-share-prefix-reporting : tie.Need-slice_bounds-reporting-end
 array-share-prefix-reporting c =
     let b = c.before.before.before in
     let s = start b in
-    let r = (rows b).rows_of_lem in
+    let r = (rows b).rows_of-rows in
     reporting_fit s.args.k s.args.list.now s.requires.0 s.requires.1.0 r.result r.ensures
 
 slice-aggregate-doonamurk-write-3 : tie.Need-slice_bounds-doonamurk_write-end-4
 slice-aggregate-doonamurk-write-3 c =
     let b = c.before.before.before.before in
     let s = start b in
-    let r = (rows b).rows_of_lem in
+    let r = (rows b).rows_of-rows in
     reporting_cut s.args.k s.args.list.now s.requires.0 s.requires.1.0 r.result r.ensures
 
 array-share-prefix-ulae : tie.Need-slice_bounds-ulae-end
 array-share-prefix-ulae c =
     let b = c.before.before.before.before in
     let s = start b in
-    let r = (rows b).rows_of_lem in
+    let r = (rows b).rows_of-rows in
     ulae_fit s.args.k s.args.list.now s.requires.0 s.requires.1.0 r.result r.ensures
 
 slice-aggregate-doonamurk-write-4 : tie.Need-slice_bounds-doonamurk_write-end-5
 slice-aggregate-doonamurk-write-4 c =
     let b = c.before.before.before.before.before in
     let s = start b in
-    let r = (rows b).rows_of_lem in
+    let r = (rows b).rows_of-rows in
     ulae_cut s.args.k s.args.list.now s.requires.0 s.requires.1.0 r.result r.ensures
 
 slice-aggregate-doonamurk-write-5 : tie.Need-slice_bounds-doonamurk_write-end-7
@@ -84,7 +84,7 @@ returns c =
     let d = c.before.before in
     let b = d.before.before.before.before.before.before.before in
     let s = start b in
-    let r = (rows b).rows_of_lem in
+    let r = (rows b).rows_of-rows in
     let m = b.bytes_of-m.result in
     let e = given_is s.args.k s.args.list.now s.requires.0 s.requires.1.0 r.result r.ensures b.before.cells_of.result b.before.cells_of.ensures.0 in
     let long : length (take m s.args.buffer.now) ≡ m = length-take-le m s.args.buffer.now (omega arith) in (

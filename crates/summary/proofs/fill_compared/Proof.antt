@@ -33,11 +33,11 @@ returns c =
     let s = c.before.before.before in
     let apart = to_z-of_z {w = w64} {z = c.before.before.sections_apart.result} (sfits_of c.before.before.sections_apart.type_inv) in
     let together = to_z-of_z {w = w64} {z = c.before.sections_together.result} (sfits_of c.before.sections_together.type_inv) in
-    let tails = to_z-of_z {w = w64} {z = c.tail_allowance_lem.result} (sfits_of c.tail_allowance_lem.type_inv) in
+    let tails = to_z-of_z {w = w64} {z = c.tail_allowance.result} (sfits_of c.tail_allowance.type_inv) in
     rw (
       apart ∙ (rw s.requires.1.0 at c.before.before.sections_apart.ensures),
       together ∙ (rw s.requires.1.0 at c.before.sections_together.ensures),
-      tails ∙ c.tail_allowance_lem.ensures,
+      tails ∙ c.tail_allowance.ensures,
     )
 
 pub fill_compared_spec : {M : Type 1} → statement M

@@ -35,7 +35,7 @@ loop-again c =
     let a = c.before.before.before.before.before.args in
     let f = column_width a.words.now a.total.now a.shape a.values.now a.styles.now in
     let j = c.before.before.loop-j.j in
-    (omega arith, rw (c.before.before.loop-j.invariant.1, c.width_of_lem.ensures) (filled_more 20 0 f j (omega (arith, c.before.before.before.before.before.requires.columns_most))))
+    (omega arith, rw (c.before.before.loop-j.invariant.1, c.width_of.ensures) (filled_more 20 0 f j (omega (arith, c.before.before.before.before.before.requires.columns_most))))
 
 returns : tie.Need-returns invariant-loop decreases-loop
 returns c =
