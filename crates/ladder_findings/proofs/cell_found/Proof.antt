@@ -70,8 +70,8 @@ cell_found_spec =
     (λ c. row c.before)
     (λ c. omega (arith, column (walk1 c)))
     (λ c. omega (arith, column (walk1 c)))
-    (λ c. omega (arith, column (walk1 c)))
-    (λ c. omega (arith, column c.before.before))
+    (λ c. omega (arith, column (walk1 c.before)))
+    (λ c. omega (arith, column c.before.before.before))
     mul-of-naturals
     of-naturals-requires
     returns)

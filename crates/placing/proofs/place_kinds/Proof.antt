@@ -61,7 +61,7 @@ place_kinds_spec =
     (λ c. omega (arith, inside c.before))
     (λ c. omega arith)
     (λ c. omega arith)
-    (λ c. omega (arith, inside c.before.before))
+    (λ c. omega (arith, inside c.before.before.before.before))
     (λ c. omega arith)
     (λ c. omega arith)
     loop-again
