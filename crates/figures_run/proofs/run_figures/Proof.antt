@@ -49,10 +49,10 @@ returns c =
 sums_are : (c : tie.Else-not-fill_rows) →
     let s = start1 c.before in
     c.before.fill_rows.new.sums ≡ up_to (column_sum (F s).k (F s).increments ((F s).k + 1)) 16
-sums_are c = stage.sums-are (F (start1 c.before)) (yes-six c) _ c.before.fill_rows.ensures.1.1.0
+sums_are c = stage.sums_are (F (start1 c.before)) (yes-six c) _ c.before.fill_rows.ensures.1.1.0
 
 paid_are : (c : tie.Else-not-fill_rows) → c.before.fill_rows.new.paid ≡ paid_in (F (start1 c.before))
-paid_are c = stage.paid-are (F (start1 c.before)) (yes-six c) _ c.before.fill_rows.ensures.1.1.1.0
+paid_are c = stage.paid_are (F (start1 c.before)) (yes-six c) _ c.before.fill_rows.ensures.1.1.1.0
 
 -- question 13
 development-factors-requires : tie.Need-development_factors-requires
@@ -70,7 +70,7 @@ thirteen : (c : tie.After-development_factors) →
 thirteen c =
     let six = six13 c in
     let s = start1 six.before in
-    c.development_factors.ensures.0 ∙ ladder.thirteen-is (F s) s.requires.0.few _ _ (sums_are six) (paid_are six)
+    c.development_factors.ensures.0 ∙ ladder.thirteen_is (F s) s.requires.0.few _ _ (sums_are six) (paid_are six)
 
 yes-thirteen : (c : tie.Else-not-development_factors) →
     let f = F (start1 (six13 c.before).before) in
@@ -81,7 +81,7 @@ development_are : (c : tie.Else-not-development_factors) → c.before.developmen
 development_are c =
     let six = six13 c.before in
     let s = start1 six.before in
-    ladder.development-are (F s) s.requires.0.few _ _ (sums_are six) (paid_are six) (yes-thirteen c) _ c.before.development_factors.ensures.1
+    ladder.development_are (F s) s.requires.0.few _ _ (sums_are six) (paid_are six) (yes-thirteen c) _ c.before.development_factors.ensures.1
 
 returns-2 : tie.Need-returns-then-not-development_factors
 unfolding figure_questions development_questions every
@@ -112,13 +112,13 @@ after-13 c qs left n a =
 
 -- the square, and the answer of questions 7 to 10
 square_is : (c : tie.Else-not-fill_rows) → c.before.fill_rows.new.square ≡ square_of (F (start1 c.before))
-square_is c = stage.square-is (F (start1 c.before)) (yes-six c) _ c.before.fill_rows.ensures.1.0
+square_is c = stage.square_is (F (start1 c.before)) (yes-six c) _ c.before.fill_rows.ensures.1.0
 
 -- its totals
 summed : (c : tie.Else-not-fill_rows) →
     let s = start1 c.before in
     Summed (square_of (F s)) (F s).k c.before.fill_rows.new.columns c.before.fill_rows.new.diagonals
-summed c = let s = start1 c.before in stage.totals-are (F s) (yes-six c) s.requires.0 _ _ c.before.fill_rows.ensures.1.1.1.1
+summed c = let s = start1 c.before in stage.totals_are (F s) (yes-six c) s.requires.0 _ _ c.before.fill_rows.ensures.1.1.1.1
 
 separate-totals-requires : tie.Need-separate_totals-separation-requires
 separate-totals-requires c κs =
@@ -165,7 +165,7 @@ run-separated-requires c κs =
     let six = six13 yes.before in
     let s = start2 at in
     let f = F s in
-    let factors = stage.factors-are f at.separate_totals-separation.result.factors-1 (at.separate_totals-separation.ensures (square_of f) (summed six)).1 (accepted-is three) in (
+    let factors = stage.factors_are f at.separate_totals-separation.result.factors-1 (at.separate_totals-separation.ensures (square_of f) (summed six)).1 (accepted-is three) in (
       record {
         sound = s.requires.0;
         cumulatives = yes-six six;

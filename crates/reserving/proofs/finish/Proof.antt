@@ -45,14 +45,14 @@ fill-levels-requires : tie.Need-fill_levels-requires
 fill-levels-requires c κs =
     let s = c.before.before in
     let h = separated s.before in
-    (h.sound.few, (stage.levels-fit (F s.before) _ _ _ _ _ h _, h.sound.indices))
+    (h.sound.few, (stage.levels_fit (F s.before) _ _ _ _ _ h _, h.sound.indices))
 
 complete-requires : tie.Need-complete-requires
 complete-requires c κs =
     let filled = c.before.before.before in
     let s = filled.before.before.before in
     let h = separated s.before in
-    (stage.completable (F s.before) _ _ _ _ _ h _ filled.fill_levels.ensures, (stage.tails-fit (F s.before) _ _ _ _ _ h _ (tailed s.before), stage.paid-fits (F s.before) _ _ _ _ _ h))
+    (stage.completable (F s.before) _ _ _ _ _ h _ filled.fill_levels.ensures, (stage.tails_fit (F s.before) _ _ _ _ _ h _ (tailed s.before), stage.paid_fits (F s.before) _ _ _ _ _ h))
 
 -- question 11
 abbrev start1 : tie.After-complete → tie.Start
@@ -61,7 +61,7 @@ start1 c = c.before.before.before.before.before.before.before.before
 eleven : (c : tie.After-complete) → c.complete.result ≡ ultimates_pass (F (start1 c)).k (paid_in (F (start1 c))) (provisions_in (F (start1 c)))
 eleven c =
     let filled = c.before.before.before.before in
-    c.complete.ensures.0 ∙ stage.eleven-is (F (start1 c)) _ _ _ _ _ (separated (start1 c)) _ filled.fill_levels.ensures _ (tailed (start1 c))
+    c.complete.ensures.0 ∙ stage.eleven_is (F (start1 c)) _ _ _ _ _ (separated (start1 c)) _ filled.fill_levels.ensures _ (tailed (start1 c))
 
 yes-eleven : (c : tie.Else-not-complete) → ultimates_pass (F (start1 c.before)).k (paid_in (F (start1 c.before))) (provisions_in (F (start1 c.before))) ≡ true
 yes-eleven c = sym (eleven c.before) ∙ c.if-not-complete.false
@@ -78,7 +78,7 @@ provisions_are : (c : tie.Else-not-complete) → c.before.complete.new.sums ≡ 
 provisions_are c =
     let s = start1 c.before in
     let filled = c.before.before.before.before.before.fill_levels.ensures in
-    stage.provisions-are (F s) _ _ _ _ _ (separated s) _ filled _ (tailed s) (yes-eleven c) _ c.before.complete.ensures.1.1
+    stage.provisions_are (F s) _ _ _ _ _ (separated s) _ filled _ (tailed s) (yes-eleven c) _ c.before.complete.ensures.1.1
 
 ratio-of-requires : tie.Need-ratio_of-used-requires
 ratio-of-requires c κs =
@@ -118,20 +118,20 @@ yes_twelve : (c : tie.Else-used-ne-ACCEPTED) →
 yes_twelve c =
     let at = used2 c in
     let s = start2 at in
-    stage.yes-twelve (F s) _ _ _ _ _ (separated s) _ (provisions_are (else1 at)) s.args.year _ _ at.ratio_of-used.ensures c.if-used-ne-ACCEPTED.false
+    stage.yes_twelve (F s) _ _ _ _ _ (separated s) _ (provisions_are (else1 at)) s.args.year _ _ at.ratio_of-used.ensures c.if-used-ne-ACCEPTED.false
 
 yes_correction : (c : tie.Else-used-ne-ACCEPTED) → first_no (correction_questions (start2 (used2 c)).args.year (F (start2 (used2 c)))) ≡ 0
 yes_correction c =
     let at = used2 c in
     let s = start2 at in
-    stage.yes-correction (F s) _ _ _ _ _ (separated s) _ (provisions_are (else1 at)) s.args.year _ _ at.ratio_of-used.ensures c.if-used-ne-ACCEPTED.false
+    stage.yes_correction (F s) _ _ _ _ _ (separated s) _ (provisions_are (else1 at)) s.args.year _ _ at.ratio_of-used.ensures c.if-used-ne-ACCEPTED.false
 
 -- the ratio is the one that the year uses
 used_is : (c : tie.Else-used-ne-ACCEPTED) → (used2 c).ratio-of.result.ratio ≡ used_ratio_in (start2 (used2 c)).args.year (F (start2 (used2 c)))
 used_is c =
     let at = used2 c in
     let s = start2 at in
-    stage.used-is (F s) _ _ _ _ _ (separated s) _ (provisions_are (else1 at)) s.args.year _ _ at.ratio_of-used.ensures c.if-used-ne-ACCEPTED.false
+    stage.used_is (F s) _ _ _ _ _ (separated s) _ (provisions_are (else1 at)) s.args.year _ _ at.ratio_of-used.ensures c.if-used-ne-ACCEPTED.false
 
 -- the questions before 14 have said yes
 before-14 : (c : tie.Else-used-ne-ACCEPTED) (left : List ℤ) (n : ℕ) →
@@ -152,7 +152,7 @@ complete-requires-2 : tie.Need-complete-requires-2
 complete-requires-2 c κs =
     let s = start2 (used2 c.before) in
     let h = separated s in
-    (h.sound.few, (stage.paid-fits (F s) _ _ _ _ _ h, stage.factors-fit (F s) _ _ _ _ _ h))
+    (h.sound.few, (stage.paid_fits (F s) _ _ _ _ _ h, stage.factors_fit (F s) _ _ _ _ _ h))
 
 -- question 14
 abbrev else2 : tie.After-complete-2 → tie.Else-used-ne-ACCEPTED
@@ -164,7 +164,7 @@ start3 c = start2 (used2 (else2 c))
 fourteen : (c : tie.After-complete-2) →
     let f = F (start3 c) in
     c.complete-2.result ≡ completed_pass (completed_all f.k (paid_in f) (development_in f))
-fourteen c = let s = start3 c in c.complete-2.ensures.0 ∙ stage.fourteen-is (F s) _ _ _ _ _ (separated s)
+fourteen c = let s = start3 c in c.complete-2.ensures.0 ∙ stage.fourteen_is (F s) _ _ _ _ _ (separated s)
 
 yes-fourteen : (c : tie.Else-not-complete-2) →
     let f = F (start3 c.before) in
@@ -193,11 +193,11 @@ work c =
     let f = F s in
     let h = separated s in
     stage.worked s.args.year f (yes-eleven one) (yes_twelve two) (yes_correction two) (yes-fourteen c)
-    (stage.ahead-is f _ _ _ _ _ h _ filled)
-    (stage.payments-are f _ _ _ _ _ h _ filled _ (tailed s) (yes-eleven one) _ one.before.complete.ensures.1.0)
+    (stage.ahead_is f _ _ _ _ _ h _ filled)
+    (stage.payments_are f _ _ _ _ _ h _ filled _ (tailed s) (yes-eleven one) _ one.before.complete.ensures.1.0)
     (provisions_are one)
     (used_is two)
-    (stage.completed-are f _ _ _ _ _ h _ (yes-fourteen c) c.before.complete-2.ensures.1)
+    (stage.completed_are f _ _ _ _ _ h _ (yes-fourteen c) c.before.complete-2.ensures.1)
 
 abbrev last : tie.After-completed-2-1 → tie.Else-not-complete-2
 last c = c.before.before.before.before.before
@@ -224,7 +224,7 @@ returns-4 c =
     let w = work at in
     before-14 (else2 at.before) left 0
     (accepted (filled year f out) out (completed_ladder_questions f) left (one_yes 14 _ w.fourteen)
-    (put.put_results.ensures ∙ ap (sets out 0) (stage.printed-is f _ _ _ _ _ (separated s) _ _ _ _ _ year w _ (tailed s))))
+    (put.put_results.ensures ∙ ap (sets out 0) (stage.printed_is f _ _ _ _ _ (separated s) _ _ _ _ _ year w _ (tailed s))))
 
 pub finish_spec : {M : Type 1} → statement M
 finish_spec =
