@@ -102,7 +102,8 @@ reserve-of-requires c κs =
     let s = c.before.before.before.before.before.before in
     let t = c.before.before.before.before.before.loop-i in
     let part = provision_most s.args.k s.args.paid.now s.args.provisions.now s.args.reporting.now s.args.weight s.args.ratio s.requires.0 t.i (omega arith) in
-    (s.requires.0.ratio, (s.requires.0.weight, (omega (arith, product c), part)))
+    let most = s.requires.0 in
+    (omega (arith, most.ratio, most.weight), (most.weight, (omega (arith, product c), part)))
 
 cast-out : tie.Need-overflow_cast-out invariant-loop decreases-loop
 cast-out c = record { sfits = omega (arith, product c.before) }

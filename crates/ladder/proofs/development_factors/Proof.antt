@@ -92,7 +92,10 @@ element-copy-out-factor : tie.Need-bounds-columns-h-in-loop-h invariant-loop dec
 element-copy-out-factor c = omega arith
 
 mul-factor-2 : tie.Need-overflow_mul-factor invariant-loop decreases-loop
-mul-factor-2 c = omega (arith, c.before.before.before.before.before.before.before.before.requires.columns (c.before.before.before.before.before.before.before.loop-h.h + 1))
+mul-factor-2 c =
+    let columns = c.before.before.before.before.before.before.before.before.requires.columns in
+    let h = c.before.before.before.before.before.before.before.loop-h.h in
+    omega (arith, columns (h + 1), columns (h + 0))
 
 div-factor : tie.Need-nonzero_div-factor invariant-loop decreases-loop
 div-factor c = omega arith

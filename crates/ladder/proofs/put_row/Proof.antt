@@ -63,7 +63,8 @@ mul-a-3 : tie.Need-overflow_mul-a invariant-loop decreases-loop
 mul-a-3 c =
     let s = c.before.before.before.before.before.before in
     let t = c.before.before.before.loop-t in
-    omega (arith, mul-le-mul t.invariant.1.1.0 (s.requires.1.1.1.1 (s.args.k - s.args.i + t.t)))
+    let most = mul-le-mul t.invariant.1.1.0 (s.requires.1.1.1.1 (s.args.k - s.args.i + t.t)) in
+    omega (arith, most, mul-le-mul t.invariant.1.1.0 (s.requires.1.1.1.1 (s.args.k - s.args.i + 0)))
 
 -- what the code makes of the last cumulative is the next one
 next : (c : tie.After-a-in-loop-t-1 invariant-loop decreases-loop) →

@@ -2,7 +2,7 @@
 use mathlib.Core.Path.{◌≡◌, refl, sym, ◌∙◌}
 use mathlib.Core.Bool.{Bool, true, false}
 use mathlib.Core.List.{List}
-use Prim.Native.Nat.{ℕ, ◌+◌, ◌-◌, ◌≤◌, ◌<◌}
+use Prim.Native.Nat.{ℕ, ◌+◌, ◌/◌, ◌-◌, ◌≤◌, ◌<◌}
 use native.Mathlib.Nat.{zero-add, mul-le-mul}
 use native.Mathlib.Omega.{arith}
 use borrow.Author.Rules.{rules}
@@ -54,7 +54,9 @@ element-copy-out-carried c = omega arith
 mul-carried-2 : tie.Need-overflow_mul-carried invariant-loop decreases-loop
 mul-carried-2 c =
     let s = c.before.before.before.before.before.before in
-    omega (arith, mul-le-mul s.requires.1 (s.requires.0.indices c.before.before.before.loop-i.i))
+    let indices = s.requires.0.indices in
+    let i = c.before.before.before.loop-i.i in
+    omega (arith, mul-le-mul s.requires.1 (indices i), mul-le-mul s.requires.1 (indices (i / 2)))
 
 div-carried : tie.Need-nonzero_div-carried invariant-loop decreases-loop
 div-carried c = omega (arith, c.before.before.before.before.before.before.requires.0.first_index)
