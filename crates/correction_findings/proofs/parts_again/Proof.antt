@@ -126,7 +126,7 @@ counted c = c.before.before.before
 divisor-of-requires : tie.Need-divisor_of-requires
 divisor-of-requires c κs =
     let at = (years4 c).before in
-    (rw at.read_provided-weight.ensures.0 (good at).weight, ((counted c).latest-reported.ensures.1, rw (latest c) (latest_least (latest_paid_in (F at)) (passed at).latest)))
+    (rw at.read_provided-weight.ensures.0 (good at).weight, ((counted c).latest_reported-reported.ensures.1, rw (latest c) (latest_least (latest_paid_in (F at)) (passed at).latest)))
 
 divisor : (c : tie.After-divisor_of) → c.divisor_of.result ≡ divisor_in (F (years4 c.before).before)
 divisor c =

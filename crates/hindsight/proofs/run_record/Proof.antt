@@ -55,12 +55,12 @@ last-year-of-requires c κs =
 abbrev read_at : tie.After-last_year_of → tie.After-read-opened
 read_at c = c.before.before.before
 
-exposures-read : (c : tie.After-last_year_of) → let at = read_at c in at.read-opened.last.1.0 ≡ (figures_of (start at).args.packed.now).exposures
+exposures-read : (c : tie.After-last_year_of) → let at = read_at c in at.read-opened.new.exposures ≡ (figures_of (start at).args.packed.now).exposures
 exposures-read c =
     let at = read_at c in
     at.read-opened.ensures.1.1.0 ∙ (figures_filled (start at).args.packed.now (bytes at) (start at).requires.0 (yes-fields c.before)).exposures
 
-increments-read : (c : tie.After-last_year_of) → let at = read_at c in at.read-opened.last.1.1.0 ≡ (figures_of (start at).args.packed.now).increments
+increments-read : (c : tie.After-last_year_of) → let at = read_at c in at.read-opened.new.increments ≡ (figures_of (start at).args.packed.now).increments
 increments-read c =
     let at = read_at c in
     at.read-opened.ensures.1.1.1.0 ∙ (figures_filled (start at).args.packed.now (bytes at) (start at).requires.0 (yes-fields c.before)).increments

@@ -44,7 +44,7 @@ left c e = c.before.before.if-f-lines_in.false (e ∙ sym (count c.before.before
 
 line-due : (c : tie.After-wrong_in-w) → c.before.due_in-d.result ≡ due_in (start (year c)).args.history (last_year_in (numbers (year c))) (start (year c)).args.f.place
 line-due c =
-    c.before.due_in-d.ensures ∙ ap (λ (n : ℕ). due_in (start (year c)).args.history n (start (year c)).args.f.place) (year c).last-year.ensures
+    c.before.due_in-d.ensures ∙ ap (λ (n : ℕ). due_in (start (year c)).args.history n (start (year c)).args.f.place) (year c).last_year-k.ensures
 
 due : (c : tie.After-wrong_in-w)
     → c.wrong_in-w.result ≡ wrong_in (due_in (start (year c)).args.history (last_year_in (numbers (year c))) (start (year c)).args.f.place) (start (year c)).args.line.now

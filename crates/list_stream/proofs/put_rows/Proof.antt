@@ -106,7 +106,7 @@ add-from-2 : tie.Need-overflow_add-from-in-loop-end invariant-loop decreases-loo
 add-from-2 c = omega (arith, past c)
 
 add-count : tie.Need-overflow_add-count invariant-loop decreases-loop
-add-count c = omega (arith, past c, (taken c).before.before.before.before.loop.invariant.few)
+add-count c = omega (arith, past c, (taken c).before.before.before.before.loop-end.invariant.few)
 
 loop-less : tie.Need-loop-end-smaller invariant-loop decreases-loop
 loop-less c = omega (arith, past c)

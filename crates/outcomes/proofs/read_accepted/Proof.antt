@@ -155,7 +155,7 @@ divisor-of-requires c κs =
     let at = (years (put c)).before in
     let s = start at in
     let fifteen = accepted.latest s.args.year s.args.packed.now s.requires.0 (yes (put c).before.before) in
-    (rw at.read_again-weight.ensures.0 (good at).weight, ((found c).latest-reported.ensures.1, rw (latest c) (latest_least (latest_paid_in (F at)) fifteen)))
+    (rw at.read_again-weight.ensures.0 (good at).weight, ((found c).latest_reported-reported.ensures.1, rw (latest c) (latest_least (latest_paid_in (F at)) fifteen)))
 
 divisor : (c : tie.After-divisor_of) → c.divisor_of.result ≡ divisor_in (F (years (put c.before)).before)
 divisor c =
@@ -165,7 +165,7 @@ divisor c =
 divisor_fits : (c : tie.After-divisor_of) → c.divisor_of.result ≤ most_correction
 divisor_fits c =
     let at = (years (put c.before)).before in
-    rw c.divisor_of.ensures (divisor_most _ _ _ (rw at.read_again-weight.ensures.0 (good at).weight) (found c.before).latest-reported.ensures.1)
+    rw c.divisor_of.ensures (divisor_most _ _ _ (rw at.read_again-weight.ensures.0 (good at).weight) (found c.before).latest_reported-reported.ensures.1)
 
 paid_fits : (c : tie.After-size_of-latest) → c.size_of-latest.result ≤ most_correction
 paid_fits c =
@@ -178,7 +178,7 @@ returns-2 c =
     let ratio = else1.before.before in (
       corrected (F (again ratio)) _ _ _ _ _ (yes else1) (plain ratio) (reported (found c.before)) (latest c.before) (divisor c),
       (
-        record { plain = plain_fits ratio; reported = omega (arith, (found c.before).latest-reported.ensures.1); paid = paid_fits c.before; divisor = divisor_fits c },
+        record { plain = plain_fits ratio; reported = omega (arith, (found c.before).latest_reported-reported.ensures.1); paid = paid_fits c.before; divisor = divisor_fits c },
         (again ratio).read_again.ensures.1.1.1.1.0,
       ),
     )

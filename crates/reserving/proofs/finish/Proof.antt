@@ -127,7 +127,7 @@ yes_correction c =
     stage.yes_correction (F s) _ _ _ _ _ (separated s) _ (provisions_are (else1 at)) s.args.year _ _ at.ratio_of-used.ensures c.if-used-ne-ACCEPTED.false
 
 -- the ratio is the one that the year uses
-used_is : (c : tie.Else-used-ne-ACCEPTED) → (used2 c).ratio-of.result.ratio ≡ used_ratio_in (start2 (used2 c)).args.year (F (start2 (used2 c)))
+used_is : (c : tie.Else-used-ne-ACCEPTED) → (used2 c).ratio_of-used.result.ratio ≡ used_ratio_in (start2 (used2 c)).args.year (F (start2 (used2 c)))
 used_is c =
     let at = used2 c in
     let s = start2 at in
@@ -183,8 +183,8 @@ returns-3 c =
 work : (c : tie.Else-not-complete-2) →
     let two = else2 c.before in
     let one = else1 (used2 two) in
-    Worked (start3 c.before).args.year (F (start3 c.before)) one.before.before.before.before.before.fill_levels.last.1.1.1.0 one.before.complete.last.1.1.1.1.1.1.0
-    one.before.complete.last.1.1.1.1.1.1.1.0 (used2 two).ratio-of.result.ratio c.before.complete-2.new.all
+    Worked (start3 c.before).args.year (F (start3 c.before)) one.before.before.before.before.before.fill_levels.new.levels one.before.complete.new.payments
+    one.before.complete.new.sums (used2 two).ratio_of-used.result.ratio c.before.complete-2.new.all
 work c =
     let two = else2 c.before in
     let one = else1 (used2 two) in

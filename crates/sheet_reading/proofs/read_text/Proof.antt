@@ -33,7 +33,7 @@ abbrev at-loop : tie.After-read_next-f invariant-loop decreases-loop → tie.At-
 at-loop c = c.before.before.before.before.before.before.before
 
 abbrev Here : (c : tie.After-read_next-f invariant-loop decreases-loop) → List (List ℕ) → Type 0
-Here c ls = lines (at-loop c).loop.rest.now ≡ until p (at-loop c).loop.rest.now ∷ ls
+Here c ls = lines (at-loop c).loop-f.rest.now ≡ until p (at-loop c).loop-f.rest.now ∷ ls
 
 abbrev start : tie.At-loop-f invariant-loop decreases-loop → tie.Start invariant-loop decreases-loop
 start l = l.before.before.before.before
@@ -44,8 +44,8 @@ long l = state_long l.loop-f.invariant.0 ∙ (start l).requires
 
 -- what it came to
 reads : (c : tie.After-read_next-f invariant-loop decreases-loop)
-    → Reads (read_next (start (at-loop c)).args.history ((at-loop c).loop.f.line + 1) (at-loop c).loop.f.place (take (at-loop c).loop.f.count (at-loop c).loop.list) (content_of (until p (at-loop c).loop.rest.now)))
-    c.read_next-f.result (at-loop c).loop.list c.read_next-f.new.list (at-loop c).loop.word c.read_next-f.new.word
+    → Reads (read_next (start (at-loop c)).args.history ((at-loop c).loop-f.f.line + 1) (at-loop c).loop-f.f.place (take (at-loop c).loop-f.f.count (at-loop c).loop-f.list) (content_of (until p (at-loop c).loop-f.rest.now)))
+    c.read_next-f.result (at-loop c).loop-f.list c.read_next-f.new.list (at-loop c).loop-f.word c.read_next-f.new.word
 reads c = rw (c.before.before.before.content_of.ensures, c.before.before.before.before.until-line.ensures) at c.read_next-f.ensures
 
 long_after : (c : tie.After-read_next-f invariant-loop decreases-loop) → length c.read_next-f.new.list ≡ room_in (start (at-loop c)).args.history
@@ -54,7 +54,7 @@ long_after c = reads_long (reads c) ∙ long (at-loop c)
 next : (c : tie.After-read_next-f invariant-loop decreases-loop) (ls : List (List ℕ)) → Here c ls → c.read_next-f.result.problem ≡ 0
     → State (start (at-loop c)).args.history (start (at-loop c)).args.text.now (start (at-loop c)).args.list.now (start (at-loop c)).args.word.now ls c.read_next-f.new.list c.read_next-f.new.word c.read_next-f.result
 next c ls e h =
-    let l = (at-loop c).loop in
+    let l = (at-loop c).loop-f in
     state_next _ _ _ _ (until p l.rest.now) ls l.list _ l.word _ l.f _ (rw e at l.inv.0) (reads c) h (long (at-loop c))
 
 loop-holds : tie.Need-loop-f-init invariant-loop decreases-loop
@@ -74,19 +74,19 @@ same_length c =
 same-length-2 : tie.Need-shape_of-word-then-f-ne0 invariant-loop decreases-loop
 same-length-2 c =
     let d = c.before.before.before.before.before in
-    put_length (reads d).put ∙ ap length (at-loop d).loop.invariant.0.kept
+    put_length (reads d).put ∙ ap length (at-loop d).loop-f.invariant.0.kept
 
 returns : tie.Need-returns-then-f-ne0 invariant-loop decreases-loop
 returns c =
     let d = c.before.before.before.before.before in
-    let l = (at-loop d).loop in
+    let l = (at-loop d).loop-f in
     let rest = l.rest.now in
     state_wrong _ _ _ _ (until p rest) (after p rest) l.list _ l.word _ l.f _ (rw (pieces_first p rest) at l.inv.0) (reads d) c.if-f-ne0.true
 
 read-end-requires : tie.Need-read_end-requires invariant-loop decreases-loop
 read-end-requires c κs =
     let d = c.before.before.before.before.before.before in
-    (long_after d, (next d (after p (at-loop d).loop.rest.now) (pieces_first p (at-loop d).loop.rest.now) c.before.if-f-ne0.false).good)
+    (long_after d, (next d (after p (at-loop d).loop-f.rest.now) (pieces_first p (at-loop d).loop-f.rest.now) c.before.if-f-ne0.false).good)
 
 same-length-3 : tie.Need-shape_of-list-then-line-rest invariant-loop decreases-loop
 same-length-3 c =
@@ -96,25 +96,25 @@ same-length-3 c =
 same-length-4 : tie.Need-shape_of-word-then-line-rest invariant-loop decreases-loop
 same-length-4 c =
     let d = c.before.before.before.before.before.before.before in
-    put_length (reads d).put ∙ ap length (at-loop d).loop.invariant.0.kept
+    put_length (reads d).put ∙ ap length (at-loop d).loop-f.invariant.0.kept
 
 returns-2 : tie.Need-returns-then-line-rest invariant-loop decreases-loop
 returns-2 c =
     let d = c.before.before.before.before.before.before.before in
-    let rest = (at-loop d).loop.rest.now in
+    let rest = (at-loop d).loop-f.rest.now in
     let all : length rest ≤ length (until p rest) = omega (arith, ap length d.before.before.before.before.until-line.ensures, c.before.if-line-rest.true) in
     state_end _ _ _ _ _ _ _ _ (next d [] (pieces_last p rest all) c.before.before.if-f-ne0.false) (c.read_end.ensures _)
 
 loop-less : tie.Need-loop-f-smaller invariant-loop decreases-loop
 loop-less c =
     let d = c.before.before.before.before.before.before.before.before.before in
-    let rest = (at-loop d).loop.rest.now in
+    let rest = (at-loop d).loop-f.rest.now in
     rw c.past-next.ensures (past_shorter p rest (omega (arith, ap length d.before.before.before.before.until-line.ensures, until_most p rest)))
 
 loop-again : tie.Need-loop-f-preserved invariant-loop decreases-loop
 loop-again c =
     let d = c.before.before.before.before.before.before.before.before.before in
-    let l = (at-loop d).loop in
+    let l = (at-loop d).loop-f in
     let rest = l.rest.now in
     let more : length (until p rest) < length rest = omega (arith, ap length d.before.before.before.before.until-line.ensures, until_most p rest) in
     let number = next_line _ _ _ _ (until p rest) (lines (past p rest)) l.list _ l.word _ l.f _ (rw (pieces_more p rest more) at l.inv.0) (reads d) c.before.before.before.before.if-f-ne0.false (long (at-loop d)) in
