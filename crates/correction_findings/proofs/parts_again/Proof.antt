@@ -74,7 +74,7 @@ unfolding plain_ratio_in
 plain_most c =
     let at = (years1 c).before in
     let f = F at in
-    ratio_most (paid_total f.k f.increments-1) (ulae_total f.k f.ulae-1) (passed at).ratio
+    ratio_most (paid_total f.k f.increments) (ulae_total f.k f.ulae) (passed at).ratio
 
 -- B
 abbrev years2 : tie.After-provisions-2-1 → tie.After-last_year_of-k

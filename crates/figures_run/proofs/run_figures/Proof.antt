@@ -165,7 +165,7 @@ run-separated-requires c κs =
     let six = six13 yes.before in
     let s = start2 at in
     let f = F s in
-    let factors = stage.factors_are f at.separate_totals-separation.result.factors-1 (at.separate_totals-separation.ensures (square_of f) (summed six)).1 (accepted-is three) in (
+    let factors = stage.factors_are f at.separate_totals-separation.result.factors (at.separate_totals-separation.ensures (square_of f) (summed six)).1 (accepted-is three) in (
       record {
         sound = s.requires.0;
         cumulatives = yes-six six;

@@ -69,7 +69,7 @@ module _ (s : List ℕ) (k : ℕ) (n : List ℕ) (p : List ℤ) (ek : k ≡ last
   -- they have passed question 4
   given_by : Sound (figures_of s) → Given k n p
   unfolding figures_of
-  given_by h = rw (ek, en, ep) (record { few = h.few; exposures = h.exposures-1; increments = h.increments-1 })
+  given_by h = rw (ek, en, ep) (record { few = h.few; exposures = h.exposures; increments = h.increments })
 
   -- what is answered and left of them is so of the record
   answers_by : (settings : List ℕ) (held left : List ℤ) (r : ℕ) → AnswersWith ((6, cumulatives_pass k p) ∷ []) (filled_by k n p settings held) held left r

@@ -46,7 +46,7 @@ returns-2 c =
       (
         sym some,
         (
-          λ e. rw (p.parts_of-parts.ensures.titled, c.before.before.before.first_of.ensures.0, report.0.years, report.0.tried, report.0.settings-1, found_report input (bytes p) some _ report.1) at c.hindsight_page_of-end.ensures.0,
+          λ e. rw (p.parts_of-parts.ensures.titled, c.before.before.before.first_of.ensures.0, report.0.years, report.0.tried, report.0.settings, found_report input (bytes p) some _ report.1) at c.hindsight_page_of-end.ensures.0,
           λ none. absurd (false≢true (sym none ∙ some)),
         ),
       ),

@@ -16,8 +16,8 @@ use Rattle.inflation_reading.proofs.put_made.Statement.{statement}
 use Rattle.inflation_reading.proofs.put_made.Tie as tie
 
 -- the call that was made
-values : (i : tie.After-inflation_indices-made) → i.inflation_indices-made.result.values-1 ≡ (indices_of (shape_of i.before.before.before.args.line.now) (i.before.before.before.args.k + 1)).values
-values i = ap (λ (r : Indices). r.values-1) i.inflation_indices-made.ensures ∙ rw i.before.shape_of.ensures
+values : (i : tie.After-inflation_indices-made) → i.inflation_indices-made.result.values ≡ (indices_of (shape_of i.before.before.before.args.line.now) (i.before.before.before.args.k + 1)).values
+values i = ap (λ (r : Indices). r.values) i.inflation_indices-made.ensures ∙ rw i.before.shape_of.ensures
 
 accepted : (i : tie.After-inflation_indices-made) → inflation_answer (shape_of i.before.before.before.args.line.now) (i.before.before.before.args.k + 1) ≡ 0
 accepted i = stands_accepted i.before.before.before.args.history _ i.before.before.before.args.place _ i.before.before.before.requires.1.1
@@ -34,8 +34,8 @@ returns c =
     let i = c.before.before.before.before.before in
     let a = i.before.before.before.args in
     c.before.put_naturals.ensures.1
-    ∙ ap (λ (xs : List ℕ). sets a.list-1.now a.at (map pos (take (a.k + 1) xs))) (values i)
-    ∙ ap (λ (xs : List ℕ). sets a.list-1.now a.at (map pos xs)) (call_indices _ _ (accepted i))
+    ∙ ap (λ (xs : List ℕ). sets a.list.now a.at (map pos (take (a.k + 1) xs))) (values i)
+    ∙ ap (λ (xs : List ℕ). sets a.list.now a.at (map pos xs)) (call_indices _ _ (accepted i))
 
 pub put_made_spec : {M : Type 1} → statement M
 put_made_spec =

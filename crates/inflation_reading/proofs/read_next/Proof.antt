@@ -78,9 +78,9 @@ returns c =
     let y = s.before.before in
     let a = (start y).args in
     let k = last_year_in (numbers y) in
-    reads_added a.list-1.now _ (a.f.line + 1) a.f.place a.f.count (y.last_year-k.result + 1) (map pos (indices_made k a.line.now)) (next_made a.history _ _ (numbers y) a.line.now (stands s))
+    reads_added a.list.now _ (a.f.line + 1) a.f.place a.f.count (y.last_year-k.result + 1) (map pos (indices_made k a.line.now)) (next_made a.history _ _ (numbers y) a.line.now (stands s))
     (start y).requires.1.1.size (omega (arith, y.last_year-k.ensures, made_count k a.line.now))
-    (p.put_made.ensures ∙ ap (λ (m : ℕ). sets a.list-1.now a.f.count (map pos (indices_made m a.line.now))) y.last_year-k.ensures)
+    (p.put_made.ensures ∙ ap (λ (m : ℕ). sets a.list.now a.f.count (map pos (indices_made m a.line.now))) y.last_year-k.ensures)
 
 returns-2 : tie.Need-returns
 returns-2 c =

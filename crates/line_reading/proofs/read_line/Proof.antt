@@ -60,8 +60,8 @@ returns c =
     let s = c.before.before.before.before.before in
     let a = s.args in
     let f = a.f in
-    reads_kept a.list-1.now 0 (f.line + 1) f.place 0 f.count []
-    (line_bare a.history (f.line + 1) f.place (take f.count a.list-1.now) a.line.now (sym c.before.is_bare.ensures ∙ c.if-is_bare.true)) s.requires.1.1.size (put_none _ 0)
+    reads_kept a.list.now 0 (f.line + 1) f.place 0 f.count []
+    (line_bare a.history (f.line + 1) f.place (take f.count a.list.now) a.line.now (sym c.before.is_bare.ensures ∙ c.if-is_bare.true)) s.requires.1.1.size (put_none _ 0)
 
 last-year-requires : tie.Need-last_year-k-requires
 last-year-requires c κs =
@@ -77,7 +77,7 @@ returns-2 c =
     let y = o.before.before.before in
     let a = (start y).args in
     let f = a.f in
-    reads_kept a.list-1.now 6 (f.line + 1) f.place 0 f.count (label_of a.line.now)
+    reads_kept a.list.now 6 (f.line + 1) f.place 0 f.count (label_of a.line.now)
     (line_over a.history (f.line + 1) f.place (numbers y) a.line.now (filled y) (o.if-f-lines_in.true ∙ count o.before.before)) (start y).requires.1.1.size (put_same c.before.before.before.label_of.ensures c.before.before.put_bytes-size.ensures)
 
 due-in-requires : tie.Need-due_in-d-requires
@@ -89,7 +89,7 @@ returns-3 c =
     let a = (start (year i)).args in
     let f = a.f in
     let w = i.wrong_in-w.result in
-    reads_kept a.list-1.now w.problem (f.line + 1) f.place w.cell f.count (word_in w a.line.now)
+    reads_kept a.list.now w.problem (f.line + 1) f.place w.cell f.count (word_in w a.line.now)
     (line_wrong a.history (f.line + 1) f.place (numbers (year i)) a.line.now (filled (year i)) (left i) w (due i) c.before.before.before.before.if-w-ne0.true)
     (start (year i)).requires.1.1.size c.before.before.put_word-size.ensures
 
@@ -117,7 +117,7 @@ returns-4 c =
     let cs = cells_of a.line.now in
     let right = c.before.before.before.before.before.before.if-w-ne0.false in
     let fine = sym (ap (λ x. x.problem) i.wrong_in-w.ensures) ∙ right in
-    reads_fine a.list-1.now _ (f.line + 1) f.place f.count d.count cs
+    reads_fine a.list.now _ (f.line + 1) f.place f.count d.count cs
     (line_fine a.history (f.line + 1) f.place (numbers (year i)) a.line.now (filled (year i)) (left i) i.wrong_in-w.result (due i) right)
     (start (year i)).requires.1.1.size (as_due d a.line.now fine).count c.before.before.before.before.put_numbers.ensures
 

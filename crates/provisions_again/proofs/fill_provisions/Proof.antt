@@ -52,7 +52,7 @@ totals c = let at = c.before in summed (F at) (good at) _ _ _ (last-year c) (sta
 separate-totals-requires : tie.Need-separate_totals-requires
 separate-totals-requires c κs = (c.last_year_of-k.ensures.1, (square_of (F c.before), totals c))
 
-factors : (c : tie.After-separate_totals) → c.separate_totals.result.factors-1 ≡ factors_in (F c.before.before)
+factors : (c : tie.After-separate_totals) → c.separate_totals.result.factors ≡ factors_in (F c.before.before)
 factors c =
     let year = c.before in
     let at = year.before in
@@ -88,7 +88,7 @@ fill-levels-requires c κs =
     let split = parted c in
     let year = split.before in
     let at = year.before in
-    let l = ap (λ (g : Factors). g.levels-1) (factors split) in
+    let l = ap (λ (g : Factors). g.levels) (factors split) in
     levels_ready (F at) (good at) (passed at).cumulatives (passed at).development (passed at).separation _ _ _ (last-year year) l at.read_tail-amount.ensures.1.1
 
 levels : (c : tie.After-fill_levels) → c.fill_levels.new.levels ≡ levels_in (F (parted c.before).before.before)
@@ -96,7 +96,7 @@ levels c =
     let split = parted c.before in
     let year = split.before in
     let at = year.before in
-    let l = ap (λ (g : Factors). g.levels-1) (factors split) in
+    let l = ap (λ (g : Factors). g.levels) (factors split) in
     levels_found (F at) (good at) (passed at).cumulatives (passed at).development (passed at).separation _ _ _ (last-year year) l at.read_tail-amount.ensures.1.1 _ c.fill_levels.ensures
 
 -- the provisions

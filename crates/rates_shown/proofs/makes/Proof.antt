@@ -15,7 +15,7 @@ returns c =
     let years = s.args.years in
     let held = s.args.indices.now in
     c.same_first.ensures
-    ∙ ap (same_first years held) (ap (λ (r : Indices). r.values-1) i.inflation_indices-made.ensures ∙ made_indices s.args.shape years s.requires.1)
+    ∙ ap (same_first years held) (ap (λ (r : Indices). r.values) i.inflation_indices-made.ensures ∙ made_indices s.args.shape years s.requires.1)
     ∙ same_padded held (index_after s.args.shape) years
 
 pub makes_spec : {M : Type 1} → statement M

@@ -68,7 +68,7 @@ returns c =
       after-reporting.put_naturals-b.ensures.1,
       after-indices.put_naturals-a.ensures.1,
     )
-    (five-runs s.list-1.now s.at e b u (pos s.weight) (pos s.tail) (omega (arith, after-indices.put_naturals-a.ensures.0))
+    (five-runs s.list.now s.at e b u (pos s.weight) (pos s.tail) (omega (arith, after-indices.put_naturals-a.ensures.0))
     (omega (arith, after-reporting.put_naturals-b.ensures.0)) (omega (arith, after-weight.put_natural-c.ensures.0))
     (omega (arith, after-ulae.put_naturals-d.ensures.0, after-weight.put_natural-c.ensures.0)))
 

@@ -43,7 +43,7 @@ returns c =
     let size : length front ≡ n = length_naturals n a.exposures.now (omega arith) in (
       search rules,
       rw (c.before.put_integers.ensures.1, naturals.ensures.1, natural.ensures.1, naturals.ensures.0, natural.ensures.0, c.before.before.cells_of.ensures.0)
-          (sets_append front (take (cells a.k) a.increments.now) (set a.list-1.now 0 (pos a.k)) 1 (1 + n) (omega arith)),
+          (sets_append front (take (cells a.k) a.increments.now) (set a.list.now 0 (pos a.k)) 1 (1 + n) (omega arith)),
     )
 
 pub put_triangle_spec : {M : Type 1} → statement M

@@ -76,13 +76,13 @@ put-assumptions-requires c κs =
     let s = passed e in (
       year.1,
       (
-        signable most_index (read.1.1.1.1.0 ∙ f.indices-1) s.indices-1 (lit< tt),
+        signable most_index (read.1.1.1.1.0 ∙ f.indices) s.indices (lit< tt),
         (
-          signable million (read.1.1.1.1.1.0 ∙ f.reporting-1) s.reporting-1 (lit< tt),
+          signable million (read.1.1.1.1.1.0 ∙ f.reporting) s.reporting (lit< tt),
           (
             omega (arith, read.1.0 ∙ f.weight, s.weight),
             (
-              signable most_amount (read.1.1.1.1.1.1.0 ∙ f.ulae-1) s.ulae-1 (lit< tt),
+              signable most_amount (read.1.1.1.1.1.1.0 ∙ f.ulae) s.ulae (lit< tt),
               (
                 omega (arith, read.1.1.1.1.1.1.1 ∙ f.tail, s.tail),
                 omega (arith, c.before.before.before.before.before.put_triangle-at.ensures.0, (start e).requires.1, fields_count (last_year_of (bytes e)), ap cells year.0),
@@ -105,8 +105,8 @@ returns-2 c =
     let f = full e in
     let put =
     fields_put (bytes e) (whole_record (bytes e) (small e) (start e).requires.0) (start e).args.list.now c.before.before.before.before.before.before.before.before.before.before.before.last_year_of-k.ensures.0
-    (read.1.1.0 ∙ f.exposures-1) (read.1.1.1.0 ∙ f.increments-1) (read.1.1.1.1.0 ∙ f.indices-1) (read.1.1.1.1.1.0 ∙ f.reporting-1)
-    (read.1.0 ∙ f.weight) (read.1.1.1.1.1.1.0 ∙ f.ulae-1) (read.1.1.1.1.1.1.1 ∙ f.tail) triangle.0 in
+    (read.1.1.0 ∙ f.exposures) (read.1.1.1.0 ∙ f.increments) (read.1.1.1.1.0 ∙ f.indices) (read.1.1.1.1.1.0 ∙ f.reporting)
+    (read.1.0 ∙ f.weight) (read.1.1.1.1.1.1.0 ∙ f.ulae) (read.1.1.1.1.1.1.1 ∙ f.tail) triangle.0 in
     (sym (accepted e), rw (accepted e, c.before.put_assumptions.ensures, triangle.1) put)
 
 pub read_into_spec : {M : Type 1} → statement M
