@@ -27,7 +27,7 @@ abbrev body : tie.Start → Grid
 body s = body_grid s.args.shape.columns s.args.shape.rows s.args.starts.now s.args.decimals.now s.args.figures.now
 
 -- the arrays hold it
-held : (c : tie.After-place_columns) → Holds (body c.before.before.before.before.before.before) c.place_columns.new.values c.place_columns.new.styles.0
+held : (c : tie.After-place_columns) → Holds (body c.before.before.before.before.before.before) c.place_columns.new.values c.place_columns.new.styles
 unfolding body_grid
 held c = c.place_columns.ensures
 

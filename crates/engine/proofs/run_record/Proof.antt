@@ -43,7 +43,7 @@ last-year-of-requires c κs =
 
 figures-read : (c : tie.After-last_year_of) →
     let at = c.before.before.before in
-    figures c.last_year_of.result at.read-opened.new.increments.0 at.read-opened.new.increments at.read-opened.new.indices at.read-opened.new.reporting at.read-opened.result.weight at.read-opened.new.ulae at.read-opened.result.tail
+    figures c.last_year_of.result at.read-opened.new.exposures at.read-opened.new.increments at.read-opened.new.indices at.read-opened.new.reporting at.read-opened.result.weight at.read-opened.new.ulae at.read-opened.result.tail
     ≡ figures_of (start at).args.packed.now
 figures-read c =
     let at = c.before.before.before in

@@ -14,10 +14,10 @@ use Rattle.hindsight_run.proofs.list_hindsight.Statement.{statement}
 use Rattle.hindsight_run.proofs.list_hindsight.Tie as tie
 
 -- the settings are stored, and as many as there are go to the call
-long : (p : tie.After-put_settings-count) → length p.put_settings-count.new.settings.0 ≡ most_words
+long : (p : tie.After-put_settings-count) → length p.put_settings-count.new.settings ≡ most_words
 long p = ap length p.put_settings-count.ensures.1.1 ∙ length-sets (replicate most_words 0) 0 (settings_of p.before.before.before.before.before.before.before.args.line.now)
 
-stored : (p : tie.After-put_settings-count) → take p.put_settings-count.result p.put_settings-count.new.settings.0 ≡ settings_of p.before.before.before.before.before.before.before.args.line.now
+stored : (p : tie.After-put_settings-count) → take p.put_settings-count.result p.put_settings-count.new.settings ≡ settings_of p.before.before.before.before.before.before.before.args.line.now
 stored p =
     rw (p.put_settings-count.ensures.1.1, p.put_settings-count.ensures.0)
     (stored_settings (settings_of p.before.before.before.before.before.before.before.args.line.now) (omega (arith, p.put_settings-count.ensures.0, p.put_settings-count.ensures.1.0)))

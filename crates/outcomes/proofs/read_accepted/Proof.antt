@@ -84,7 +84,7 @@ returns : tie.Need-returns-then-not-corrects
 returns c =
     let ratio = c.before.before in
     let no = sym c.before.corrects.ensures ∙ c.if-not-corrects.true in
-    (plain_alone (F (again ratio)) _ _ no (plain ratio), (record { plain = plain_fits ratio; reported = omega arith; paid = omega arith; divisor = omega arith }, (again ratio).read_again.ensures.1.1.1.1.0))
+    (plain_alone (F (again ratio)) _ _ no (plain ratio), (record { plain = plain_fits ratio; reported = omega arith; paid = omega arith; divisor = omega arith }, (again ratio).read_again-weight.ensures.1.1.1.1.0))
 
 -- a year whose ratio is
 yes : (c : tie.Else-not-corrects) → corrects (start (again c.before.before)).args.year ≡ true
@@ -141,7 +141,7 @@ abbrev found : tie.After-size_of-latest → tie.After-latest_reported-reported
 found c = c.before.before.before
 
 abbrev put : tie.After-size_of-latest → tie.After-provisions_of-provisions
-put c = (found c).before.before.before.before
+put c = (found c).before.before.before
 
 latest : (c : tie.After-size_of-latest) → c.size_of-latest.result ≡ nat_abs (latest_paid_in (F (years (put c)).before))
 latest c =
@@ -179,7 +179,7 @@ returns-2 c =
       corrected (F (again ratio)) _ _ _ _ _ (yes else1) (plain ratio) (reported (found c.before)) (latest c.before) (divisor c),
       (
         record { plain = plain_fits ratio; reported = omega (arith, (found c.before).latest_reported-reported.ensures.1); paid = paid_fits c.before; divisor = divisor_fits c },
-        (again ratio).read_again.ensures.1.1.1.1.0,
+        (again ratio).read_again-weight.ensures.1.1.1.1.0,
       ),
     )
 

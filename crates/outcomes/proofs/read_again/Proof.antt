@@ -27,7 +27,7 @@ arrays c = let s = start c in figures_filled s.args.packed.now (bytes c) s.requi
 sound : (c : tie.After-read-opened) → Sound (figures_of (start c).args.packed.now)
 sound c = let s = start c in sound_figures s.args.packed.now (bytes c) s.requires.0 s.requires.1.0
 
-exposures-are : (c : tie.After-read-opened) → c.read-opened.new.increments.0 ≡ (figures_of (start c).args.packed.now).exposures
+exposures-are : (c : tie.After-read-opened) → c.read-opened.new.exposures ≡ (figures_of (start c).args.packed.now).exposures
 exposures-are c = c.read-opened.ensures.1.1.0 ∙ (arrays c).exposures
 
 increments-are : (c : tie.After-read-opened) → c.read-opened.new.increments ≡ (figures_of (start c).args.packed.now).increments
