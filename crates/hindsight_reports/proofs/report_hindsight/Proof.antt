@@ -1,4 +1,5 @@
 -- The report that was found, or why there is none. Assumes nothing.
+use borrow.Author.Tests.{not-true, not-false}
 use borrow.Author.Rules.{rules}
 use mathlib.Core.Path.{◌≡◌, sym, ◌∙◌}
 use mathlib.Core.Bool.{true, false, false≢true}
@@ -21,15 +22,15 @@ returns c =
     let p = c.before.before.before.before.before.before.before.before.before in
     let input = p.before.before.before.args.input.now in
     let found = rw (p.parts_of-parts.ensures.rated, record-part input p.parts_of-parts.result p.parts_of-parts.ensures) at c.before.before.before.before.list_hindsight-found.ensures.0 in
-    let none : has_report_in input ≡ false = sym found.0 ∙ c.if-not-found.true in
-    ((sym none, (λ some. absurd (false≢true (sym none ∙ some)), λ e. found.1.1 (c.if-not-found.true))), λ e. absurd (false≢true e))
+    let none : has_report_in input ≡ false = sym found.0 ∙ not-true _ c.if-not-found.true in
+    ((sym none, (λ some. absurd (false≢true (sym none ∙ some)), λ e. found.1.1 (not-true _ c.if-not-found.true))), λ e. absurd (false≢true e))
 
 hindsight-page-of-requires : tie.Need-hindsight_page_of-end-requires
 hindsight-page-of-requires c κs =
     let p = c.before.before.before.before.before.before.before.before.before.before.before.before.before.before.before in
     let input = p.before.before.before.args.input.now in
     let found = rw (p.parts_of-parts.ensures.rated, record-part input p.parts_of-parts.result p.parts_of-parts.ensures) at c.before.before.before.before.before.before.before.before.before.before.list_hindsight-found.ensures.0 in
-    let listed = c.before.before.before.before.before.before.if-not-found.false in
+    let listed = not-false _ c.before.before.before.before.before.before.if-not-found.false in
     let some : has_report_in input ≡ true = sym found.0 ∙ listed in
     let report = found.1.0 listed in
     (rw p.parts_of-parts.ensures.titled p.parts_of-parts.ensures.short.0, rw (found_report input (bytes p) some _ report.1) (reported input (bytes p) some _ _ report.0 c.before.before.first_of.ensures.1))
@@ -40,7 +41,7 @@ returns-2 c =
     let p = c.before.before.before.before.before.before.before.before.before.before.before.before.before.before.before.before in
     let input = p.before.before.before.args.input.now in
     let found = rw (p.parts_of-parts.ensures.rated, record-part input p.parts_of-parts.result p.parts_of-parts.ensures) at c.before.before.before.before.before.before.before.before.before.before.before.list_hindsight-found.ensures.0 in
-    let listed = c.before.before.before.before.before.before.before.if-not-found.false in
+    let listed = not-false _ c.before.before.before.before.before.before.before.if-not-found.false in
     let some : has_report_in input ≡ true = sym found.0 ∙ listed in
     let report = found.1.0 listed in (
       (

@@ -1,4 +1,5 @@
 -- What was found in the text, or what is wrong with it. Assumes nothing.
+use borrow.Author.Tests.{not-true, not-false}
 use borrow.Author.Rules.{rules}
 use mathlib.Core.Path.{◌≡◌, refl, sym, ◌∙◌}
 use mathlib.Core.Bool.{true, false, false≢true}
@@ -36,7 +37,7 @@ returns c =
     let p = c.before.before.before.before.before.before.before.before.before in
     let input = p.before.before.before.args.input.now in
     let found = rw (record-part input p.parts_of-parts.result p.parts_of-parts.ensures) at c.before.before.before.before.before.list_text-found.ensures in
-    let none : has_list (text_in input) ≡ false = sym found.0 ∙ c.if-not-found.true in
+    let none : has_list (text_in input) ≡ false = sym found.0 ∙ not-true _ c.if-not-found.true in
     ((sym none, (λ some. absurd (false≢true (sym none ∙ some)), λ e. found.1.1.1)), λ e. absurd (false≢true e))
 
 first-of-requires : tie.Need-first_of-requires
@@ -47,7 +48,7 @@ history-csv-of-requires c κs =
     let p = c.before.before.before.before.before.before.before.before.before.before.before.before in
     let input = p.before.before.before.args.input.now in
     let found = rw (record-part input p.parts_of-parts.result p.parts_of-parts.ensures) at c.before.before.before.before.before.before.before.before.list_text-found.ensures in
-    let some : has_list (text_in input) ≡ true = sym found.0 ∙ c.before.before.before.if-not-found.false in
+    let some : has_list (text_in input) ≡ true = sym found.0 ∙ not-false _ c.before.before.before.if-not-found.false in
     windowed (text_in input) some _ _ _ found.1.0.0 found.1.0.1 c.before.first_of.ensures.1
 
 same-length-2 : tie.Need-shape_of-message
@@ -59,7 +60,7 @@ returns-2 c =
     let p = c.before.before.before.before.before.before.before.before.before.before.before.before.before in
     let input = p.before.before.before.args.input.now in
     let found = rw (record-part input p.parts_of-parts.result p.parts_of-parts.ensures) at c.before.before.before.before.before.before.before.before.before.list_text-found.ensures in
-    let some : has_list (text_in input) ≡ true = sym found.0 ∙ c.before.before.before.before.if-not-found.false in (
+    let some : has_list (text_in input) ≡ true = sym found.0 ∙ not-false _ c.before.before.before.before.if-not-found.false in (
       (
         sym some,
         (

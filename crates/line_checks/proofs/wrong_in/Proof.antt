@@ -1,4 +1,5 @@
 -- Each question is asked as the definition has it. Assumes nothing.
+use borrow.Author.Tests.{not-true, not-false}
 use mir.Syntax.{w64}
 use mathlib.Core.Path.{◌≡◌, sym, ◌∙◌}
 use mathlib.Core.Bool.{true}
@@ -33,29 +34,29 @@ returns-2 : tie.Need-returns-then-not-numbers
 returns-2 c =
     let s = c.before.before.before.before.before.before.before.before.args in
     let n = c.before.before.before.leading-numbers in
-    wrong_number s.d s.line.now (same c.before.before.before.before) n.result.passed n.ensures.0 (sym n.ensures.1.0 ∙ c.before.if-not-numbers.true)
+    wrong_number s.d s.line.now (same c.before.before.before.before) n.result.passed n.ensures.0 (sym n.ensures.1.0 ∙ not-true _ c.before.if-not-numbers.true)
 
 returns-3 : tie.Need-returns-then-numbers-d
 returns-3 c =
     let s = c.before.before.before.before.before.before.before.before.before.before.args in
     let n = c.before.before.before.before.before.leading-numbers in
-    wrong_count s.d s.line.now (same c.before.before.before.before.before.before) n.result.passed n.ensures.0 (sym n.ensures.1.0 ∙ c.before.before.before.if-not-numbers.false) c.if-numbers-d.true
+    wrong_count s.d s.line.now (same c.before.before.before.before.before.before) n.result.passed n.ensures.0 (sym n.ensures.1.0 ∙ not-false _ c.before.before.before.if-not-numbers.false) c.if-numbers-d.true
 
 returns-4 : tie.Need-returns-then-not-ranges
 returns-4 c =
     let s = c.before.before.before.before.before.before.before.before.before.before.before.before.before.before.before.before.args in
     let n = c.before.before.before.before.before.before.before.before.before.before.before.leading-numbers in
     let r = ranges c.before.before.before in
-    wrong_range s.d s.line.now (same c.before.before.before.before.before.before.before.before.before.before.before.before) n.result.passed n.ensures.0 (sym n.ensures.1.0 ∙ c.before.before.before.before.before.before.before.before.before.if-not-numbers.false) c.before.before.before.before.before.before.if-numbers-d.false
-    c.before.before.before.leading-ranges.result.passed r.0 (sym r.1 ∙ c.before.if-not-ranges.true)
+    wrong_range s.d s.line.now (same c.before.before.before.before.before.before.before.before.before.before.before.before) n.result.passed n.ensures.0 (sym n.ensures.1.0 ∙ not-false _ c.before.before.before.before.before.before.before.before.before.if-not-numbers.false) c.before.before.before.before.before.before.if-numbers-d.false
+    c.before.before.before.leading-ranges.result.passed r.0 (sym r.1 ∙ not-true _ c.before.if-not-ranges.true)
 
 returns-5 : tie.Need-returns
 returns-5 c =
     let s = c.before.before.before.before.before.before.before.before.before.before.before.before.before.before.before.args in
     let n = c.before.before.before.before.before.before.before.before.before.before.leading-numbers in
     let r = ranges c.before.before in
-    wrong_none s.d s.line.now (same c.before.before.before.before.before.before.before.before.before.before.before) n.result.passed n.ensures.0 (sym n.ensures.1.0 ∙ c.before.before.before.before.before.before.before.before.if-not-numbers.false) c.before.before.before.before.before.if-numbers-d.false
-    (sym r.1 ∙ c.if-not-ranges.false)
+    wrong_none s.d s.line.now (same c.before.before.before.before.before.before.before.before.before.before.before) n.result.passed n.ensures.0 (sym n.ensures.1.0 ∙ not-false _ c.before.before.before.before.before.before.before.before.if-not-numbers.false) c.before.before.before.before.before.if-numbers-d.false
+    (sym r.1 ∙ not-false _ c.if-not-ranges.false)
 
 pub wrong_in_spec : {M : Type 1} → statement M
 wrong_in_spec =
