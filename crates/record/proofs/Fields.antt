@@ -56,6 +56,8 @@ pub record AllValued (κs : List Kind) (xs : List ℕ) : Type 0 where
 pub all_valued : (κs : List Kind) (xs : List ℕ) → Fits (map bits_of κs) xs → every_field bits_in_range κs xs ≡ true → AllValued κs xs
 unfolding zip_with every_field
 all_valued [] [] f h = record { back = refl; ranges = refl; size = refl }
+all_valued [] (x ∷ xs) f h = elim f [ ]
+all_valued (κ ∷ κs) [] f h = elim f [ ]
 all_valued (κ ∷ κs) (x ∷ xs) (Fits.more l f) h =
     let one = valued κ x l (both_left (bits_in_range κ x) _ h) in
     let rest = all_valued κs xs f (both_right (bits_in_range κ x) _ h) in
