@@ -84,7 +84,7 @@ fn say_cut(rt: &HostRuntime, place: u64) {
 // Reads the records behind the year, and writes the line of each.
 fn put_all(rt: &HostRuntime, year: u64) {
     let mut input = [0u8; INPUT];
-    let mut text = [0u8; 65536];
+    let mut text = [0u8; TEXT];
     let mut from: usize = 0;
     let mut have: usize = 0;
     let mut place: u64 = 1;
