@@ -65,7 +65,7 @@ next-corner-requires c κs =
     let d = s.args.diagonals.now in
     let a = s.requires.1.0 in
     let b = s.requires.1.1.0 in
-    rw (corner_held v d a b l.m l.t (omega arith) l.invariant.1.0, total_held d b l.m, total_held v a (l.m + 1))
+    rw (corner_held v d a b l.m l.t-bits (omega arith) l.invariant.1.0, total_held d b l.m, total_held v a (l.m + 1))
     (corner_size (λ j. get_or v j (pos 0)) (λ h. get_or d h (pos 0)) a b l.m (omega arith), (omega (arith, b l.m), omega (arith, a (l.m + 1))))
 
 -- the T of the year after m, and what it leaves above its column
@@ -79,7 +79,7 @@ next-is c =
     let a = s.requires.1.0 in
     let b = s.requires.1.1.0 in
     c.next_corner-t.ensures
-    ∙ ap₂ (λ (x y : ℤ). x +ℤ y) (ap₂ (λ (x y : ℤ). x -ℤ y) (corner_held v d a b l.m l.t (omega arith) l.invariant.1.0) (total_held d b l.m)) (total_held v a (l.m + 1))
+    ∙ ap₂ (λ (x y : ℤ). x +ℤ y) (ap₂ (λ (x y : ℤ). x -ℤ y) (corner_held v d a b l.m l.t-bits (omega arith) l.invariant.1.0) (total_held d b l.m)) (total_held v a (l.m + 1))
     ∙ corner_next (λ j. get_or v j (pos 0)) (λ h. get_or d h (pos 0)) l.m
 
 next-held : (c : tie.After-next_corner-t invariant-loop decreases-loop)
