@@ -16,10 +16,10 @@ use Rattle.hindsight_csv.proofs.put_gap_lines.Statement.{statement}
 use Rattle.hindsight_csv.proofs.put_gap_lines.Tie as tie
 
 abbrev invariant-loop : tie.invariant-loop-m
-invariant-loop out₀ at first list k a h end₀ m₀ t11 t12 out end m = (m ≤ h) × Put out₀ out at end (joined (up_to (λ j. gap_line first list k a h (j + 1)) m))
+invariant-loop out₀ at first list k a h end₀ m₀ out end m = (m ≤ h) × Put out₀ out at end (joined (up_to (λ j. gap_line first list k a h (j + 1)) m))
 
 abbrev decreases-loop : tie.decreases-loop-m
-decreases-loop out₀ at first list k a h end₀ m₀ t11 t12 out end m = h - m
+decreases-loop out₀ at first list k a h end₀ m₀ out end m = h - m
 
 loop-holds : tie.Need-loop-m-init invariant-loop decreases-loop
 loop-holds c = (omega arith, put_first _ _ _)

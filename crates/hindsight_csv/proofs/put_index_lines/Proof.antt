@@ -11,10 +11,10 @@ use Rattle.hindsight_csv.proofs.put_index_lines.Statement.{statement}
 use Rattle.hindsight_csv.proofs.put_index_lines.Tie as tie
 
 abbrev invariant-loop : tie.invariant-loop-a
-invariant-loop out₀ at settings n end₀ a₀ t1 t2 out end a = (a ≤ n) × Put out₀ out at end (joined (up_to (index_line settings) a))
+invariant-loop out₀ at settings n end₀ a₀ out end a = (a ≤ n) × Put out₀ out at end (joined (up_to (index_line settings) a))
 
 abbrev decreases-loop : tie.decreases-loop-a
-decreases-loop out₀ at settings n end₀ a₀ t1 t2 out end a = n - a
+decreases-loop out₀ at settings n end₀ a₀ out end a = n - a
 
 loop-holds : tie.Need-loop-a-init invariant-loop decreases-loop
 loop-holds c = (omega arith, put_first _ _ _)

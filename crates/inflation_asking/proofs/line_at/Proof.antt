@@ -12,10 +12,10 @@ use Rattle.inflation_asking.proofs.line_at.Statement.{statement}
 use Rattle.inflation_asking.proofs.line_at.Tie as tie
 
 abbrev invariant-loop : tie.invariant-loop-i
-invariant-loop text n rest₀ i₀ t6 t7 rest i = (i ≤ n) × ((m : ℕ) → m + i ≡ n → get_or (lines text) n [] ≡ get_or (lines rest) m [])
+invariant-loop text n rest₀ i₀ rest i = (i ≤ n) × ((m : ℕ) → m + i ≡ n → get_or (lines text) n [] ≡ get_or (lines rest) m [])
 
 abbrev decreases-loop : tie.decreases-loop-i
-decreases-loop text n rest₀ i₀ t6 t7 rest i = n - i
+decreases-loop text n rest₀ i₀ rest i = n - i
 
 loop-holds : tie.Need-loop-i-init invariant-loop decreases-loop
 loop-holds c =

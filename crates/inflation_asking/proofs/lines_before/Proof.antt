@@ -15,11 +15,11 @@ use Rattle.inflation_asking.proofs.lines_before.Statement.{statement}
 use Rattle.inflation_asking.proofs.lines_before.Tie as tie
 
 abbrev invariant-loop : tie.invariant-loop-rest
-invariant-loop inflation text rest₀ n₀ t7 t8 rest n =
+invariant-loop inflation text rest₀ n₀ rest n =
     (before (is_wanted inflation) (lines text) ≡ n + before (is_wanted inflation) (lines rest)) × (n + length rest ≤ length text)
 
 abbrev decreases-loop : tie.decreases-loop-rest
-decreases-loop inflation text rest₀ n₀ t7 t8 rest n = length rest
+decreases-loop inflation text rest₀ n₀ rest n = length rest
 
 loop-holds : tie.Need-loop-rest-init invariant-loop decreases-loop
 loop-holds c = (omega arith, omega arith)

@@ -44,45 +44,45 @@ abbrev start-8 : tie.After-put-h → tie.Start
 start-8 c = start-7 c.before.before.before.before
 
 -- the rows that are packed at the end of each row
-rows-1 : (c : tie.After-put-a) → FirstRows (from (start-1 c)) 1 (start-1 c).args.buffer.now c.put-a.new.out c.put-a.result
+rows-1 : (c : tie.After-put-a) → FirstRows (from (start-1 c)) 1 (start-1 c).args.buffer.now c.put-a.new.buffer c.put-a.result
 rows-1 c =
     let s = start-1 c in
-    record { long = c.put-a.auto.0; packed = packed_then (no_rows (from s) s.args.buffer.now s.requires).packed (packed_one c.put-a.ensures) }
+    record { long = c.put-a.auto.buffer; packed = packed_then (no_rows (from s) s.args.buffer.now s.requires).packed (packed_one c.put-a.ensures) }
 
 rows-2 : (c : tie.After-put_row-b) → FirstRows (from (start-2 c)) 2 (start-2 c).args.buffer.now c.put_row-b.new.buffer c.put_row-b.result
 rows-2 c =
     let d = rows-1 c.before.before.before.before in
-    record { long = c.put_row-b.auto.0 ∙ d.long; packed = packed_then d.packed c.put_row-b.ensures }
+    record { long = c.put_row-b.auto.buffer ∙ d.long; packed = packed_then d.packed c.put_row-b.ensures }
 
 rows-3 : (c : tie.After-put_increments-c) → FirstRows (from (start-3 c)) 3 (start-3 c).args.buffer.now c.put_increments-c.new.buffer c.put_increments-c.result
 rows-3 c =
     let d = rows-2 c.before.before.before.before in
-    record { long = c.put_increments-c.auto.0 ∙ d.long; packed = packed_then d.packed c.put_increments-c.ensures }
+    record { long = c.put_increments-c.auto.buffer ∙ d.long; packed = packed_then d.packed c.put_increments-c.ensures }
 
 rows-4 : (c : tie.After-put_row-d) → FirstRows (from (start-4 c)) 4 (start-4 c).args.buffer.now c.put_row-d.new.buffer c.put_row-d.result
 rows-4 c =
     let d = rows-3 c.before.before.before.before in
-    record { long = c.put_row-d.auto.0 ∙ d.long; packed = packed_then d.packed c.put_row-d.ensures }
+    record { long = c.put_row-d.auto.buffer ∙ d.long; packed = packed_then d.packed c.put_row-d.ensures }
 
 rows-5 : (c : tie.After-put_row-e) → FirstRows (from (start-5 c)) 5 (start-5 c).args.buffer.now c.put_row-e.new.buffer c.put_row-e.result
 rows-5 c =
     let d = rows-4 c.before.before.before.before in
-    record { long = c.put_row-e.auto.0 ∙ d.long; packed = packed_then d.packed c.put_row-e.ensures }
+    record { long = c.put_row-e.auto.buffer ∙ d.long; packed = packed_then d.packed c.put_row-e.ensures }
 
 rows-6 : (c : tie.After-put-f) → FirstRows (from (start-6 c)) 6 (start-6 c).args.buffer.now c.put-f.new.buffer c.put-f.result
 rows-6 c =
     let d = rows-5 c.before.before.before.before in
-    record { long = c.put-f.auto.0 ∙ d.long; packed = packed_then d.packed (packed_one c.put-f.ensures) }
+    record { long = c.put-f.auto.buffer ∙ d.long; packed = packed_then d.packed (packed_one c.put-f.ensures) }
 
 rows-7 : (c : tie.After-put_row-g) → FirstRows (from (start-7 c)) 7 (start-7 c).args.buffer.now c.put_row-g.new.buffer c.put_row-g.result
 rows-7 c =
     let d = rows-6 c.before.before.before.before in
-    record { long = c.put_row-g.auto.0 ∙ d.long; packed = packed_then d.packed c.put_row-g.ensures }
+    record { long = c.put_row-g.auto.buffer ∙ d.long; packed = packed_then d.packed c.put_row-g.ensures }
 
 rows-8 : (c : tie.After-put-h) → FirstRows (from (start-8 c)) 8 (start-8 c).args.buffer.now c.put-h.new.buffer c.put-h.result
 rows-8 c =
     let d = rows-7 c.before.before.before.before in
-    record { long = c.put-h.auto.0 ∙ d.long; packed = packed_then d.packed (packed_one c.put-h.ensures) }
+    record { long = c.put-h.auto.buffer ∙ d.long; packed = packed_then d.packed (packed_one c.put-h.ensures) }
 
 put-requires : tie.Need-put-a-requires
 put-requires c κs =
@@ -168,7 +168,7 @@ put-requires-4 c κs =
 same_length : tie.Need-shape_of-buffer
 same_length c =
     let p = c.before.before in
-    p.put.auto.0 ∙ (rows-8 p.before.before.before.before.before).long
+    p.put.auto.buffer ∙ (rows-8 p.before.before.before.before.before).long
 
 returns : tie.Need-returns
 returns c =
@@ -176,7 +176,7 @@ returns c =
     let d = p.before.before.before.before.before in
     let s = start-8 d in
     let last = rw (ends p.before.before) at p.put.ensures in
-    recorded (from s) s.args.buffer.now s.requires (rows-8 d) last p.put.auto.0 (λ i. (c.slice_known-10-1.given i).fits)
+    recorded (from s) s.args.buffer.now s.requires (rows-8 d) last p.put.auto.buffer (λ i. (c.slice_known-10-1.given i).fits)
 
 pub put_record_spec : {M : Type 1} → statement M
 put_record_spec =

@@ -15,11 +15,11 @@ use Rattle.settings_line.proofs.put_settings.Statement.{statement}
 use Rattle.settings_line.proofs.put_settings.Tie as tie
 
 abbrev invariant-loop : tie.invariant-loop-rest
-invariant-loop line settings₀ rest₀ n₀ t8 t9 settings rest n =
+invariant-loop line settings₀ rest₀ n₀ settings rest n =
     (length (words_of line) ≡ n + length (words_of rest)) × (sets settings₀ 0 (settings_of line) ≡ sets settings n (settings_of rest))
 
 abbrev decreases-loop : tie.decreases-loop-rest
-decreases-loop line settings₀ rest₀ n₀ t8 t9 settings rest n = length rest
+decreases-loop line settings₀ rest₀ n₀ settings rest n = length rest
 
 loop-holds : tie.Need-loop-rest-init invariant-loop decreases-loop
 loop-holds c = (omega arith, refl)

@@ -13,10 +13,10 @@ use Rattle.settings_line.proofs.wrong_word.Statement.{statement}
 use Rattle.settings_line.proofs.wrong_word.Tie as tie
 
 abbrev invariant-loop : tie.invariant-loop-rest
-invariant-loop line rest₀ n₀ t6 t7 rest n = (wrong_word line ≡ wrong_from n (words_of rest)) × (n + length rest ≤ length line)
+invariant-loop line rest₀ n₀ rest n = (wrong_word line ≡ wrong_from n (words_of rest)) × (n + length rest ≤ length line)
 
 abbrev decreases-loop : tie.decreases-loop-rest
-decreases-loop line rest₀ n₀ t6 t7 rest n = length rest
+decreases-loop line rest₀ n₀ rest n = length rest
 
 loop-holds : tie.Need-loop-rest-init invariant-loop decreases-loop
 loop-holds c = (wrong_start c.before.args.line.now, omega arith)

@@ -20,10 +20,10 @@ use Rattle.sheet_reading.proofs.read_text.Statement.{statement}
 use Rattle.sheet_reading.proofs.read_text.Tie as tie
 
 abbrev invariant-loop : tie.invariant-loop-f
-invariant-loop history text list₀ word₀ rest₀ f₀ t8 t9 list word rest f = State history text list₀ word₀ (lines rest) list word f × (f.line + length rest ≤ length text)
+invariant-loop history text list₀ word₀ rest₀ f₀ list word rest f = State history text list₀ word₀ (lines rest) list word f × (f.line + length rest ≤ length text)
 
 abbrev decreases-loop : tie.decreases-loop-f
-decreases-loop history text list₀ word₀ rest₀ f₀ t8 t9 list word rest f = length rest
+decreases-loop history text list₀ word₀ rest₀ f₀ list word rest f = length rest
 
 abbrev p : ℕ → Bool
 p = among (ascii "\n")
