@@ -39,7 +39,7 @@ next-corner-requires c κs =
     let d = s.args.diagonals.now in
     let a = s.requires.0 in
     let b = s.requires.1 in
-    rw (corner_held v d a b l.m l.t (omega arith) l.invariant.1.0, total_held d b l.m, total_held v a (l.m + 1))
+    rw (corner_held v d a b l.m l.t-bits (omega arith) l.invariant.1.0, total_held d b l.m, total_held v a (l.m + 1))
     (corner_size (λ j. get_or v j (pos 0)) (λ h. get_or d h (pos 0)) a b l.m (omega arith), (omega (arith, b l.m), omega (arith, a (l.m + 1))))
 
 -- T of year m as it is stored
@@ -54,7 +54,7 @@ loop-again c =
     let d = s.args.diagonals.now in
     let a = s.requires.0 in
     let b = s.requires.1 in
-    let t = corner_held v d a b l.m l.t (omega arith) l.invariant.1.0 in
+    let t = corner_held v d a b l.m l.t-bits (omega arith) l.invariant.1.0 in
     let next = c.next_corner-t.ensures
     ∙ ap₂ (λ (x y : ℤ). x +ℤ y) (ap₂ (λ (x y : ℤ). x -ℤ y) t (total_held d b l.m)) (total_held v a (l.m + 1))
     ∙ corner_next (λ j. get_or v j (pos 0)) (λ h. get_or d h (pos 0)) l.m in
@@ -67,7 +67,7 @@ returns c =
     let v = s.args.columns.now in
     let d = s.args.diagonals.now in
     let e : l.m ≡ 15 = omega arith in
-    stored v d _ 15 _ _ (rw e at l.invariant.1.1) (corner_held v d s.requires.0 s.requires.1 15 l.t (omega arith) (rw e at l.invariant.1.0))
+    stored v d _ 15 _ _ (rw e at l.invariant.1.1) (corner_held v d s.requires.0 s.requires.1 15 l.t-bits (omega arith) (rw e at l.invariant.1.0))
 
 pub fill_corner_totals_spec : {M : Type 1} → statement M
 fill_corner_totals_spec =

@@ -11,7 +11,7 @@ use Rattle.share_section.proofs.put_level_plot.Tie as tie
 put-plot-requires : tie.Need-put_plot-requires
 put-plot-requires c κs =
     let s = c.before.before.before.before.before.before.before in
-    rw c.before.before.before.before.starts_of-s.ensures (omega arith, (omega arith, level_plotted s.args.k _ s.args.figures.now s.requires.0 s.requires.1.1 c.before.put_plot-arg-then-html-2-1.given))
+    rw c.before.before.before.before.starts_of-s.ensures (omega arith, (omega arith, level_plotted s.args.k _ s.args.figures.now s.requires.0 s.requires.1.1 c.put_plot-arg-then-html-3-1.given))
 
 returns : tie.Need-returns-then-html
 unfolding level_plot level_plot_words level_series only either

@@ -55,7 +55,7 @@ next : (c : tie.After-read_next-f invariant-loop decreases-loop) (ls : List (Lis
     → State (start (at-loop c)).args.history (start (at-loop c)).args.text.now (start (at-loop c)).args.list.now (start (at-loop c)).args.word.now ls c.read_next-f.new.list c.read_next-f.new.word c.read_next-f.result
 next c ls e h =
     let l = (at-loop c).loop-f in
-    state_next _ _ _ _ (until p l.rest.now) ls l.list _ l.word _ l.f _ (rw e at l.inv.0) (reads c) h (long (at-loop c))
+    state_next _ _ _ _ (until p l.rest.now) ls l.list _ l.word _ l.f _ (rw e at l.invariant.0) (reads c) h (long (at-loop c))
 
 loop-holds : tie.Need-loop-f-init invariant-loop decreases-loop
 loop-holds c =
@@ -81,7 +81,7 @@ returns c =
     let d = c.before.before.before.before.before in
     let l = (at-loop d).loop-f in
     let rest = l.rest.now in
-    state_wrong _ _ _ _ (until p rest) (after p rest) l.list _ l.word _ l.f _ (rw (pieces_first p rest) at l.inv.0) (reads d) c.if-f-ne0.true
+    state_wrong _ _ _ _ (until p rest) (after p rest) l.list _ l.word _ l.f _ (rw (pieces_first p rest) at l.invariant.0) (reads d) c.if-f-ne0.true
 
 read-end-requires : tie.Need-read_end-requires invariant-loop decreases-loop
 read-end-requires c κs =
@@ -117,7 +117,7 @@ loop-again c =
     let l = (at-loop d).loop-f in
     let rest = l.rest.now in
     let more : length (until p rest) < length rest = omega (arith, ap length d.before.before.before.before.until-line.ensures, until_most p rest) in
-    let number = next_line _ _ _ _ (until p rest) (lines (past p rest)) l.list _ l.word _ l.f _ (rw (pieces_more p rest more) at l.inv.0) (reads d) c.before.before.before.before.if-f-ne0.false (long (at-loop d)) in
+    let number = next_line _ _ _ _ (until p rest) (lines (past p rest)) l.list _ l.word _ l.f _ (rw (pieces_more p rest more) at l.invariant.0) (reads d) c.before.before.before.before.if-f-ne0.false (long (at-loop d)) in
     rw c.past-next.ensures
     (next d (lines (past p rest)) (pieces_more p rest more) c.before.before.before.before.if-f-ne0.false, omega (arith, number, past_shorter p rest more))
 
