@@ -11,7 +11,7 @@ returns : tie.Need-returns
 returns c =
     let s = c.before.before in
     let a = s.args in
-    let room = c.before.put_hindsight_csv-arg-1.given in
+    let room = c.before.put_hindsight_csv-arg-1.given.0.1 in
     let most = csv_most a.first a.k a.n a.settings.now a.list.now s.requires.0.0 in (
       (omega (arith, most, c.put_hindsight_csv.ensures.ended), put_back c.put_hindsight_csv.ensures (omega (arith, most, room))),
       put_length c.put_hindsight_csv.ensures ∙ room,

@@ -32,7 +32,7 @@ slice-aggregate-doonamurk-hindsight c = c.before.put_settings-count.ensures.0 �
 answered : (d : tie.After-doonamurk_hindsight-answer) → (d.doonamurk_hindsight-answer.result ≡ answer_of d.before.before.before.before.before.before.before.before.before.before.args.line.now d.before.before.before.before.before.before.before.before.before.before.args.packed.now)
     × (d.doonamurk_hindsight-answer.new.report ≡ hindsight_into d.before.before.before.before.before.before.before.before.before.before.args.packed.now (settings_of d.before.before.before.before.before.before.before.before.before.before.args.line.now) d.before.before.before.before.before.before.before.before.before.before.args.list.now)
 unfolding answer_of
-answered d = rw (stored d.before.before.before, d.before.doonamurk_hindsight-arg-1.given) at d.doonamurk_hindsight-answer.ensures
+answered d = rw (stored d.before.before.before, d.before.doonamurk_hindsight-arg-1.given.0.1) at d.doonamurk_hindsight-answer.ensures
 
 returns : tie.Need-returns-then-wrong-ne0
 returns c =
@@ -55,7 +55,7 @@ returns-2 c =
       (sym none.0, (λ some. absurd (false≢true some), λ e. put_same (ap refused_text (answered d).0 ∙ sym none.1) c.before.before.before.put_refused.ensures)),
       (
         λ some. absurd (false≢true some),
-        λ e. (refl, (answered d).1 ∙ kept s.args.line.now s.args.packed.now s.args.list.now d.before.doonamurk_hindsight-arg-1.given no),
+        λ e. (refl, (answered d).1 ∙ kept s.args.line.now s.args.packed.now s.args.list.now d.before.doonamurk_hindsight-arg-1.given.0.1 no),
       ),
     )
 
@@ -84,7 +84,7 @@ returns-3 c =
               tried = put.0;
               settings = c.first_settings.ensures ∙ rw put.1.1 (stored_first (settings_of line) (asked line packed (taken e)).few);
             },
-            (answered e.before).1 ∙ filled line packed (taken e) s.args.list.now e.before.before.doonamurk_hindsight-arg-1.given,
+            (answered e.before).1 ∙ filled line packed (taken e) s.args.list.now e.before.before.doonamurk_hindsight-arg-1.given.0.1,
           ),
           λ none. absurd (true≢false none),
         ),

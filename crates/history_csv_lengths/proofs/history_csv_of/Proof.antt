@@ -11,7 +11,7 @@ returns : tie.Need-returns
 returns c =
     let s = c.before.before in
     let a = s.args in
-    let room = c.before.put_history_csv-arg-1.given in
+    let room = c.before.put_history_csv-arg-1.given.0.1 in
     let most = csv_most a.first a.years a.width a.list.now s.requires in (
       (omega (arith, most, c.put_history_csv.ensures.ended), put_back c.put_history_csv.ensures (omega (arith, most, room))),
       put_length c.put_history_csv.ensures ∙ room,

@@ -11,7 +11,7 @@ returns : tie.Need-returns
 returns c =
     let s = c.before.before.before in
     let a = s.args in
-    let room = c.before.put_history_page-arg-1.given in
+    let room = c.before.put_history_page-arg-1.given.0.1 in
     let most = page_most a.html a.first a.years a.width a.list.now s.requires.1.0 a.title.now s.requires.0 s.requires.1.1 in (
       (omega (arith, most, c.put_history_page.ensures.ended), put_back c.put_history_page.ensures (omega (arith, most, room))),
       put_length c.put_history_page.ensures ∙ room,

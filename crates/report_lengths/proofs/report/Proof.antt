@@ -16,7 +16,7 @@ returns c =
     let at = c.before.before in
     let s = at.before in
     let input = s.args.input.now in
-    let room = c.before.put_report-arg-1.given in (
+    let room = c.before.put_report-arg-1.given.0.1 in (
       (
         omega (arith, input_most s.args.html input (bytes at) s.requires, c.put_report.ensures.ended),
         report_whole s.args.html input _ _ _ (bytes at) s.requires room c.put_report.ensures,
