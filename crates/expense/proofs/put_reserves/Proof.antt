@@ -103,7 +103,7 @@ reserve-of-requires c κs =
     let t = c.before.before.before.before.before.loop-i in
     let part = provision_most s.args.k s.args.paid.now s.args.provisions.now s.args.reporting.now s.args.weight s.args.ratio s.requires.0 t.i (omega arith) in
     let most = s.requires.0 in
-    (omega (arith, most.ratio, most.weight), (most.weight, (omega (arith, product c), part)))
+    (omega (arith, most.ratio, most.weight), (most.weight, (omega (arith, product c), omega (arith, product c, part))))
 
 cast-out : tie.Need-overflow_cast-out invariant-loop decreases-loop
 cast-out c = record { sfits = omega (arith, product c.before) }

@@ -24,8 +24,8 @@ loop-i-preserved c =
     let i = l.loop-i.i in
     let next = l.loop-i.invariant.1.1 ∙ from_next text text i l.loop-i.left (omega arith) c.if-left-eq0.false in
     elim c.if-text-i-eq10.branch [
-      then-text-i-eq10 w ↦ (omega arith, (refl, rw w.left-is (rw (eq-eqb (get_or text i 0) 10 w.if-text-i-eq10.true) at next)))
-    | else-text-i-eq10 w ↦ (omega arith, (refl, rw w.left-is (rw (ne_eqb (get_or text i 0) 10 w.if-text-i-eq10.false) at next)))
+      | then-text-i-eq10 w ↦ (omega arith, (refl, rw w.left-is (rw (eq-eqb (get_or text i 0) 10 w.if-text-i-eq10.true) at next)))
+      | else-text-i-eq10 w ↦ (omega arith, (refl, rw w.left-is (rw (ne_eqb (get_or text i 0) 10 w.if-text-i-eq10.false) at next)))
     ]
 
 pub returns : goal.returns

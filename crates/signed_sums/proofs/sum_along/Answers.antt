@@ -48,5 +48,5 @@ pub loop-i-preserved : goal.loop-i-preserved
 loop-i-preserved c = (
   omega arith,
   rw (so_far (goal.at.loop-i-preserved c).In-loop-i)
-  (turn_is (along c.args.values.now c.args.start c.args.stride) most_figure c.args.n c.requires.1.0 c.loop-i.i (omega arith) (omega arith)),
+      (turn_is (along c.args.values.now c.args.start c.args.stride) most_figure c.args.n c.requires.1.0 c.loop-i.i (omega arith) (omega arith)),
 )
