@@ -142,8 +142,6 @@ def main():
         if new != text:
             write(path, new)
     print(f"{len(names)} names")
-    with open("/tmp/respelled.tsv", "w", encoding="utf-8") as it:
-        it.writelines(f"{a}\t{b}\n" for a, b in sorted(names.items()))
 
 
 def head(part, names, fields, after):
