@@ -111,6 +111,7 @@ pub fn foot_line(s: Scale) -> u64
 }
 
 // The unit that the axis is in.
+#[tactic(auto, unfolding(crate::specs::Axis::unit_of))]
 pub fn unit_of(one: u64, step: u64) -> u64
     requires { one ≤ most_one }
     ensures { result ≡ unit_of one step }

@@ -7,6 +7,7 @@ ghost use Rattle.axis_words.specs.AxisWords.{unit_word, word_gap};
 use composing::{put_byte, put_bytes};
 
 // A unit above 1 in words.
+#[tactic(auto, using(composing::proofs::Puts::put_none), unfolding(crate::specs::AxisWords::unit_word))]
 pub fn put_unit_word(out: &mut [u8], at: usize, unit: u64) -> usize
     ensures { Put out.old out.new at result (unit_word unit) }
 {
@@ -22,6 +23,7 @@ pub fn put_unit_word(out: &mut [u8], at: usize, unit: u64) -> usize
 }
 
 // The space between it and a word for the axis.
+#[tactic(auto, using(composing::proofs::Puts::put_none), unfolding(crate::specs::AxisWords::word_gap))]
 pub fn put_word_gap(out: &mut [u8], at: usize, unit: u64, size: usize) -> usize
     ensures { Put out.old out.new at result (word_gap unit size) }
 {

@@ -18,6 +18,7 @@ pub struct Used {
 }
 
 // Questions 15, 16 and 17 of a valuation year, and the ratio that it uses.
+#[tactic(auto, using(crate::proofs::Asked::divisor_read, crate::proofs::Asked::earlier, crate::proofs::Asked::fifteen, crate::proofs::Asked::sixteen, crate::proofs::Asked::seventeen, crate::proofs::Asked::corrected), unfolding(rules::specs::Questions::after_call, rules::specs::Growth::corrected_ratio, rules::specs::Growth::used_ratio))]
 pub fn used_ratio(
     year: u64,
     k: usize,

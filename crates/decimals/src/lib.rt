@@ -45,6 +45,7 @@ fn fraction_digits(word: &[u8]) -> &[u8]
 }
 
 // Whether a word is a decimal.
+#[tactic(auto, using(crate::proofs::Decimals::decimal_long, crate::proofs::Decimals::decimal_digits, crate::proofs::Decimals::decimal_parts, crate::proofs::Decimals::decimal_none))]
 pub fn is_decimal(word: &[u8]) -> bool
     ensures { result ≡ is_decimal word.now }
 {

@@ -17,6 +17,7 @@ use reading::read;
 use rules::ACCEPTED;
 
 // The questions from 4 on of a record that has passed 1, 2 and 3, and the list where all say yes.
+#[tactic(auto, using(laws::proofs::Questions::first_answer, laws::proofs::Questions::after_refusal))]
 fn run_record(year: u64, packed: &[u8], out: &mut [i64]) -> u64
     requires { (first_no (opening_questions packed.now) ≡ 0) × (result_count (last_year_of packed.now) ≤ length out.old) }
     ensures { Answers (field_questions packed.now ++ figure_questions year (figures_of packed.now)) year (figures_of packed.now) out.old out.new result }

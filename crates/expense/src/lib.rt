@@ -14,6 +14,7 @@ use entries::put_natural;
 use rules::MILLION;
 
 // Question 12, of the total paid and the total of the ULAE.
+#[tactic(auto, using(std::proofs::lemmas::Bool::Decides::nat_tests), unfolding(rules::specs::Expense::ratio_pass))]
 pub fn ratio_passes(paid: u64, spent: u64) -> bool
     ensures { result ≡ ratio_pass (pos paid) spent }
 {

@@ -42,6 +42,7 @@ pub fn no_factors(k: usize) -> Factors
 }
 
 // Questions 9 and 10 of the factors. The running shares are the less the earlier the year, so the first share tells question 9.
+#[tactic(auto, using(std::proofs::lemmas::Bool::Decides::nat_tests), unfolding(rules::specs::Questions::first_no))]
 pub fn factors_answer<'a>(shares: &'a [u64; 16], levels: &'a [u64; 16], k: usize) -> u64
     requires { k < 16 }
     ensures { result

@@ -9,6 +9,7 @@ use fit_sums::put_fit_sums;
 use parts::put_either;
 
 // How many payments are lost, where some are.
+#[tactic(auto, using(composing::proofs::Puts::put_none), unfolding(crate::specs::FitWords::lost_payments))]
 fn put_lost_payments(out: &mut [u8], at: usize, html: bool, lost: u64) -> usize
     ensures { Put out.old out.new at result (lost_payments html lost) }
 {

@@ -17,7 +17,7 @@ use settings_line::{MOST_WORDS, put_settings, wrong_word};
 use wording::put_refusal;
 
 // Whether there is a report, its k, how many settings there are, the settings, zero past them, and how many bytes of the message there are.
-#[derive(Drop)]
+#[derive(Clone, Copy)]
 pub struct Listed {
     pub listed: bool,
     pub k: usize,

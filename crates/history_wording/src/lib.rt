@@ -15,6 +15,7 @@ use sheet::Found;
 use sheet_wording::put_problem;
 
 // The refusal where a number of the line due at a place is out of its range.
+#[tactic(auto, unfolding(crate::specs::Refused::refusal_at))]
 fn refusal_at(history: bool, place: usize) -> u64
     ensures { result ≡ refusal_at history place }
 {

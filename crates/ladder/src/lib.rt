@@ -13,6 +13,7 @@ use rules::{MILLION, MOST_CUMULATIVE, MOST_FACTOR};
 
 // The development factors go into the list, as far as question 13 says yes. The sum of a column but for its latest cumulative is the base B of its year,
 // and the sum of the next column the sum A.
+#[tactic(auto, using(crate::proofs::Stops::base_stopped, crate::proofs::Stops::factor_stopped))]
 pub fn development_factors(
     k: usize,
     columns: &[u64; 16],
@@ -41,6 +42,7 @@ pub fn development_factors(
 }
 
 // The cumulatives of row i past the diagonal go into the list from place `at` on, as far as each is within the most.
+#[tactic(auto, using(crate::proofs::Stops::row_stopped))]
 fn put_row(
     all: &mut [u64; 120],
     at: usize,

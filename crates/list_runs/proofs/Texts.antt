@@ -22,27 +22,25 @@ use Rattle.list_text.specs.EntryLines.{entries_by, entries_text, refused_text}
 use Rattle.list_runs.specs.Runs.{run_text, fields_text}
 
 -- a refused run and a refused reading
-pub run_refused : (year : ℕ) (s : List ℕ) (between n : ℕ) → n ≡ run_answer year s most_entries → (n ≡ 0 → ⊥) → refused_text n ≡ run_text between year s
+pub run_refused : (between year : ℕ) (s : List ℕ) → (run_answer year s most_entries ≡ 0 → ⊥) → run_text between year s ≡ refused_text (run_answer year s most_entries)
 unfolding run_text
-run_refused year s between n e h = rw (← e, ne_eqb n 0 h)
+run_refused between year s h = rw (ne_eqb (run_answer year s most_entries) 0 h)
 
 pub read_refused : (s : List ℕ) (n : ℕ) → n ≡ read_answer_of s most_fields → (n ≡ 0 → ⊥) → refused_text n ≡ fields_text s
 unfolding fields_text
 read_refused s n e h = rw (← e, ne_eqb n 0 h)
 
--- an accepted run: the record has a first byte, and the list begins with the results
-module _ (year : ℕ) (s : List ℕ) (r : run_answer year s most_entries ≡ 0) where
-  pub run_some : 1 ≤ length s
-  unfolding run_answer questions opening_questions every
-  run_some = (years_known_lem s (opening_yes s (both_zero (opening_questions s) _ refl r).0).0).0
+-- an accepted run: the record has a first byte, and the list begins with the results. The first part of run_some shows `grind` the call to match
+pub run_some : (year : ℕ) (s : List ℕ) → run_answer year s most_entries ≡ 0 → (run_answer year s most_entries ≡ 0) × (1 ≤ length s)
+unfolding run_answer questions opening_questions every
+run_some year s r = (r, (years_known_lem s (opening_yes s (both_zero (opening_questions s) _ refl r).0).0).0)
 
-  pub run_accepted : (between n : ℕ) (list : List ℤ) → list ≡ run_into year s (replicate most_entries (pos 0)) → n ≡ result_count (last_year_of s) → n ≤ most_entries
-      → entries_by between (take n list) ≡ run_text between year s
-  unfolding run_into after_call figures_of run_text
-  run_accepted between n list e f l =
-      let front : take n list ≡ results_of year (figures_of s)
-      = rw (e, r) (take_sets (replicate most_entries (pos 0)) (results_of year (figures_of s)) n (results_length year (figures_of s) ∙ sym f) l) in
-      rw (front, r)
+pub run_accepted : (between year : ℕ) (s : List ℕ) → run_answer year s most_entries ≡ 0 → result_count (last_year_of s) ≤ most_entries
+    → run_text between year s ≡ entries_by between (take (result_count (last_year_of s)) (run_into year s (replicate most_entries (pos 0))))
+unfolding run_into after_call figures_of run_text
+run_accepted between year s r l =
+    let front = take_sets (replicate most_entries (pos 0)) (results_of year (figures_of s)) (result_count (last_year_of s)) (results_length year (figures_of s)) l in
+    rw (r, front)
 
 -- an accepted reading
 module _ (s : List ℕ) (r : read_answer_of s most_fields ≡ 0) where

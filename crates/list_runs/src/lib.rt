@@ -16,6 +16,7 @@ use rules::{ACCEPTED, MOST_ENTRIES, MOST_FIELDS};
 use valuation::{record_start, year_of};
 
 // The list of a record with a byte between its entries.
+#[tactic(auto, using(crate::proofs::Texts::run_refused, crate::proofs::Texts::run_some, crate::proofs::Texts::run_accepted))]
 fn put_run(out: &mut [u8], at: usize, year: u64, packed: &[u8], between: u8) -> usize
     ensures { Put out.old out.new at result (run_text between year packed.now) }
 {

@@ -108,6 +108,7 @@ fn put_other_year(out: &mut [u8], at: usize, html: bool, latest: usize) -> usize
 }
 
 // That, where a first year is given and it is so.
+#[tactic(auto, using(composing::proofs::Puts::put_none), unfolding(crate::specs::Opening::notice))]
 fn put_notice(out: &mut [u8], at: usize, html: bool, year: u64, first: usize, k: usize) -> usize
     requires { (k < 16) × (first ≤ 65535) }
     ensures { Put out.old out.new at result (notice html year first k) }

@@ -97,7 +97,7 @@ pub fn put_composed(rt: &HostRuntime, text: &[u8], n: usize) {
 }
 
 // What was read: how many bytes, and whether a read failed after them.
-#[derive(Drop)]
+#[derive(Clone, Copy)]
 pub struct Arrived {
     pub size: usize,
     pub failed: bool,

@@ -1,1 +1,2 @@
 pub mod RateText
+pub mod Patterns

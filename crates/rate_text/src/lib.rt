@@ -67,6 +67,7 @@ fn bits_of(word: &[u8]) -> u64
 }
 
 // The float of a bit pattern. `f64::from_bits` is undefined at a NaN's, so a NaN is made by a division.
+#[tactic(auto, using(crate::proofs::Patterns::above, crate::proofs::Patterns::below, crate::proofs::Patterns::zero_over_zero))]
 pub fn float_of(bits: u64) -> f64
     ensures { result ≡ of_bits binary64 bits }
 {

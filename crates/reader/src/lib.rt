@@ -56,6 +56,7 @@ fn put_assumptions(
 }
 
 // Questions 4 and 5 of a record that has passed 1, 2 and 3, and its fields in their order where both say yes.
+#[tactic(auto, using(laws::proofs::Questions::after_refusal))]
 fn read_into(packed: &[u8], list: &mut [i64]) -> u64
     requires { (first_no (opening_questions packed.now) ≡ 0) × (field_count (last_year_of packed.now) ≤ length list.old) }
     ensures { (result ≡ first_no (field_questions packed.now))

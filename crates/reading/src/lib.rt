@@ -65,6 +65,7 @@ pub fn amount(code: u64) -> i64
 }
 
 // Whether these bits are an increment in its range: a size up to the most, and no zero with sign 1.
+#[tactic(auto, using(crate::proofs::AmountsRead::amount_range))]
 pub fn sound(code: u64) -> bool
     requires { code < 2 ^ 35 }
     ensures { result ≡ bits_in_range increment code }

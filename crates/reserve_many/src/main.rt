@@ -19,7 +19,7 @@ const TEXT: usize = 65_536;
 const TURNS: usize = 9_000_000_000_000_000_000;
 
 // Whether a read failed, and how many bytes of the input are pending after it.
-#[derive(Drop)]
+#[derive(Clone, Copy)]
 struct Filled {
     failed: bool,
     have: usize,

@@ -4,7 +4,7 @@ use native.Mathlib.Nat.{le_trans, mul-le-mul}
 use native.Mathlib.Omega.{arith}
 use borrow.Author.Tests.{leb-true}
 use mathlib.Core.Path.{◌≡◌, refl, sym, ◌∙◌}
-use mathlib.Core.Bool.{true}
+use mathlib.Core.Bool.{Bool, true}
 use mathlib.Core.List.{List, ◌++◌}
 use lib.Dec.{leb}
 use lib.IntN.{ℤ, pos}
@@ -93,9 +93,13 @@ module _ (f : Figures) (s : List (List ℤ)) (m c r l : List ℕ) (h : Separated
 
     -- question 11, with the tail payments z
     module _ (z : List ℕ) (t : Tailed f z) where
-      pub eleven_is : ultimates_pass f.k c (padded 16 0 (provisions f.k f.exposures r a z)) ≡ ultimates_pass f.k (paid_in f) (provisions_in f)
+      eleven_is : ultimates_pass f.k c (padded 16 0 (provisions f.k f.exposures r a z)) ≡ ultimates_pass f.k (paid_in f) (provisions_in f)
       unfolding provisions_in
       eleven_is = rw (h.paid, h.shares, ahead_is, t.tails)
+
+      pub eleven_said : (b : Bool) → b ≡ ultimates_pass f.k c (padded 16 0 (provisions f.k f.exposures r a z)) → (d : Bool) → b ≡ d
+          → ultimates_pass f.k (paid_in f) (provisions_in f) ≡ d
+      eleven_said b e d q = sym (e ∙ eleven_is) ∙ q
 
       module _ (eleven : ultimates_pass f.k (paid_in f) (provisions_in f) ≡ true) where
         -- every row was completed

@@ -46,7 +46,7 @@ pub const MOST_SETTINGS: usize = 8;
 pub const MOST_HINDSIGHT: usize = 961;
 
 // Shares and levels of the years 0 to k as one set of factors, zero past them. A share counts billionths, a level hundredths a claim.
-#[derive(Drop)]
+#[derive(Clone, Copy)]
 pub struct Factors {
     pub shares: [u64; 16],
     pub levels: [u64; 16],
@@ -71,7 +71,7 @@ pub struct Path {
 
 // The number of the first question that says no, or 0, and sixteen indices in millionths.
 #[repr(C)]
-#[derive(Drop)]
+#[derive(Clone, Copy)]
 pub struct Indices {
     pub refused: u64,
     pub values: [u64; 16],

@@ -130,6 +130,7 @@ fn wide(b: u8) -> u64
 }
 
 // The number so far with one digit more.
+#[tactic(auto, using(crate::proofs::Numbers::digit_more, crate::proofs::Numbers::digit_stops))]
 fn with_digit(n: u64, b: u8) -> u64
     requires { n < 2 ^ 60 }
     ensures { (result ≡ with_digit n b) × (result < 2 ^ 60) }

@@ -16,7 +16,7 @@ use total_questions::totals_answer;
 use totals::fill_totals;
 
 // The number that the separation answers, and the factors: zeros where it is not 0.
-#[derive(Drop)]
+#[derive(Clone, Copy)]
 pub struct Separation {
     pub answer: u64,
     pub factors: Factors,

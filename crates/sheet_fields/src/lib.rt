@@ -12,7 +12,7 @@ use layout::{bytes_of, cells_of};
 use writing::doonamurk_write;
 
 // The rows of natural numbers of a record.
-#[derive(Drop)]
+#[derive(Clone, Copy)]
 pub struct Rows {
     pub exposures: [u64; 16],
     pub indices: [u64; 16],

@@ -1,7 +1,7 @@
 -- The sheet of a list that a record was read into is the sheet of the record's fields. Assumes nothing.
 use mathlib.Core.Path.{◌≡◌, refl, ap, ◌∙◌}
 use mathlib.Core.List.{List, [], ◌∷◌, ◌++◌}
-use Prim.Native.Nat.{ℕ, zero, suc, ◌+◌, ◌≤◌, ◌<◌}
+use Prim.Native.Nat.{ℕ, ◌+◌, ◌≤◌, ◌<◌}
 use native.Mathlib.Omega.{arith}
 use lib.IntN.{ℤ, pos, nat_abs}
 use lib.ListN.{length, get_or, drop, length-drop, get_or-append}
@@ -11,12 +11,11 @@ use Rattle.rules.specs.Packing.{Fit}
 use Rattle.rules.specs.Questions.{after_call}
 use Rattle.rules.specs.Record.{field_count, last_year_of, fields_of, most_fields}
 use Rattle.rules.specs.Reading.{read_answer_of, read_into}
+use Rattle.laws.proofs.Questions.{after_refusal}
 use Rattle.layout.proofs.RecordSizes.{fields_count, years_lt}
 use Rattle.record.proofs.RecordAnswers.{reader_yes}
 use Rattle.record.proofs.Fields.{RecordFields}
 use Rattle.record.proofs.Number.{record-read}
-use Rattle.composing.specs.Text.{Put}
-use Rattle.composing.proofs.Puts.{put_none}
 use Rattle.sheet.specs.declared.Due.{Due}
 use Rattle.sheet.specs.Table.{due_lines}
 use Rattle.sheet.specs.Sheet.{lines_of, last_year_in, sheet_of}
@@ -73,7 +72,6 @@ module _ (s : List ℕ) (h : Fit 8 s) (r : read_answer_of s most_fields ≡ 0) (
       rw (r, read_list) (sheet_first (last_year_of s) (fields_of s) _ f.size f.first)
 
 -- a refused record is shown as nothing
-pub put_nothing : (s a : List ℕ) (n : ℕ) → n ≡ read_answer_of s most_fields → (n ≡ 0 → ⊥) → Put a a 0 0 (shown_text s)
-unfolding shown_text after_call
-put_nothing s a zero e h = absurd (h refl)
-put_nothing s a (suc n) e h = rw (← e) (put_none a 0)
+pub none_shown : (s : List ℕ) → (read_answer_of s most_fields ≡ 0 → ⊥) → shown_text s ≡ []
+unfolding shown_text
+none_shown s h = after_refusal (read_answer_of s most_fields) _ _ h

@@ -63,6 +63,7 @@ pub struct Shown {
 }
 
 // Puts the fields of a record as text into the buffer and answers 0, or leaves the buffer and answers the number of the reader's question.
+#[tactic(auto, using(crate::proofs::Unpacked::none_shown))]
 pub fn unpack(packed: &[u8], out: &mut [u8]) -> Shown
     ensures { (result.answer ≡ read_answer_of packed.now most_fields)
         × Put out.old out.new 0 result.end (shown_text packed.now) }

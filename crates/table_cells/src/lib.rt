@@ -96,6 +96,7 @@ fn put_percent_sign(out: &mut [u8], at: usize, mark: u64) -> usize
 }
 
 // A number of a mark in HTML.
+#[tactic(auto, unfolding(crate::specs::Cells::web_number))]
 fn put_web_number(out: &mut [u8], at: usize, mark: u64, d: usize, z: i64) -> usize
     ensures { Put out.old out.new at result (web_number mark d z) }
 {
@@ -135,6 +136,7 @@ fn put_text_cell(out: &mut [u8], at: usize, style: u8, z: i64) -> usize
 }
 
 // How many characters a cell has as text.
+#[tactic(auto, unfolding(crate::specs::Cells::text_cell, crate::specs::Cells::percent_sign))]
 fn cell_length(style: u8, z: i64) -> usize
     ensures { result ≡ length (text_cell style z) }
 {

@@ -8,6 +8,7 @@ ghost use Rattle.titles.specs.Titles.{plain_byte, escaped_byte, byte_in, text_in
 use composing::{put_byte, put_bytes};
 
 // A byte, a space for one that is no sign.
+#[tactic(auto, unfolding(crate::specs::Titles::plain_byte))]
 fn plain_byte(b: u8) -> u8
     ensures { result ≡ plain_byte b }
 {
@@ -21,6 +22,7 @@ fn plain_byte(b: u8) -> u8
 }
 
 // A byte of the HTML page.
+#[tactic(auto, unfolding(crate::specs::Titles::escaped_byte))]
 fn put_escaped(out: &mut [u8], at: usize, b: u8) -> usize
     ensures { Put out.old out.new at result (escaped_byte b) }
 {
@@ -59,6 +61,7 @@ pub fn put_text(out: &mut [u8], at: usize, html: bool, text: &[u8]) -> usize
 }
 
 // The title, or `Reserving report` where none is given.
+#[tactic(auto, using(crate::proofs::Titles::no_title, crate::proofs::Titles::some_title, composing::proofs::Puts::put_same), unfolding(crate::specs::Titles::title_in))]
 pub fn put_title(out: &mut [u8], at: usize, html: bool, title: &[u8]) -> usize
     ensures { Put out.old out.new at result (title_in html title.now) }
 {

@@ -10,7 +10,7 @@ use printing::{put_number, put_text, read_full};
 use writing::doonamurk_write;
 
 // A number and its size, and whether it was read whole. Once the input has ended no number is.
-#[derive(Drop)]
+#[derive(Clone, Copy)]
 pub struct Number {
     pub whole: bool,
     pub size: u64,
@@ -18,7 +18,7 @@ pub struct Number {
 }
 
 // A list of at most 160 numbers and their sizes, and whether it was read whole.
-#[derive(Drop)]
+#[derive(Clone, Copy)]
 pub struct List {
     pub whole: bool,
     pub count: usize,
