@@ -40,8 +40,8 @@ HISTORY_RESULTS_MAX = 1617
 SETTINGS_MAX = 8
 REPORT_MAX = 961
 
-# In the order in which they are asked: 20 and 21 of rates only, which come before a record is made, 27 and 28 of histories only, whose positions are then asked 7 to
-# 10, and 29 of hindsight runs only, whose record is then asked 3 to 6 and whose steps 7 to 10.
+# In the order in which they are asked: 20 and 21 of rates only, which come before a record is made, and 27 and 28 of histories only, whose positions are then
+# asked 7 to 10.
 QUESTIONS = {
     20: "Is every rate a number from -0.5 to 1.0, a shock's year among the years wanted, and their number from 1 to 16?",
     21: "Is every index of a year wanted from 1 to 5,000,000?",
@@ -50,7 +50,6 @@ QUESTIONS = {
         "every cell from -10^10 to 10^10?",
     1: "Is there a first byte, and is k at least 1?",
     2: "Is the length just what k calls for, and every filling bit zero?",
-    29: "Are there 1 to 8 settings, each from 1 to 5,000,000, and is k at least 2?",
     3: "Does the list hold all entries?",
     4: "Is every field in its range?",
     5: "Do the reporting shares sum to 1,000,000?",
@@ -75,6 +74,12 @@ WRITE_QUESTIONS = {
     **QUESTIONS,
     1: "Is k from 1 to 15?",
     2: "Has the buffer just the length that k calls for, and each list its own?",
+}
+
+# A hindsight run asks one more directly after 2; its record is then asked 3 to 6 and its steps 7 to 10.
+HINDSIGHT_QUESTIONS = {
+    **QUESTIONS,
+    29: "Are there 1 to 8 settings, each from 1 to 5,000,000, and is k at least 2?",
 }
 
 
@@ -364,7 +369,7 @@ def hindsight(record, settings):
     entries = (ctypes.c_int64 * count)()
     number = _library.doonamurk_hindsight(packed, len(record), settings, len(settings), entries, count)
     if number:
-        raise Refused(number, QUESTIONS[number])
+        raise Refused(number, HINDSIGHT_QUESTIONS[number])
     rest = iter(entries)
     tried = []
     for _ in range(len(settings)):

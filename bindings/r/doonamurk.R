@@ -18,8 +18,8 @@
 # A refusal is an R error of class "doonamurk_refused" with the number of the first question that says no. The record, the lists and the questions are
 # in docs/FORMAT.md.
 
-# By their numbers, in the order in which they are asked: 20 and 21 of rates only, which come before a record is made, 27 and 28 of histories only, whose positions
-# are then asked 7 to 10, and 29 of hindsight runs only, whose record is then asked 3 to 6 and whose steps 7 to 10.
+# By their numbers, in the order in which they are asked: 20 and 21 of rates only, which come before a record is made, and 27 and 28 of histories only, whose
+# positions are then asked 7 to 10.
 doonamurk_questions <- c(
   "20" = "Is every rate a number from -0.5 to 1.0, a shock's year among the years wanted, and their number from 1 to 16?",
   "21" = "Is every index of a year wanted from 1 to 5,000,000?",
@@ -30,7 +30,6 @@ doonamurk_questions <- c(
   ),
   "1" = "Is there a first byte, and is k at least 1?",
   "2" = "Is the length just what k calls for, and every filling bit zero?",
-  "29" = "Are there 1 to 8 settings, each from 1 to 5,000,000, and is k at least 2?",
   "3" = "Does the list hold all entries?",
   "4" = "Is every field in its range?",
   "5" = "Do the reporting shares sum to 1,000,000?",
@@ -55,6 +54,12 @@ doonamurk_write_questions <- replace(doonamurk_questions, c("1", "2"), c(
   "Is k from 1 to 15?",
   "Has the buffer just the length that k calls for, and each list its own?"
 ))
+
+# A hindsight run asks one more directly after 2; its record is then asked 3 to 6 and its steps 7 to 10.
+doonamurk_hindsight_questions <- c(
+  doonamurk_questions,
+  "29" = "Are there 1 to 8 settings, each from 1 to 5,000,000, and is k at least 2?"
+)
 
 # Loads the library of the glue. Once in a session, before any call.
 doonamurk_load <- function(library) {
@@ -240,7 +245,7 @@ doonamurk_hindsight <- function(record, settings) {
     "doonamurk_r_hindsight", bytes, length(record), settings, length(settings), report = double(count), as.integer(count), answer = 0L
   )
   if (out$answer < 0) stop("an entry is past 2^53, or there is no memory for the settings")
-  if (out$answer > 0) stop(doonamurk_refused(out$answer))
+  if (out$answer > 0) stop(doonamurk_refused(out$answer, doonamurk_hindsight_questions))
   # The entries go setting by setting, and R fills a matrix column by column, so a setting is a column: the mark and the gaps of each step, and the sum.
   entries <- matrix(out$report[-count], ncol = length(settings))
   steps <- rev(seq_len(k - 1))

@@ -135,7 +135,7 @@ stopifnot(
   refused(doonamurk_run(two_years_paid(c(0, -1, 66)), 2026)) == 6,
   vapply(c(2026, 2027), function(year) refused(doonamurk_run(three_years_paid(c(0, 5000, 999999)), year)), 0) == 13,
   vapply(c(2026, 2027), function(year) refused(doonamurk_run(three_years_paid(c(5000, 45000, 2000000)), year)), 0) == 9,
-  names(doonamurk_questions) == c(20, 21, 27, 28, 1, 2, 29, 3:6, 13, 7:10, 18, 19, 11, 12, 15:17, 14),
+  names(doonamurk_questions) == c(20, 21, 27, 28, 1:6, 13, 7:10, 18, 19, 11, 12, 15:17, 14),
   names(doonamurk_write_questions) == names(doonamurk_questions)
 )
 
