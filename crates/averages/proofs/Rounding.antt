@@ -4,9 +4,9 @@ use mathlib.Core.Bool.{Bool, true, false}
 use Prim.Native.Nat.{ℕ, zero, suc, ◌+◌, ◌-◌, ◌*◌, ◌/◌, ◌%◌, ◌^◌, ◌≤◌, ◌<◌}
 use native.Mathlib.Nat.{div-lt_iff_lt-mul, div-add-mod, mod-lt, not-suc-le-zero}
 use native.Mathlib.Omega.{arith}
-use borrow.Author.Tests.{ltb-true, ltb-false}
+use borrow.Author.Tests.{ltb-true}
 use lib.Dec.{T}
-use lib.IntN.{ℤ, pos, negsuc, nat_abs, ◌+ℤ◌, ◌-ℤ◌, ◌*ℤ◌, neg_ℤ-+ℤ, +ℤ_one, -ℤ_one}
+use lib.IntN.{ℤ, pos, negsuc, nat_abs, ◌+ℤ◌, ◌-ℤ◌, ◌*ℤ◌, neg_ℤ-+ℤ}
 use lib.Signed.{lt_z, quot_z, rem_z}
 use mir.Syntax.{w64}
 use mir.Val.{SFits, to_z, of_z}
@@ -15,7 +15,7 @@ use mir.Facts.{to_z-of_z}
 use Rattle.rules.specs.Record.{signed_of, sign_of, million, most_amount}
 use Rattle.rules.specs.Triangle.{nearest, average_of}
 use Rattle.totals.specs.CellSizes.{most_average}
-use Rattle.laws.proofs.Signed.{held, size_fits, size_most, signed_size, times_size, signed_quotient, signed_remainder, signed_zero, sign_again}
+use Rattle.laws.proofs.Signed.{held, size_fits, signed_size, times_size, signed_quotient, signed_remainder, signed_zero, sign_again}
 use Rattle.averages.proofs.Halves.{apart, even, nearest_least}
 
 -- the largest average of a whole number
@@ -190,27 +190,3 @@ module _ (p : ℤ) (n : ℕ) (range : (nat_abs p ≤ most_amount) × ((1 ≤ n) 
           = sign_again (sign_of p) (size / (2 * n)) (size / (2 * n) - 1) (λ w. omega arith) in
           let due : size / (2 * n) - 1 ≡ nearest (nat_abs p) n = omega (arith, whole) in
           average_is z (rw (read_quotient, signed_size (sign_of p) (size / (2 * n))) at e ∙ nearer ∙ ap (signed_of (sign_of p)) due)
-
--- one nearer to zero, for a number below zero and for one above it; zero itself
-pub up_one : (q : ℤ) → lt_z q (pos 0) ≡ true → q +ℤ pos 1 ≡ signed_of (sign_of q) (nat_abs q - 1)
-up_one (pos a) t = absurd (not-suc-le-zero (ltb-true a 0 t))
-up_one (negsuc zero) t = +ℤ_one (negsuc zero)
-up_one (negsuc (suc a)) t =
-    let e : suc a ≡ suc (suc a) - 1 = omega arith in
-    +ℤ_one (negsuc (suc a)) ∙ ap (λ (x : ℕ). signed_of 1 x) e
-
-pub down_one : (q : ℤ) → lt_z (pos 0) q ≡ true → q -ℤ pos 1 ≡ signed_of (sign_of q) (nat_abs q - 1)
-down_one (pos zero) t = absurd (not-suc-le-zero (ltb-true 0 0 t))
-down_one (pos (suc a)) t =
-    let e : a ≡ suc a - 1 = omega arith in
-    -ℤ_one (pos (suc a)) ∙ ap pos e
-down_one (negsuc a) t = absurd (subst (λ (b : Bool). T b) (sym t) tt)
-
-pub none_nearer : (q : ℤ) → lt_z q (pos 0) ≡ false → lt_z (pos 0) q ≡ false → q ≡ signed_of (sign_of q) (nat_abs q - 1)
-none_nearer (pos zero) l g = refl
-none_nearer (pos (suc a)) l g = absurd (omega (arith, ltb-false 0 (suc a) g))
-none_nearer (negsuc a) l g = absurd (subst (λ (b : Bool). T b) l tt)
-
--- one nearer to zero fits
-pub nearer_fits : (q : ℤ) → SFits w64 q → SFits w64 (signed_of (sign_of q) (nat_abs q - 1))
-nearer_fits q f = size_fits (signed_of (sign_of q) (nat_abs q - 1)) (rw (signed_size (sign_of q) (nat_abs q - 1)) (omega (arith, size_most q f)))

@@ -23,13 +23,7 @@ fn dividend(paid: i64, claims: u64) -> i64
 fn toward_zero(q: i64) -> i64
     ensures { result ≡ signed_of (sign_of q) (nat_abs q - 1) }
 {
-    if q < 0 {
-        return q + 1;
-    }
-    if q > 0 {
-        return q - 1;
-    }
-    q
+    q - q.signum()
 }
 
 // 100 × paid / claims to the nearest whole hundredth, halves to the even neighbour. Where the division leaves nothing over there was a half, and its

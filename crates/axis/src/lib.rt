@@ -1,7 +1,7 @@
 // The axis of a plot.
 #![tactic(auto)]
 
-ghost use Rattle.std.specs.Prelude.{◌≡◌, ◌*◌, ◌≤◌, max};
+ghost use Rattle.std.specs.Prelude.{◌≡◌, ◌*◌, ◌≤◌};
 ghost use Rattle.axis.specs.Axis.{most_plotted, most_one, side_of, in_decade, step_for, steps_to, scale_of, height_of, unit_of, shown_step, zero_line, foot_line, Sound};
 
 use entries::size_of;
@@ -46,19 +46,13 @@ fn step_for(one: u64, largest: u64) -> u64
     ensures { result ≡ step_for one largest }
 {
     let mut s = one;
-    for i in 0..17usize {
+    for _ in 0..17usize {
         if largest <= 25 * s {
             return in_decade(s, largest);
         }
         s = 10 * s;
     }
     s
-}
-
-pub fn larger(a: u64, b: u64) -> u64
-    ensures { result ≡ max a b }
-{
-    if a < b { b } else { a }
 }
 
 // How many steps it takes to reach a size.
@@ -74,8 +68,8 @@ pub fn scale_of(one: u64, high: u64, low: u64) -> Scale
     requires { ((1 ≤ one) × (one ≤ most_one)) × ((high ≤ most_plotted) × (low ≤ most_plotted)) }
     ensures { result ≡ scale_of one high low }
 {
-    let step = step_for(one, larger(high, low));
-    let up = larger(1, steps_to(high, step));
+    let step = step_for(one, high.max(low));
+    let up = steps_to(high, step).max(1);
     let down = steps_to(low, step);
     let tick = 180 / (up + down);
     Scale {

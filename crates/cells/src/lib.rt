@@ -18,26 +18,23 @@ pub struct Run {
 }
 
 // A line without a carriage return at its very end.
+#[tactic(auto, unfolding(crate::specs::Cells::unreturned))]
 fn without_return(line: &[u8]) -> &[u8]
     ensures { result.now ≡ unreturned line.now }
 {
-    let n = line.len();
-    if n == 0 {
-        return line;
+    match line {
+        [text @ .., b'\r'] => text,
+        _ => line,
     }
-    let e = n - 1;
-    if line[e] == 13 {
-        return &line[..e];
-    }
-    line
 }
 
 // The content of a line.
+#[tactic(auto, unfolding(crate::specs::Cells::content_of))]
 pub fn content_of(line: &[u8]) -> &[u8]
     ensures { result.now ≡ content_of line.now }
 {
     let text = without_return(line);
-    if first_of(from(text, b" \"", false)) == 35 {
+    if first_of(from(text, b" \"", false)) == b'#' {
         return &text[..0];
     }
     let e = comment_start(text);
@@ -62,18 +59,19 @@ fn from_label(line: &[u8]) -> &[u8]
 fn first_of(text: &[u8]) -> u8
     ensures { result ≡ get_or text.now 0 0 }
 {
-    if text.len() == 0 {
-        return 0;
+    match text {
+        [b, ..] => *b,
+        _ => 0,
     }
-    text[0]
 }
 
 // The label of a line.
+#[tactic(auto, unfolding(crate::specs::Cells::label_of))]
 pub fn label_of(line: &[u8]) -> &[u8]
     ensures { result.now ≡ label_of line.now }
 {
     let text = from_label(line);
-    if first_of(text) == 34 {
+    if first_of(text) == b'"' {
         return until(after_first(text), b"\"");
     }
     until(text, b" \t,;")
@@ -83,18 +81,19 @@ pub fn label_of(line: &[u8]) -> &[u8]
 fn after_first(text: &[u8]) -> &[u8]
     ensures { result.now ≡ drop 1 text.now }
 {
-    if text.len() == 0 {
-        return text;
+    match text {
+        [_, rest @ ..] => rest,
+        _ => text,
     }
-    &text[1..]
 }
 
 // What comes right after the label.
+#[tactic(auto, unfolding(crate::specs::Cells::after_label))]
 fn after_label(line: &[u8]) -> &[u8]
     ensures { result.now ≡ after_label line.now }
 {
     let text = from_label(line);
-    if first_of(text) == 34 {
+    if first_of(text) == b'"' {
         return past(after_first(text), b"\"");
     }
     from(text, b" \t,;", true)
@@ -121,14 +120,11 @@ fn cells_text(line: &[u8]) -> &[u8]
 fn unspaced_end(text: &[u8]) -> usize
     ensures { (result ≡ unspaced (length text.now) text.now) × (result ≤ length text.now) }
 {
-    let mut n = text.len();
-    while n > 0 {
-        if text[n - 1] != 32 {
-            return n;
-        }
-        n -= 1;
+    let mut rest = text;
+    while let [front @ .., b' '] = rest {
+        rest = front;
     }
-    0
+    rest.len()
 }
 
 // A piece without the spaces around it.
@@ -141,21 +137,14 @@ fn trimmed_of(piece: &[u8]) -> &[u8]
 }
 
 // What stands in quotes is its content.
+#[tactic(auto, unfolding(crate::specs::Cells::unquoted))]
 fn unquoted_of(word: &[u8]) -> &[u8]
     ensures { result.now ≡ unquoted word.now }
 {
-    let n = word.len();
-    if n < 2 {
-        return word;
+    match word {
+        [b'"', text @ .., b'"'] => text,
+        _ => word,
     }
-    if word[0] != 34 {
-        return word;
-    }
-    let e = n - 1;
-    if word[e] != 34 {
-        return word;
-    }
-    &word[1..e]
 }
 
 // The cell that a piece is.
@@ -195,17 +184,11 @@ pub fn cell_at(line: &[u8], i: usize) -> &[u8]
 }
 
 // Whether a cell's number is from least to most.
+#[tactic(auto, unfolding(crate::specs::Cells::is_within))]
 fn is_within(word: &[u8], least: i64, most: i64) -> bool
     ensures { result ≡ is_within least most word.now }
 {
-    let v = number_of(word);
-    if v < least {
-        return false;
-    }
-    if v > most {
-        return false;
-    }
-    true
+    (least..=most).contains(&number_of(word))
 }
 
 // Whether a cell passes the test.

@@ -8,24 +8,19 @@ ghost use Rattle.commenting.specs.Comments.{comments, uncommented};
 fn does_comment(p: u8, b: u8) -> bool
     ensures { result ≡ comments p b }
 {
-    if b != 35 {
-        return false;
-    }
-    p == 32
+    b == b'#' && p == b' '
 }
 
 // How many bytes of a line come before the comment in it.
 pub fn comment_start(line: &[u8]) -> usize
     ensures { (result ≡ uncommented 0 line.now) × (result ≤ length line.now) }
 {
-    let n = line.len();
     let mut p: u8 = 0;
-    for i in 0..n {
-        let b = line[i];
-        if does_comment(p, b) {
+    for (i, b) in line.iter().enumerate() {
+        if does_comment(p, *b) {
             return i;
         }
-        p = b;
+        p = *b;
     }
-    n
+    line.len()
 }

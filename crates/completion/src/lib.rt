@@ -17,8 +17,8 @@ pub fn fill_levels(latest: u64, indices: &[u64; 16], k: usize, levels: &mut [u64
     requires { (k < 16) × ((latest ≤ billion) × ((t : ℕ) → get_or indices.now t 0 ≤ most_index)) }
     ensures { levels.new ≡ sets levels.old 0 (future_levels k latest indices.now) }
 {
-    for t in 0..k {
-        levels[t] = latest * indices[t] / MILLION;
+    for (t, index) in indices[..k].iter().enumerate() {
+        levels[t] = latest * index / MILLION;
     }
 }
 

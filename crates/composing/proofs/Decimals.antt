@@ -10,7 +10,8 @@ use native.Mathlib.Omega.{arith}
 use borrow.Author.Tests.{lt-ltb, le-ltb}
 use lib.Dec.{ltb}
 use lib.IntN.{ℤ, pos, negsuc, nat_abs}
-use lib.ListN.{length, length-append, replicate-append-replicate}
+use lib.ListN.{length, length-append, replicate, length-replicate, take}
+use Rattle.std.proofs.lemmas.List.{take-replicate}
 use Rattle.rules.specs.Lists.{up_to}
 use Rattle.laws.proofs.Lists.{up_to_ext}
 use Rattle.composing.specs.Text.{Put, digit, last_digits_of, decimal_in, decimal, sign, integer, without, fixed, spaces, right}
@@ -83,10 +84,14 @@ without_suc (suc d) n = without_suc d (n / 10)
 pub without_more : (d n : ℕ) → without (d + 1) n ≡ without d n / 10
 without_more d n = rw (add-one d) (without_suc d n)
 
--- one space more
-pub spaces_more : (n : ℕ) → spaces (n + 1) ≡ spaces n ++ (32 ∷ [])
+-- some of n spaces, and how long they are
+pub spaces_taken : (m n : ℕ) → m ≤ n → replicate m 32 ≡ take m (spaces n)
 unfolding spaces
-spaces_more n = sym (replicate-append-replicate n 1 32)
+spaces_taken m n h = sym (take-replicate m n 32 h)
+
+pub spaces_length : (n : ℕ) → length (spaces n) ≡ n
+unfolding spaces
+spaces_length n = length-replicate n 32
 
 -- a decimal put by its digits: one, or those of a tenth of the number and the last
 pub put_digit : {a b : List ℕ} {i j x : ℕ} (n : ℕ) → n < 10 → x ≡ digit n → Put a b i j (x ∷ []) → Put a b i j (decimal n)

@@ -1,12 +1,15 @@
--- Texts put into a buffer one after another: no text, two to six of them, and the turns of a loop. Assumes nothing.
+-- Texts put into a buffer one after another: no text, two to six of them, the turns of a loop, and a text in one piece. Assumes nothing.
 use mathlib.Core.Path.{◌≡◌, refl, sym, ap, ◌∙◌}
-use mathlib.Core.List.{List, [], ◌∷◌, ◌++◌}
-use Prim.Native.Nat.{ℕ, suc, ◌+◌, ◌≤◌, ◌<◌}
+use mathlib.Core.List.{List, [], ◌∷◌, ◌++◌, append_assoc}
+use Prim.Native.Nat.{ℕ, suc, ◌+◌, ◌-◌, ◌≤◌, ◌<◌}
 use native.Mathlib.Decide.{dec_le}
 use native.Mathlib.Numerals.{add-one}
 use native.Mathlib.Omega.{arith}
-use lib.ListN.{length, get_or, take, drop, length-append}
-use lib.Seq.{sets, sets-eq, set_out, length-sets, take-suc, take-append_seam}
+use lib.ListN.{length, take, drop, length-append, length-take, take-append-drop}
+use lib.Seq.{sets, sets-eq, set_out, length-sets, take-append_seam, take_all}
+use borrow.Rule.Slice.PartMut.{put_mid}
+use Rattle.std.specs.Prelude.{min}
+use Rattle.std.proofs.lemmas.List.{nil_from_length, drop-drop}
 use Rattle.rules.specs.Lists.{up_to, joined}
 use Rattle.laws.proofs.Joined.{sets_append, joined_more}
 use Rattle.composing.specs.Text.{Put}
@@ -81,7 +84,38 @@ pub put_more : (f : ℕ → List ℕ) {a b c : List ℕ} {i j k : ℕ} (n : ℕ)
     → Put a c i k (joined (up_to f (n + 1)))
 put_more f n p q = rw (add-one n, joined_more f n) (put_append p q)
 
--- one byte more of a text
-pub put_next : {a b c : List ℕ} {i j k : ℕ} (xs : List ℕ) (n : ℕ) → n < length xs → Put a b i j (take n xs) → Put b c j k (get_or xs n 0 ∷ [])
-    → Put a c i k (take (n + 1) xs)
-put_next xs n h p q = rw (add-one n, take-suc xs n 0 h) (put_append p q)
+-- a text put in one piece: the part of it for which there is room takes the place of as many bytes
+pub put_piece : (a xs ys : List ℕ) (i j : ℕ) → j ≡ i + min (length xs) (length a - i) → i < j → ys ≡ take (j - i) xs → Put a (put_mid i (j - i) a ys) i j xs
+put_piece a xs ys i j e some f =
+    record {
+      stored = piece ∙ stored (dec_le (i + length xs) (length a));
+      ended = e;
+    }
+  where
+    n : length ys ≡ j - i
+    n = rw f (omega (arith, length-take (j - i) xs))
+
+    piece : put_mid i (j - i) a ys ≡ sets a i ys
+    piece =
+        rw (drop-drop (j - i) i a)
+        (sym (sets-eq ys a i (omega (arith, n)) ∙ append_assoc (take i a) ys (drop (i + length ys) a) ∙ ap (λ m. take i a ++ (ys ++ drop (i + m) a)) n))
+
+    whole : ys ++ drop (j - i) xs ≡ xs
+    whole = rw f (take-append-drop (j - i) xs)
+
+    stored : Dec (i + length xs ≤ length a) → sets a i ys ≡ sets a i xs
+    stored (yes h) = ap (sets a i) (f ∙ take_all (j - i) xs (omega arith))
+    stored (no h) =
+        sym (sets_past (drop (j - i) xs) (sets a i ys) j (omega (arith, length-sets a i ys)))
+        ∙ sets_append ys (drop (j - i) xs) a i j (omega (arith, n))
+        ∙ ap (sets a i) whole
+
+-- and none of it where there is no room
+pub put_no_room : (a xs : List ℕ) (i j : ℕ) → j ≡ i + min (length xs) (length a - i) → j ≤ i → Put a a i j xs
+put_no_room a xs i j e none =
+    let f : j ≡ i = omega arith in
+    rw f (stored (dec_le (length a) i))
+  where
+    stored : Dec (length a ≤ i) → Put a a i i xs
+    stored (yes h) = put_past a i xs h
+    stored (no h) = rw (nil_from_length xs (omega arith)) (put_none a i)

@@ -1,7 +1,7 @@
 // Text in a lent buffer: each function puts its text from a place on, as far as the buffer goes, and answers the place after it.
 #![tactic(auto)]
 
-ghost use Rattle.std.specs.Prelude.{◌≡◌, [], ◌∷◌, ◌<◌};
+ghost use Rattle.std.specs.Prelude.{◌≡◌, [], ◌∷◌, ◌+◌, ◌-◌, ◌<◌, min};
 ghost use Rattle.composing.specs.Text.{digit, decimal, spaces, Put};
 
 // One byte.
@@ -16,14 +16,21 @@ pub fn put_byte(out: &mut [u8], at: usize, b: u8) -> usize
     }
 }
 
+// Where n bytes that are put from a place on end, as far as a buffer of this length goes.
+fn end_of(length: usize, at: usize, n: usize) -> usize
+    ensures { result ≡ at + min n (length - at) }
+{
+    at + n.min(length.saturating_sub(at))
+}
+
 // A text.
+#[tactic(auto, using(crate::proofs::Puts::put_piece, crate::proofs::Puts::put_no_room))]
 pub fn put_bytes(out: &mut [u8], at: usize, text: &[u8]) -> usize
     ensures { Put out.old out.new at result text.now }
 {
-    let mut end = at;
-    let n = text.len();
-    for i in 0..n {
-        end = put_byte(out, end, text[i]);
+    let end = end_of(out.len(), at, text.len());
+    if at < end {
+        out[at..end].copy_from_slice(&text[..end - at]);
     }
     end
 }
@@ -32,9 +39,9 @@ pub fn put_bytes(out: &mut [u8], at: usize, text: &[u8]) -> usize
 pub fn put_spaces(out: &mut [u8], at: usize, n: usize) -> usize
     ensures { Put out.old out.new at result (spaces n) }
 {
-    let mut end = at;
-    for i in 0..n {
-        end = put_byte(out, end, 32);
+    let end = end_of(out.len(), at, n);
+    if at < end {
+        out[at..end].fill(b' ');
     }
     end
 }
@@ -44,7 +51,7 @@ pub fn digit_of(d: u64) -> u8
     requires { d < 10 }
     ensures { result ≡ digit d }
 {
-    (48 + d) as u8
+    b'0' + d as u8
 }
 
 // n in decimal.

@@ -17,13 +17,11 @@ pub fn fill_corners(
 {
     let mut t = diagonals[k];
     totals[k] = t;
-    let mut h = k;
-    while h > 0 {
-        if t <= columns[h] {
+    for h in (0..k).rev() {
+        if t <= columns[h + 1] {
             return false;
         }
-        t = t - columns[h] + diagonals[h - 1];
-        h -= 1;
+        t = t - columns[h + 1] + diagonals[h];
         totals[h] = t;
     }
     true

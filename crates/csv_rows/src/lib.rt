@@ -108,9 +108,9 @@ fn put_years(
         (name.now ++ (ascii "," ++ (year_text origin i ++ (ascii "," ++ year_text year y)))) }
 {
     let a = put_bytes(out, at, name);
-    let b = put_byte(out, a, 44);
+    let b = put_byte(out, a, b',');
     let c = put_year(out, b, origin, i);
-    let d = put_byte(out, c, 44);
+    let d = put_byte(out, c, b',');
     put_year(out, d, year, y)
 }
 
@@ -119,11 +119,11 @@ fn put_value(out: &mut [u8], at: usize, z: i64, unit: &[u8]) -> usize
     ensures { Put out.old out.new at result
         (ascii "," ++ (integer z ++ (ascii "," ++ (unit.now ++ ascii "\n")))) }
 {
-    let a = put_byte(out, at, 44);
+    let a = put_byte(out, at, b',');
     let b = put_integer(out, a, z);
-    let c = put_byte(out, b, 44);
+    let c = put_byte(out, b, b',');
     let d = put_bytes(out, c, unit);
-    put_byte(out, d, 10)
+    put_byte(out, d, b'\n')
 }
 
 // The line of an entry.
@@ -212,7 +212,7 @@ pub fn put_beside(out: &mut [u8], at: usize, name: &[u8], unit: &[u8], n: u64) -
     let a = put_bytes(out, at, name);
     let b = put_bytes(out, a, b",,,");
     let c = put_decimal(out, b, n);
-    let d = put_byte(out, c, 44);
+    let d = put_byte(out, c, b',');
     let e = put_bytes(out, d, unit);
-    put_byte(out, e, 10)
+    put_byte(out, e, b'\n')
 }

@@ -31,13 +31,7 @@ fn first_outside(increments: &[i64; 136], k: usize, i: usize, at: usize) -> Cumu
     let count = k + 1 - i;
     for j in 0..count {
         sum += increments[at + j];
-        if sum < 0 {
-            return Cumulative {
-                column: j,
-                amount: sum,
-            };
-        }
-        if sum > MOST_CUMULATIVE as i64 {
+        if sum < 0 || sum > MOST_CUMULATIVE as i64 {
             return Cumulative {
                 column: j,
                 amount: sum,

@@ -6,34 +6,15 @@ use Prim.Native.Nat.{ℕ, suc, ◌+◌, ◌-◌, ◌*◌, ◌^◌, ◌≤◌, �
 use native.Mathlib.Nat.{zero-lt-suc, one-le-pow, pow-suc, pow-le-pow_right, le_trans, mul-le-mul_right}
 use lib.Pow.{pow-add}
 use native.Mathlib.Omega.{arith}
-use borrow.Author.Tests.{leb-true, le-leb, lt-leb, eq-eqb, ne_eqb}
+use borrow.Author.Tests.{leb-true, le-leb, lt-leb}
 use lib.Dec.{leb, ltb}
-use lib.ListN.{length, get_or, take, drop, take-append-drop}
+use lib.ListN.{length, take, drop, take-append-drop}
 use Rattle.rules.specs.Lists.{every}
-use Rattle.laws.proofs.Lists.{both_left, both_right, every_append, from_place}
+use Rattle.laws.proofs.Lists.{both_left, both_right, every_append}
 use Rattle.composing.specs.Text.{ascii}
 use Rattle.scanning.specs.Parts.{among, before, until, past}
 use Rattle.scanning.specs.Numbers.{is_digit, is_natural, ceiling, with_digit, size_from}
-use Rattle.decimals.specs.Decimals.{is_negative, unsigned, whole_digits, fraction_digits, most_digits, is_decimal, numerator}
-
--- an empty word has no sign
-pub none_negative : (xs : List ℕ) → length xs ≡ 0 → false ≡ is_negative xs
-none_negative [] h = refl
-none_negative (x ∷ xs) h = absurd (omega arith)
-
-pub none_unsigned : (xs : List ℕ) → length xs ≡ 0 → xs ≡ unsigned xs
-unfolding unsigned
-none_unsigned [] h = refl
-none_unsigned (x ∷ xs) h = absurd (omega arith)
-
--- by the first byte, a minus sign or not
-pub after_minus : (xs : List ℕ) → get_or xs 0 0 ≡ 45 → take (length xs - 1) (drop 1 xs) ≡ unsigned xs
-unfolding unsigned
-after_minus xs h = from_place xs 1 ∙ rw (eq-eqb (get_or xs 0 0) 45 h)
-
-pub no_minus : (xs : List ℕ) → (get_or xs 0 0 ≡ 45 → ⊥) → xs ≡ unsigned xs
-unfolding unsigned
-no_minus xs h = rw (ne_eqb (get_or xs 0 0) 45 h)
+use Rattle.decimals.specs.Decimals.{unsigned, whole_digits, fraction_digits, most_digits, is_decimal, numerator}
 
 -- whether a word is a decimal, by its digits
 module _ (w : List ℕ) where

@@ -12,23 +12,18 @@ use scanning::{is_natural, past, size_from, until};
 fn is_negative(word: &[u8]) -> bool
     ensures { result ≡ is_negative word.now }
 {
-    if word.len() == 0 {
-        return false;
-    }
-    word[0] == 45
+    matches!(word, [b'-', ..])
 }
 
 // A word without a minus sign in front.
+#[tactic(auto, unfolding(crate::specs::Decimals::unsigned))]
 fn unsigned_of(word: &[u8]) -> &[u8]
     ensures { result.now ≡ unsigned word.now }
 {
-    if word.len() == 0 {
-        return word;
+    match word {
+        [b'-', size @ ..] => size,
+        _ => word,
     }
-    if word[0] == 45 {
-        return &word[1..];
-    }
-    word
 }
 
 // The digits before the point, and those after it.
@@ -51,31 +46,18 @@ pub fn is_decimal(word: &[u8]) -> bool
 {
     let whole = whole_digits(word);
     let fraction = fraction_digits(word);
-    if whole.len() > 15 {
-        return false;
-    }
-    if fraction.len() > 15 - whole.len() {
-        return false;
-    }
-    if is_natural(unsigned_of(word)) {
-        return true;
-    }
-    if is_natural(whole) {
-        return is_natural(fraction);
-    }
-    false
+    whole.len() <= 15
+        && fraction.len() <= 15 - whole.len()
+        && (is_natural(unsigned_of(word)) || is_natural(whole) && is_natural(fraction))
 }
 
 // 10^n.
+#[tactic(auto, using(crate::proofs::Decimals::ten_most))]
 fn power_of_ten(n: usize) -> u64
     requires { n ≤ most_digits }
     ensures { result ≡ 10 ^ n }
 {
-    let mut power: u64 = 1;
-    for i in 0..n {
-        power = power * 10;
-    }
-    power
+    10u64.pow(n as u32)
 }
 
 // The float nearest to n / 10^d: both are floats, so that one rounded division finds it.

@@ -18,7 +18,7 @@ fn put_tick_number(out: &mut [u8], at: usize, down: u64, t: u64, q: u64) -> usiz
     ensures { Put out.old out.new at result (tick_number down t q) }
 {
     if t < down {
-        let end = put_byte(out, at, 45);
+        let end = put_byte(out, at, b'-');
         put_spaced(out, end, 0, ((down - t) * q) as i64)
     } else {
         put_spaced(out, at, 0, ((t - down) * q) as i64)

@@ -6,7 +6,7 @@ ghost use Rattle.rules.specs.History.{most_history, most_width};
 ghost use Rattle.history_places.specs.Places.{Inside};
 ghost use Rattle.drift_scale.specs.Scales.{share_at, largest_share, in_percent, one_for};
 
-use axis::{larger, side_of};
+use axis::side_of;
 use history_places::entry_of;
 use rules::MOST_HISTORY_ENTRIES;
 
@@ -31,7 +31,7 @@ pub fn largest_share(
 {
     let mut largest: u64 = 0;
     for a in 0..n {
-        largest = larger(largest, side_of(low, share_at(list, width, j, a)));
+        largest = largest.max(side_of(low, share_at(list, width, j, a)));
     }
     largest
 }

@@ -14,7 +14,7 @@ use figures_run::run_figures;
 use listing::entries_of;
 use opening::{last_year_of, opens};
 use reading::read;
-use rules::ACCEPTED;
+use rules::{ACCEPTED, NO_FIGURES};
 
 // The questions from 4 on of a record that has passed 1, 2 and 3, and the list where all say yes.
 #[tactic(auto, using(laws::proofs::Questions::first_answer, laws::proofs::Questions::after_refusal))]
@@ -22,34 +22,22 @@ fn run_record(year: u64, packed: &[u8], out: &mut [i64]) -> u64
     requires { (first_no (opening_questions packed.now) ≡ 0) × (result_count (last_year_of packed.now) ≤ length out.old) }
     ensures { Answers (field_questions packed.now ++ figure_questions year (figures_of packed.now)) year (figures_of packed.now) out.old out.new result }
 {
-    let mut exposures = [0u64; 16];
-    let mut increments = [0i64; 136];
-    let mut indices = [0u64; 16];
-    let mut reporting = [0u64; 16];
-    let mut ulae = [0u64; 16];
+    let mut figures = NO_FIGURES;
     let opened = read(
         packed,
-        &mut exposures,
-        &mut increments,
-        &mut indices,
-        &mut reporting,
-        &mut ulae,
+        &mut figures.exposures,
+        &mut figures.increments,
+        &mut figures.indices,
+        &mut figures.reporting,
+        &mut figures.ulae,
     );
     if opened.answer != ACCEPTED {
         return opened.answer;
     }
-    run_figures(
-        year,
-        last_year_of(packed),
-        &exposures,
-        &increments,
-        &indices,
-        &reporting,
-        opened.weight,
-        &ulae,
-        opened.tail,
-        out,
-    )
+    figures.k = last_year_of(packed);
+    figures.weight = opened.weight;
+    figures.tail = opened.tail;
+    run_figures(year, &figures, out)
 }
 
 // Question 3.

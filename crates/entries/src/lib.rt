@@ -12,8 +12,8 @@ pub fn put_naturals(out: &mut [i64], at: usize, vs: &[u64], n: usize) -> usize
     requires { (n ≤ length vs.now) × ((at + n ≤ length out.old) × ((i : ℕ) → i < n → get_or vs.now i 0 < 2 ^ 63)) }
     ensures { (result ≡ at + n) × (out.new ≡ sets out.old at (map pos (take n vs.now))) }
 {
-    for i in 0..n {
-        out[at + i] = vs[i] as i64;
+    for (i, x) in vs[..n].iter().enumerate() {
+        out[at + i] = *x as i64;
     }
     at + n
 }
@@ -28,13 +28,12 @@ pub fn put_natural(out: &mut [i64], at: usize, x: u64) -> usize
 }
 
 // The first n of vs, signed, go into out from place `at` on.
+#[tactic(auto, using(crate::proofs::Runs::part_put))]
 pub fn put_integers(out: &mut [i64], at: usize, vs: &[i64], n: usize) -> usize
     requires { (n ≤ length vs.now) × (at + n ≤ length out.old) }
     ensures { (result ≡ at + n) × (out.new ≡ sets out.old at (take n vs.now)) }
 {
-    for i in 0..n {
-        out[at + i] = vs[i];
-    }
+    out[at..at + n].copy_from_slice(&vs[..n]);
     at + n
 }
 
@@ -43,37 +42,21 @@ pub fn within(vs: &[u64], n: usize, least: u64, most: u64) -> bool
     requires { n ≤ length vs.now }
     ensures { result ≡ every (between least most) (take n vs.now) }
 {
-    for i in 0..n {
-        let x = vs[i];
-        if x < least {
-            return false;
-        }
-        if x > most {
-            return false;
-        }
-    }
-    true
+    vs[..n].iter().all(|x| least <= *x && *x <= most)
 }
 
 // The sum of the first n of vs, at most sixteen numbers up to the most of an ultimate.
+#[tactic(auto, using(laws::proofs::Library::total_is_sum))]
 pub fn sum_of(vs: &[u64], n: usize) -> u64
     requires { (n ≤ length vs.now) × ((n ≤ 16) × ((i : ℕ) → i < n → get_or vs.now i 0 ≤ most_ultimate)) }
     ensures { result ≡ total (take n vs.now) }
 {
-    let mut sum: u64 = 0;
-    for i in 0..n {
-        sum += vs[i];
-    }
-    sum
+    vs[..n].iter().sum()
 }
 
 // The size of x.
 pub fn size_of(x: i64) -> u64
     ensures { result ≡ nat_abs x }
 {
-    if x < 0 {
-        ((0 - (x + 1)) as u64) + 1
-    } else {
-        x as u64
-    }
+    x.unsigned_abs()
 }

@@ -18,10 +18,7 @@ use rules::MILLION;
 pub fn ratio_passes(paid: u64, spent: u64) -> bool
     ensures { result ≡ ratio_pass (pos paid) spent }
 {
-    if paid < 1 {
-        return false;
-    }
-    spent <= paid
+    1 <= paid && spent <= paid
 }
 
 // The plain ratio: the ULAE totals over the paid total, in millionths.

@@ -26,77 +26,68 @@ pub fn row_of(k: usize, r: usize) -> Row
     ensures { result ≡ row_of k r }
 {
     let at = places_of(k);
-    if r == 1 {
-        return Row {
+    match r {
+        1 => Row {
             at: 4,
             count: k + 1,
             bits: 20,
             signed: false,
             least: 1,
             most: MILLION,
-        };
-    }
-    if r == 2 {
-        return Row {
+        },
+        2 => Row {
             at: at.increments,
             count: at.cells,
             bits: 35,
             signed: true,
             least: 0,
             most: MOST_AMOUNT,
-        };
-    }
-    if r == 3 {
-        return Row {
+        },
+        3 => Row {
             at: at.indices,
             count: k + 1,
             bits: 23,
             signed: false,
             least: 1,
             most: MOST_INDEX,
-        };
-    }
-    if r == 4 {
-        return Row {
+        },
+        4 => Row {
             at: at.reporting,
             count: k + 1,
             bits: 20,
             signed: false,
             least: 0,
             most: MILLION,
-        };
-    }
-    if r == 5 {
-        return Row {
+        },
+        5 => Row {
             at: at.weight,
             count: 1,
             bits: 20,
             signed: false,
             least: 0,
             most: MILLION,
-        };
-    }
-    if r == 6 {
-        return Row {
+        },
+        6 => Row {
             at: at.ulae,
             count: k + 1,
             bits: 34,
             signed: false,
             least: 0,
             most: MOST_AMOUNT,
-        };
-    }
-    Row {
-        at: at.tail,
-        count: 1,
-        bits: 34,
-        signed: false,
-        least: 0,
-        most: MOST_AMOUNT,
+        },
+        _ => Row {
+            at: at.tail,
+            count: 1,
+            bits: 34,
+            signed: false,
+            least: 0,
+            most: MOST_AMOUNT,
+        },
     }
 }
 
 // Whether a field of the row with these bits is in range.
+#[tactic(auto, unfolding(crate::specs::Rows::passes_in))]
 pub fn passes(row: Row, code: u64) -> bool
     requires { code < 2 ^ 35 }
     ensures { result ≡ passes_in row code }
@@ -104,10 +95,7 @@ pub fn passes(row: Row, code: u64) -> bool
     if row.signed {
         return sound(code);
     }
-    if code < row.least {
-        return false;
-    }
-    code <= row.most
+    row.least <= code && code <= row.most
 }
 
 // Its value.

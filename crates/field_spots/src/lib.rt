@@ -40,11 +40,9 @@ pub fn spot_of(k: usize, r: usize, m: usize) -> Spot
     requires { (k < 16) × (m < count_of k r) }
     ensures { result ≡ spot_of k r m }
 {
-    if r == 2 {
-        return cell_of(k, m);
+    match r {
+        2 => cell_of(k, m),
+        4 => Spot { row: 0, column: m },
+        _ => Spot { row: m, column: 0 },
     }
-    if r == 4 {
-        return Spot { row: 0, column: m };
-    }
-    Spot { row: m, column: 0 }
 }

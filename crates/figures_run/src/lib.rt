@@ -2,35 +2,23 @@
 #![tactic(auto)]
 
 ghost use Rattle.std.specs.Prelude.{◌≤◌, length};
-ghost use Rattle.rules.specs.Record.{figures};
 ghost use Rattle.rules.specs.Results.{result_count};
 ghost use Rattle.rules.specs.Engine.{figure_questions};
 ghost use Rattle.reading.specs.Reading.{Sound};
 ghost use Rattle.reserving.specs.Stages.{Answers};
 
 use ladder::development_factors;
-use rules::ACCEPTED;
+use rules::{ACCEPTED, Figures};
 use separated_run::run_separated;
 use separation::separate_totals;
 use triangle_rows::fill_rows;
 
 // The questions from 6 on of figures that have passed 4 and 5, for a buffer that holds their list, and the list where all say yes.
-pub fn run_figures(
-    year: u64,
-    k: usize,
-    exposures: &[u64; 16],
-    increments: &[i64; 136],
-    indices: &[u64; 16],
-    reporting: &[u64; 16],
-    weight: u64,
-    ulae: &[u64; 16],
-    tail: u64,
-    out: &mut [i64],
-) -> u64
-    requires { Sound (figures k exposures.now increments.now indices.now reporting.now weight ulae.now tail) × (result_count k ≤ length out.old) }
-    ensures { Answers (figure_questions year (figures k exposures.now increments.now indices.now reporting.now weight ulae.now tail))
-        year (figures k exposures.now increments.now indices.now reporting.now weight ulae.now tail) out.old out.new result }
+pub fn run_figures(year: u64, figures: &Figures, out: &mut [i64]) -> u64
+    requires { Sound figures.now × (result_count figures.now.k ≤ length out.old) }
+    ensures { Answers (figure_questions year figures.now) year figures.now out.old out.new result }
 {
+    let k = figures.k;
     let mut square = [[0i64; 16]; 16];
     let mut sums = [0u64; 16];
     let mut paid = [0u64; 16];
@@ -38,8 +26,8 @@ pub fn run_figures(
     let mut diagonals = [0i64; 16];
     if !fill_rows(
         k,
-        exposures,
-        increments,
+        &figures.exposures,
+        &figures.increments,
         &mut square,
         &mut sums,
         &mut paid,
@@ -59,14 +47,7 @@ pub fn run_figures(
     let factors = separation.factors;
     run_separated(
         year,
-        k,
-        exposures,
-        increments,
-        indices,
-        reporting,
-        weight,
-        ulae,
-        tail,
+        figures,
         &square,
         &development,
         &paid,

@@ -15,8 +15,8 @@ const BILLIONTHS: u8 = 10;
 fn put_record_table(out: &mut [u8], at: usize, html: bool, n: u64, f: Finding) -> usize
     ensures { Put out.old out.new at result (record_table html n f) }
 {
-    if n == 1 {
-        return put_figures(
+    match n {
+        1 => put_figures(
             out,
             at,
             html,
@@ -27,10 +27,8 @@ fn put_record_table(out: &mut [u8], at: usize, html: bool, n: u64, f: Finding) -
             0,
             0,
             f,
-        );
-    }
-    if n == 2 {
-        return put_figures(
+        ),
+        2 => put_figures(
             out,
             at,
             html,
@@ -41,13 +39,9 @@ fn put_record_table(out: &mut [u8], at: usize, html: bool, n: u64, f: Finding) -
             AMOUNT,
             0,
             f,
-        );
-    }
-    if n == 4 {
-        return put_field_table(out, at, html, f);
-    }
-    if n == 5 {
-        return put_figures(
+        ),
+        4 => put_field_table(out, at, html, f),
+        5 => put_figures(
             out,
             at,
             html,
@@ -58,17 +52,17 @@ fn put_record_table(out: &mut [u8], at: usize, html: bool, n: u64, f: Finding) -
             MILLIONTHS,
             0,
             f,
-        );
+        ),
+        _ => at,
     }
-    at
 }
 
 // Of one about the triangle and its separation.
 fn put_triangle_table(out: &mut [u8], at: usize, html: bool, n: u64, f: Finding) -> usize
     ensures { Put out.old out.new at result (triangle_table html n f) }
 {
-    if n == 6 {
-        return put_figures(
+    match n {
+        6 => put_figures(
             out,
             at,
             html,
@@ -79,13 +73,9 @@ fn put_triangle_table(out: &mut [u8], at: usize, html: bool, n: u64, f: Finding)
             0,
             0,
             f,
-        );
-    }
-    if n == 13 {
-        return put_development_table(out, at, html, f);
-    }
-    if n == 7 {
-        return put_figures(
+        ),
+        13 => put_development_table(out, at, html, f),
+        7 => put_figures(
             out,
             at,
             html,
@@ -96,10 +86,8 @@ fn put_triangle_table(out: &mut [u8], at: usize, html: bool, n: u64, f: Finding)
             0,
             0,
             f,
-        );
-    }
-    if n == 8 {
-        return put_figures(
+        ),
+        8 => put_figures(
             out,
             at,
             html,
@@ -110,10 +98,8 @@ fn put_triangle_table(out: &mut [u8], at: usize, html: bool, n: u64, f: Finding)
             HUNDREDTHS,
             HUNDREDTHS,
             f,
-        );
-    }
-    if n == 9 {
-        return put_figures(
+        ),
+        9 => put_figures(
             out,
             at,
             html,
@@ -124,10 +110,8 @@ fn put_triangle_table(out: &mut [u8], at: usize, html: bool, n: u64, f: Finding)
             0,
             0,
             f,
-        );
-    }
-    if n == 10 {
-        return put_figures(
+        ),
+        10 => put_figures(
             out,
             at,
             html,
@@ -138,17 +122,17 @@ fn put_triangle_table(out: &mut [u8], at: usize, html: bool, n: u64, f: Finding)
             BILLIONTHS,
             HUNDREDTHS,
             f,
-        );
+        ),
+        _ => at,
     }
-    at
 }
 
 // Of one about the reserves.
 fn put_reserve_table(out: &mut [u8], at: usize, html: bool, n: u64, f: Finding) -> usize
     ensures { Put out.old out.new at result (reserve_table html n f) }
 {
-    if n == 18 {
-        return put_figures(
+    match n {
+        18 => put_figures(
             out,
             at,
             html,
@@ -159,10 +143,8 @@ fn put_reserve_table(out: &mut [u8], at: usize, html: bool, n: u64, f: Finding) 
             AMOUNT,
             HUNDREDTHS,
             f,
-        );
-    }
-    if n == 19 {
-        return put_figures(
+        ),
+        19 => put_figures(
             out,
             at,
             html,
@@ -173,10 +155,8 @@ fn put_reserve_table(out: &mut [u8], at: usize, html: bool, n: u64, f: Finding) 
             MILLIONTHS,
             MILLIONTHS,
             f,
-        );
-    }
-    if n == 11 {
-        return put_figures(
+        ),
+        11 => put_figures(
             out,
             at,
             html,
@@ -187,10 +167,8 @@ fn put_reserve_table(out: &mut [u8], at: usize, html: bool, n: u64, f: Finding) 
             AMOUNT,
             AMOUNT,
             f,
-        );
-    }
-    if n == 12 {
-        return put_figures(
+        ),
+        12 => put_figures(
             out,
             at,
             html,
@@ -201,10 +179,8 @@ fn put_reserve_table(out: &mut [u8], at: usize, html: bool, n: u64, f: Finding) 
             AMOUNT,
             0,
             f,
-        );
-    }
-    if n == 15 {
-        return put_figures(
+        ),
+        15 => put_figures(
             out,
             at,
             html,
@@ -215,10 +191,8 @@ fn put_reserve_table(out: &mut [u8], at: usize, html: bool, n: u64, f: Finding) 
             0,
             0,
             f,
-        );
-    }
-    if n == 16 {
-        return put_figures(
+        ),
+        16 => put_figures(
             out,
             at,
             html,
@@ -229,10 +203,8 @@ fn put_reserve_table(out: &mut [u8], at: usize, html: bool, n: u64, f: Finding) 
             AMOUNT,
             AMOUNT,
             f,
-        );
-    }
-    if n == 17 {
-        return put_figures(
+        ),
+        17 => put_figures(
             out,
             at,
             html,
@@ -243,10 +215,8 @@ fn put_reserve_table(out: &mut [u8], at: usize, html: bool, n: u64, f: Finding) 
             MILLIONTHS,
             RATIO,
             f,
-        );
-    }
-    if n == 14 {
-        return put_figures(
+        ),
+        14 => put_figures(
             out,
             at,
             html,
@@ -257,9 +227,9 @@ fn put_reserve_table(out: &mut [u8], at: usize, html: bool, n: u64, f: Finding) 
             MILLIONTHS,
             AMOUNT,
             f,
-        );
+        ),
+        _ => at,
     }
-    at
 }
 
 // The figures of question n, which is one of these.

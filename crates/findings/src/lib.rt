@@ -23,66 +23,32 @@ pub fn find(year: u64, packed: &[u8], n: u64) -> Finding
     requires { run_answer year packed.now most_entries ≡ n }
     ensures { (result ≡ finding_of packed.now n) × ((result.row < 16) × (result.column < 16)) }
 {
-    if n == 1 {
-        return given_finding(packed);
-    }
-    if n == 2 {
-        return length_finding(packed);
-    }
-    if n == 4 {
-        return field_finding(year, packed);
-    }
-    if n == 5 {
-        return shares_finding(year, packed);
-    }
-    if n == 6 {
-        return cumulative_finding(year, packed);
-    }
-    if n == 13 {
-        return development_finding(year, packed);
-    }
-    if n == 7 {
-        return totals_finding(year, packed);
-    }
-    if n == 8 {
-        return rest_finding(year, packed);
-    }
-    if n == 9 {
-        return running_finding(year, packed);
-    }
-    if n == 10 {
-        return level_finding(year, packed);
-    }
-    if n == 18 {
-        return tail_finding(year, packed);
-    }
-    if n == 19 {
-        return tail_average_finding(year, packed);
-    }
-    if n == 11 {
-        return ultimate_finding(year, packed);
-    }
-    if n == 12 {
-        return ratio_finding(year, packed);
-    }
-    if n == 15 {
-        return latest_finding(year, packed);
-    }
-    if n == 16 {
-        return divisor_finding(year, packed);
-    }
-    if n == 17 {
-        return corrected_finding(year, packed);
-    }
-    if n == 14 {
-        return completed_finding(year, packed);
-    }
-    Finding {
-        place: NOWHERE,
-        row: 0,
-        column: 0,
-        one: 0,
-        two: 0,
-        three: 0,
+    match n {
+        1 => given_finding(packed),
+        2 => length_finding(packed),
+        4 => field_finding(year, packed),
+        5 => shares_finding(year, packed),
+        6 => cumulative_finding(year, packed),
+        13 => development_finding(year, packed),
+        7 => totals_finding(year, packed),
+        8 => rest_finding(year, packed),
+        9 => running_finding(year, packed),
+        10 => level_finding(year, packed),
+        18 => tail_finding(year, packed),
+        19 => tail_average_finding(year, packed),
+        11 => ultimate_finding(year, packed),
+        12 => ratio_finding(year, packed),
+        15 => latest_finding(year, packed),
+        16 => divisor_finding(year, packed),
+        17 => corrected_finding(year, packed),
+        14 => completed_finding(year, packed),
+        _ => Finding {
+            place: NOWHERE,
+            row: 0,
+            column: 0,
+            one: 0,
+            two: 0,
+            three: 0,
+        },
     }
 }

@@ -41,7 +41,7 @@ pub fn put_fixed(out: &mut [u8], at: usize, d: usize, z: i64) -> usize
         let n = size_of(z);
         let whole = put_sign(out, at, z);
         let point = put_decimal(out, whole, shortened(d, n));
-        let decimals = put_byte(out, point, 46);
+        let decimals = put_byte(out, point, b'.');
         put_last(out, decimals, d, n)
     }
 }

@@ -13,10 +13,7 @@ use rules::{MILLION, MOST_AMOUNT, MOST_INDEX};
 pub fn given_last_year(k: u64) -> bool
     ensures { result ≡ leb 1 k && leb k 15 }
 {
-    if k < 1 {
-        return false;
-    }
-    k <= 15
+    1 <= k && k <= 15
 }
 
 // Question 2, from the lengths of the lists and of the buffer.
@@ -34,25 +31,16 @@ pub fn given_lengths(
         && (eqb exposures (k + 1) && (eqb increments (cells k) && (eqb indices (k + 1) && (eqb reporting (k + 1) && eqb ulae (k + 1))))) }
 {
     let n = k + 1;
-    if m != bytes_of(k) {
-        return false;
-    }
-    if exposures != n {
-        return false;
-    }
-    if increments != cells_of(k) {
-        return false;
-    }
-    if indices != n {
-        return false;
-    }
-    if reporting != n {
-        return false;
-    }
-    ulae == n
+    m == bytes_of(k)
+        && exposures == n
+        && increments == cells_of(k)
+        && indices == n
+        && reporting == n
+        && ulae == n
 }
 
 // Whether an increment is in its range.
+#[tactic(auto, unfolding(rules::specs::Record::in_range))]
 fn in_range(p: i64) -> bool
     ensures { result ≡ in_range increment p }
 {
@@ -63,13 +51,7 @@ fn in_range(p: i64) -> bool
 fn all_in_range(ps: &[i64]) -> bool
     ensures { result ≡ every (in_range increment) ps.now }
 {
-    let n = ps.len();
-    for i in 0..n {
-        if !in_range(ps[i]) {
-            return false;
-        }
-    }
-    true
+    ps.iter().all(|p| in_range(*p))
 }
 
 // Question 4.
@@ -88,23 +70,11 @@ pub fn given_ranges(
         && (every (between 0 million) reporting.now
         && (between 0 million weight && (every (between 0 most_amount) ulae.now && between 0 most_amount tail))))) }
 {
-    if !within(exposures, exposures.len(), 1, MILLION) {
-        return false;
-    }
-    if !all_in_range(increments) {
-        return false;
-    }
-    if !within(indices, indices.len(), 1, MOST_INDEX) {
-        return false;
-    }
-    if !within(reporting, reporting.len(), 0, MILLION) {
-        return false;
-    }
-    if weight > MILLION {
-        return false;
-    }
-    if !within(ulae, ulae.len(), 0, MOST_AMOUNT) {
-        return false;
-    }
-    tail <= MOST_AMOUNT
+    within(exposures, exposures.len(), 1, MILLION)
+        && all_in_range(increments)
+        && within(indices, indices.len(), 1, MOST_INDEX)
+        && within(reporting, reporting.len(), 0, MILLION)
+        && weight <= MILLION
+        && within(ulae, ulae.len(), 0, MOST_AMOUNT)
+        && tail <= MOST_AMOUNT
 }

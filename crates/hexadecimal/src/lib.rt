@@ -8,11 +8,12 @@ ghost use Rattle.hexadecimal.specs.Hexadecimal.{hex_digit, hex_byte, hex_of, hex
 use composing::put_byte;
 
 // The digit of a number below 16.
+#[tactic(auto, unfolding(crate::specs::Hexadecimal::hex_digit))]
 fn digit_of(n: u8) -> u8
     requires { n < 16 }
     ensures { result ≡ hex_digit n }
 {
-    if n < 10 { 48 + n } else { 87 + n }
+    if n < 10 { b'0' + n } else { b'a' + (n - 10) }
 }
 
 // The two digits of a byte.
@@ -28,9 +29,8 @@ pub fn put_hex(out: &mut [u8], at: usize, bytes: &[u8]) -> usize
     ensures { Put out.old out.new at result (hex_of bytes.now) }
 {
     let mut end = at;
-    let n = bytes.len();
-    for i in 0..n {
-        end = put_two(out, end, bytes[i]);
+    for b in bytes {
+        end = put_two(out, end, *b);
     }
     end
 }
@@ -40,7 +40,7 @@ fn line_stop(n: usize, from: usize) -> usize
     requires { from ≤ n }
     ensures { result ≡ min (from + 32) n }
 {
-    if n - from < 32 { n } else { from + 32 }
+    from + (n - from).min(32)
 }
 
 // Line m of the text page.
@@ -51,7 +51,7 @@ fn put_hex_line(out: &mut [u8], at: usize, bytes: &[u8], m: usize) -> usize
     let from = 32 * m;
     let stop = line_stop(bytes.len(), from);
     let end = put_hex(out, at, &bytes[from..stop]);
-    put_byte(out, end, 10)
+    put_byte(out, end, b'\n')
 }
 
 // The lines of the text page.

@@ -23,13 +23,12 @@ fn number_in(bytes: &[u8]) -> u64
 
 // Reads the settings that the list has room for; false where the input ends before.
 fn read_settings(rt: &HostRuntime, list: &mut [u64]) -> bool {
-    let n = list.len();
-    for i in 0..n {
+    for x in list {
         let mut bytes = [0u8; 8];
         if read_full(rt, &mut bytes) < 8 {
             return false;
         }
-        list[i] = number_in(&bytes);
+        *x = number_in(&bytes);
     }
     true
 }
@@ -56,13 +55,7 @@ fn case(rt: &HostRuntime) -> bool {
     let size = pair_at(&head, 0);
     let n = pair_at(&head, 2);
     let room = pair_at(&head, 4);
-    if 4096 < size {
-        return false;
-    }
-    if 512 < n {
-        return false;
-    }
-    if 1024 < room {
+    if 4096 < size || 512 < n || 1024 < room {
         return false;
     }
     let mut packed = [0u8; 4096];

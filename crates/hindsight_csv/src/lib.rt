@@ -29,7 +29,7 @@ fn put_setting_line(
     ensures { Put out.old out.new at result (setting_line name.now unit.now setting paid origin y i z) }
 {
     let comma = put_bytes(out, at, name);
-    let number = put_byte(out, comma, 44);
+    let number = put_byte(out, comma, b',');
     let rest = put_decimal(out, number, setting as u64);
     put_line(out, rest, b"", unit, paid, origin, y, i, z)
 }
@@ -57,17 +57,8 @@ fn put_index_lines(out: &mut [u8], at: usize, settings: &[u64; MOST_SETTINGS], n
     ensures { Put out.old out.new at result (joined (up_to (index_line settings.now) n)) }
 {
     let mut end = at;
-    for a in 0..n {
-        end = put_number_line(
-            out,
-            end,
-            b"index",
-            b"millionths",
-            a + 1,
-            false,
-            0,
-            settings[a],
-        );
+    for (a, setting) in settings[..n].iter().enumerate() {
+        end = put_number_line(out, end, b"index", b"millionths", a + 1, false, 0, *setting);
     }
     end
 }

@@ -49,15 +49,12 @@ pub fn mark_of(list: &[i64; MOST_HINDSIGHT], k: usize, h: usize) -> u64
 }
 
 // Whether step h is marked.
+#[tactic(auto, unfolding(crate::specs::Places::marked))]
 pub fn is_marked(list: &[i64; MOST_HINDSIGHT], k: usize, h: usize) -> bool
     requires { Step k h }
     ensures { result ≡ marked list.now k h }
 {
-    if mark_of(list, k, h) == 0 {
-        false
-    } else {
-        true
-    }
+    mark_of(list, k, h) != 0
 }
 
 // The gap of origin year i in step h with setting a.

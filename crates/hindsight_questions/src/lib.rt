@@ -9,20 +9,12 @@ use hindsight_settings::setting_count;
 use rules::{MOST_INDEX, MOST_SETTINGS};
 
 // 29.
+#[tactic(auto, using(crate::proofs::Passed::ranges), unfolding(rules::specs::Hindsight::settings_pass))]
 pub fn settings_pass(k: usize, settings: &[u64]) -> bool
     ensures { result ≡ settings_pass k settings.now }
 {
     let n = settings.len();
-    if n < 1 {
-        return false;
-    }
-    if n > MOST_SETTINGS {
-        return false;
-    }
-    if !within(settings, n, 1, MOST_INDEX) {
-        return false;
-    }
-    2 <= k
+    1 <= n && n <= MOST_SETTINGS && within(settings, n, 1, MOST_INDEX) && 2 <= k
 }
 
 // 3: whether a lent report of m entries holds that of n settings.

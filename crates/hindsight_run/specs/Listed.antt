@@ -1,5 +1,5 @@
 -- The hindsight run of a record with the settings of a line: its report, or what is said where there is none. Assumes nothing.
-use Rattle.std.specs.Prelude.{ℕ, ◌≤◌, ◌≡◌, Bool, false, cond, ◌&&◌, List, ◌++◌, eqb, ℤ, length, replicate}
+use Rattle.std.specs.Prelude.{ℕ, ◌≤◌, ◌≡◌, Bool, cond, ◌&&◌, List, ◌++◌, eqb, ℤ, length}
 use Rattle.rules.specs.Lists.{padded}
 use Rattle.rules.specs.Record.{last_year_of, figures_of}
 use Rattle.rules.specs.Hindsight.{most_settings, most_hindsight, hindsight_answer, hindsight_of}
@@ -32,10 +32,6 @@ refused_text n =
 -- what is said where there is no report: what is wrong with the settings, since there is nothing to call with then, and otherwise the refusal
 unfoldable pub said_of : List ℕ → List ℕ → List ℕ
 said_of line packed = cond (eqb (wrong_word line) 0) (refused_text (answer_of line packed)) (wrong_text (wrong_word line))
-
--- what is found where there is none, said bytes of a message
-abbrev pub unlisted_of : ℕ → Listed
-unlisted_of said = record { listed = false; k = 0; count = 0; settings = replicate most_settings 0; said = said }
 
 -- what is found where there is a report: k, how many settings there are, and the settings, zero past them
 pub record Found (line packed : List ℕ) (r : Listed) : Type 0 where

@@ -4,7 +4,7 @@ use native.Mathlib.Nat.{mul-le-mul}
 use native.Mathlib.Numerals.{add-one}
 use native.Mathlib.Omega.{arith}
 use mathlib.Core.Path.{◌≡◌, refl, sym, ap, ◌∙◌}
-use mathlib.Core.List.{List, ◌∷◌, [], ◌++◌, map}
+use mathlib.Core.List.{List, ◌∷◌, [], map}
 use lib.IntN.{ℤ, pos, nat_abs}
 use lib.ListN.{length, get_or, length-append}
 use Rattle.rules.specs.Lists.{total, up_to, joined}
@@ -14,6 +14,13 @@ use Rattle.laws.proofs.Totals.{total_more, total_part}
 use Rattle.laws.proofs.Joined.{joined_more}
 use Rattle.history.proofs.Windows.{rows_length}
 use Rattle.hindsight_gaps.proofs.Steps.{step_length}
+
+-- the entries and the sum of setting a
+abbrev pub entries : ℕ → List ℕ → List ℤ → List ℕ → ℕ → List ℤ
+entries k n p settings a = setting_entries k n p (get_or settings a 0)
+
+abbrev pub sum_at : ℕ → List ℕ → List ℤ → List ℕ → ℕ → ℕ
+sum_at k n p settings a = gap_sum k n p (get_or settings a 0)
 
 module _ (k : ℕ) (n : List ℕ) (p : List ℤ) (e : ℕ) where
   -- the entries and the sum of absolute gaps of the step at place m

@@ -94,14 +94,13 @@ pub fn put_settings(
     ensures { (out.new ≡ sets out.old 0 (joined (map (setting_entries k exposures.now increments.now) settings.now)))
         × (sums.new ≡ sets sums.old 0 (map (gap_sum k exposures.now increments.now) settings.now)) }
 {
-    let n = settings.len();
     let size = setting_count(k);
-    for a in 0..n {
+    for (a, index) in settings.iter().enumerate() {
         sums[a] = put_setting(
             out,
             a * size,
             k,
-            settings[a],
+            *index,
             exposures,
             increments,
             marks,

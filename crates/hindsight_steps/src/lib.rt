@@ -17,7 +17,7 @@ pub fn step_sum(list: &[i64; MOST_HINDSIGHT], k: usize, a: usize, h: usize) -> u
 {
     let mut sum: u64 = 0;
     for m in 0..h {
-        sum = sum + size_of(gap_of(list, k, a, h, m + 1));
+        sum += size_of(gap_of(list, k, a, h, m + 1));
     }
     sum
 }

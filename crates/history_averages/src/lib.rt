@@ -1,7 +1,7 @@
 // The averages of a history that windows of a width can have, each worked out once.
 #![tactic(auto)]
 
-ghost use Rattle.std.specs.Prelude.{◌≡◌, ◌+◌, ◌≤◌, min, pos, length, get_or, replicate};
+ghost use Rattle.std.specs.Prelude.{◌≡◌, ◌+◌, ◌≤◌, pos, length, get_or, replicate};
 ghost use Rattle.std.proofs.lemmas.List.Edits.{sets};
 ghost use Rattle.rules.specs.Lists.{up_to};
 ghost use Rattle.rules.specs.Record.{million};
@@ -22,16 +22,9 @@ fn fill_year(row: &mut [i64; 16], cells: &[i64], at: usize, count: usize, claims
     ensures { row.new
         ≡ sets row.old 0 (up_to (λ j. average_of (get_or cells.now (at + j) (pos 0)) claims) count) }
 {
-    for j in 0..count {
-        row[j] = average(cells[at + j], claims);
+    for (j, cell) in cells[at..at + count].iter().enumerate() {
+        row[j] = average(*cell, claims);
     }
-}
-
-// The lesser of two numbers.
-fn lesser(a: usize, b: usize) -> usize
-    ensures { result ≡ min a b }
-{
-    if a < b { a } else { b }
 }
 
 // The averages by origin year that windows of a width can have, into rows of zeros.
@@ -50,7 +43,7 @@ pub fn fill_history(
     let mut at: usize = 0;
     for i in 0..years {
         let paid = development_years(years, i);
-        let count = lesser(width, paid);
+        let count = width.min(paid);
         fill_year(&mut rows[i], cells, at, count, exposures[i]);
         at += paid;
     }

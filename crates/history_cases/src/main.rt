@@ -27,7 +27,7 @@ fn signed(sign: u8, size: u64) -> i64
     requires { size < 2 ^ 56 }
 {
     let value = size as i64;
-    if sign == 1 { 0 - value } else { value }
+    if sign == 1 { -value } else { value }
 }
 
 // The cell in these bytes.
@@ -37,26 +37,24 @@ fn cell_in(bytes: &[u8; 8]) -> i64 {
 
 // Reads the exposures that the list has room for; false where the input ends before.
 fn read_exposures(rt: &HostRuntime, list: &mut [u64]) -> bool {
-    let n = list.len();
-    for i in 0..n {
+    for x in list {
         let mut bytes = [0u8; 8];
         if read_full(rt, &mut bytes) < 8 {
             return false;
         }
-        list[i] = number_in(&bytes);
+        *x = number_in(&bytes);
     }
     true
 }
 
 // Reads the cells that the list has room for; false where the input ends before.
 fn read_cells(rt: &HostRuntime, list: &mut [i64]) -> bool {
-    let n = list.len();
-    for i in 0..n {
+    for x in list {
         let mut bytes = [0u8; 8];
         if read_full(rt, &mut bytes) < 8 {
             return false;
         }
-        list[i] = cell_in(&bytes);
+        *x = cell_in(&bytes);
     }
     true
 }
@@ -92,13 +90,7 @@ fn case(rt: &HostRuntime) -> bool {
     let n = pair_at(&head, 16);
     let c = pair_at(&head, 18);
     let room = pair_at(&head, 20);
-    if 128 < n {
-        return false;
-    }
-    if 1024 < c {
-        return false;
-    }
-    if 2048 < room {
+    if 128 < n || 1024 < c || 2048 < room {
         return false;
     }
     let mut exposures = [0u64; 128];

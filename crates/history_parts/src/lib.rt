@@ -17,8 +17,8 @@ pub fn exposures_of(list: &[i64], years: usize) -> [u64; MOST_HISTORY]
     ensures { result ≡ padded most_history 0 (exposures_after years list.now) }
 {
     let mut exposures = [0u64; MOST_HISTORY];
-    for i in 0..years {
-        exposures[i] = size_of(list[2 + i]);
+    for (i, x) in list[2..2 + years].iter().enumerate() {
+        exposures[i] = size_of(*x);
     }
     exposures
 }

@@ -24,13 +24,10 @@ pub fn number_of(list: &[i64; MOST_HISTORY_ENTRIES], width: usize, a: usize) -> 
 }
 
 // Whether position a is refused.
+#[tactic(auto, unfolding(crate::specs::Places::refused))]
 pub fn is_refused(list: &[i64; MOST_HISTORY_ENTRIES], width: usize, a: usize) -> bool
     requires { Inside width a }
     ensures { result ≡ refused list.now width a }
 {
-    if number_of(list, width, a) == 0 {
-        false
-    } else {
-        true
-    }
+    number_of(list, width, a) != 0
 }

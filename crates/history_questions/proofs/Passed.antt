@@ -10,7 +10,7 @@ use lib.Dec.{leb, eqb}
 use lib.IntN.{ℤ, pos, nat_abs}
 use lib.ListN.{length, get_or, get_or-eq_default}
 use Rattle.rules.specs.Lists.{every, between}
-use Rattle.rules.specs.Record.{million, most_amount, sign_of, in_range, exposure, increment}
+use Rattle.rules.specs.Record.{million, most_amount, in_range, exposure, increment}
 use Rattle.rules.specs.History.{most_history, least_width, most_width, history_cells, history_count, width_passes, lengths_pass, history_passes, history_questions, history_answer}
 use Rattle.laws.proofs.Lists.{both_left, both_right, every_at}
 use Rattle.laws.proofs.Questions.{yes_at}

@@ -11,19 +11,14 @@ use history_cells::cells_of;
 use rules::{ACCEPTED, LEAST_WIDTH, MILLION, MOST_AMOUNT, MOST_HISTORY, MOST_WIDTH};
 
 // 27.
+#[tactic(auto, using(std::proofs::lemmas::Bool::Decides::nat_tests), unfolding(rules::specs::History::width_passes))]
 fn width_passes(years: u64, width: u64) -> bool
     ensures { result ≡ width_passes years width }
 {
-    if years > MOST_HISTORY as u64 {
-        return false;
-    }
-    if width < LEAST_WIDTH as u64 {
-        return false;
-    }
-    if width > MOST_WIDTH as u64 {
-        return false;
-    }
-    width <= years
+    years <= MOST_HISTORY as u64
+        && LEAST_WIDTH as u64 <= width
+        && width <= MOST_WIDTH as u64
+        && width <= years
 }
 
 // How many entries are given of all positions.
@@ -35,30 +30,19 @@ fn entries_of(years: usize, width: usize) -> usize
 }
 
 // Whether the lists have the lengths needed.
+#[tactic(auto, using(crate::proofs::Passed::widths_known, std::proofs::lemmas::Bool::Decides::nat_tests), unfolding(rules::specs::History::lengths_pass))]
 fn lengths_pass(years: usize, width: usize, exposures: &[u64], cells: &[i64], m: usize) -> bool
     requires { width_passes years width ≡ true }
     ensures { result ≡ lengths_pass years width exposures.now cells.now m }
 {
-    if exposures.len() != years {
-        return false;
-    }
-    if cells.len() != cells_of(years) {
-        return false;
-    }
-    m == entries_of(years, width)
+    exposures.len() == years && cells.len() == cells_of(years) && m == entries_of(years, width)
 }
 
 // Whether every increment is in its range.
 fn increments_pass(cells: &[i64]) -> bool
     ensures { result ≡ every (in_range increment) cells.now }
 {
-    let n = cells.len();
-    for i in 0..n {
-        if size_of(cells[i]) > MOST_AMOUNT {
-            return false;
-        }
-    }
-    true
+    cells.iter().all(|cell| size_of(*cell) <= MOST_AMOUNT)
 }
 
 // Whether every exposure is in its range.
@@ -69,17 +53,14 @@ fn exposures_pass(exposures: &[u64]) -> bool
 }
 
 // 28.
+#[tactic(auto, unfolding(rules::specs::History::history_passes))]
 fn history_passes(years: usize, width: usize, exposures: &[u64], cells: &[i64], m: usize) -> bool
     requires { width_passes years width ≡ true }
     ensures { result ≡ history_passes years width exposures.now cells.now m }
 {
-    if !lengths_pass(years, width, exposures, cells, m) {
-        return false;
-    }
-    if !exposures_pass(exposures) {
-        return false;
-    }
-    increments_pass(cells)
+    lengths_pass(years, width, exposures, cells, m)
+        && exposures_pass(exposures)
+        && increments_pass(cells)
 }
 
 // The number of the first question that says no of a history and a lent result of m entries, or 0.

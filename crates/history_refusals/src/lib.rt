@@ -17,13 +17,7 @@ use wording::put_question;
 pub fn found_or(found: bool, x: u64, least: u64, most: u64) -> bool
     ensures { result ≡ (found || between least most x) }
 {
-    if found {
-        true
-    } else if x < least {
-        false
-    } else {
-        x <= most
-    }
+    found || (least <= x && x <= most)
 }
 
 // Whether one of the first n positions has a number from least to most.

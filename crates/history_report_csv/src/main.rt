@@ -12,11 +12,11 @@ fn main(rt: HostRuntime) {
     if n > 0 {
         let mut text = [0u8; MOST_HISTORY_CSV];
         let mut message = [0u8; 256];
-        let written = csv_history(&input[..n], &mut text, &mut message);
-        if written.listed {
-            put_composed(&rt, &text, written.end);
-        } else {
-            put_first(&rt.stderr(), &message, written.end);
+        match csv_history(&input[..n], &mut text, &mut message) {
+            Ok(end) => put_composed(&rt, &text, end),
+            Err(said) => {
+                put_first(&rt.stderr(), &message, said);
+            }
         }
     }
 }

@@ -1,12 +1,12 @@
 -- What a page asks of the list of a text that has one. Assumes nothing.
-use mathlib.Core.Path.{◌≡◌, refl, ◌∙◌}
+use mathlib.Core.Path.{◌≡◌, ◌∙◌}
 use mathlib.Core.Bool.{true, cond}
 use mathlib.Core.List.{List}
 use Prim.Native.Nat.{ℕ, ◌≤◌, ◌<◌, zero-le}
 use native.Mathlib.Omega.{arith}
 use borrow.Author.Tests.{eqb-true}
 use lib.IntN.{ℤ, pos, nat_abs}
-use lib.ListN.{length, replicate}
+use lib.ListN.{replicate}
 use lib.Seq.{sets}
 use Rattle.rules.specs.Separation.{billion}
 use Rattle.rules.specs.History.{most_history_entries, position_count, history_count}
@@ -29,15 +29,9 @@ module _ (text : List ℕ) (has : has_list text ≡ true) where
       (accepted text (eqb-true (read_history text).problem 0 has))).0
 
   -- the years and the width that were found
-  pub found_years : (years : ℕ) → years ≡ cond (has_list text) (years_of text) 0 → years ≡ years_of text
-  found_years years e = rw has at e
-
-  pub found_width : (width : ℕ) → width ≡ cond (has_list text) (width_of text) 0 → width ≡ width_of text
-  found_width width e = rw has at e
-
-  pub windowed : (years width first : ℕ) → years ≡ cond (has_list text) (years_of text) 0 → width ≡ cond (has_list text) (width_of text) 0 → first < 65536 → Windowed years width first
+  pub windowed : (years width first : ℕ) → years ≡ years_of text → width ≡ width_of text → first < 65536 → Windowed years width first
   windowed years width first e f h =
-      rw (found_years years e, found_width width f)
+      rw (e, f)
       record {
         years_most = widths.few;
         width_least = widths.wide;

@@ -1,26 +1,24 @@
 // From the text of a history to the list of its positions, or in words what is wrong with it.
 #![tactic(auto)]
 
-ghost use Rattle.std.specs.Prelude.{◌≡◌, false, cond, length};
+ghost use Rattle.std.specs.Prelude.{◌≡◌, cond, length, is_ok, IfOk};
 ghost use Rattle.std.proofs.lemmas.List.Edits.{sets};
 ghost use Rattle.rules.specs.History.{most_history_entries, history_count, history_list, history_answer};
 ghost use Rattle.composing.specs.Text.{Put};
 ghost use Rattle.history_wording.specs.Refused.{history_said};
 ghost use Rattle.history_parts.specs.Parts.{exposures_after, increments_after};
-ghost use Rattle.history_run.specs.Listed.{years_of, width_of, list_of, has_list};
+ghost use Rattle.history_run.specs.Listed.{years_of, width_of, list_of, has_list, said_in};
 
 use history::doonamurk_history;
 use history_parts::{exposures_of, increments_of};
 use history_reading::take_history;
 use history_sheet::MOST_NUMBERS;
 
-// Whether there is a list, the years and the width of its history, 0 where there is none, and how many bytes of the message there are.
+// The years and the width of a history that has a list.
 #[derive(Clone, Copy)]
 pub struct Listed {
-    pub listed: bool,
     pub years: usize,
     pub width: usize,
-    pub said: usize,
 }
 
 // The list of a history that the call accepts, among the numbers of its text.
@@ -42,39 +40,21 @@ fn fill_from(years: usize, width: usize, numbers: &[i64; MOST_NUMBERS], list: &m
     );
 }
 
-// No list, and how many bytes of the message there are.
-fn unlisted(said: usize) -> Listed
-    ensures { result ≡ record { listed = false; years = 0; width = 0; said = said } }
-{
-    Listed {
-        listed: false,
-        years: 0,
-        width: 0,
-        said,
-    }
-}
-
-// Fills the list of the history of a text from its start on, or says in the message what is wrong with it.
-pub fn list_text(text: &[u8], list: &mut [i64], message: &mut [u8]) -> Listed
+// Fills the list of the history of a text from its start on, or says in the message what is wrong with it; the error is how many bytes of the message there are.
+pub fn list_text(text: &[u8], list: &mut [i64], message: &mut [u8]) -> Result<Listed, usize>
     requires { length list.old ≡ most_history_entries }
-    ensures { (result.listed ≡ has_list text.now)
-        × (((result.years ≡ cond (has_list text.now) (years_of text.now) 0)
-        × (result.width ≡ cond (has_list text.now) (width_of text.now) 0))
+    ensures { (is_ok result ≡ has_list text.now)
+        × (IfOk result (λ found. (found.years ≡ years_of text.now) × (found.width ≡ width_of text.now))
         × ((list.new ≡ cond (has_list text.now) (sets list.old 0 (list_of text.now)) list.old)
-        × Put message.old message.new 0 result.said (history_said text.now))) }
+        × Put message.old message.new 0 (said_in result) (history_said text.now))) }
 {
     let mut numbers = [0i64; MOST_NUMBERS];
     let taken = take_history(text, &mut numbers, message);
     if taken.problem != 0 {
-        return unlisted(taken.said);
+        return Err(taken.said);
     }
     let years = taken.years as usize;
     let width = taken.width as usize;
     fill_from(years, width, &numbers, list);
-    Listed {
-        listed: true,
-        years,
-        width,
-        said: taken.said,
-    }
+    Ok(Listed { years, width })
 }

@@ -43,12 +43,12 @@ fn put_position_table(
 }
 
 // How many of so many positions stand in the table from position `from` on.
+#[tactic(auto, unfolding(crate::specs::Tables::rows_from))]
 fn rows_from(count: usize, from: usize) -> usize
     requires { from ≤ count }
     ensures { result ≡ rows_from count from }
 {
-    let left = count - from;
-    if left < 16 { left } else { 16 }
+    (count - from).min(16)
 }
 
 // All positions.

@@ -28,9 +28,8 @@ fn put_index(rt: &HostRuntime, x: u64) {
 // The number and the indices of a call.
 fn show(rt: &HostRuntime, made: Indices) {
     put_number(rt, made.refused);
-    let values = made.values;
-    for i in 0..16usize {
-        put_index(rt, values[i]);
+    for x in &made.values {
+        put_index(rt, *x);
     }
     put_text(rt, b"\n");
 }

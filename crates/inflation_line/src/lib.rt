@@ -89,13 +89,11 @@ fn passing_numbers(asked: bool, years: u64, line: &[u8], m: usize) -> usize
 fn shape_from(place: usize, rate: f64, other: f64, year: u64) -> Inflation
     ensures { result ≡ shape_from place rate other year }
 {
-    if place == 0 {
-        return Inflation::Flat(rate);
+    match place {
+        0 => Inflation::Flat(rate),
+        1 => Inflation::Fading(rate, other),
+        _ => Inflation::Shock(rate, other, year),
     }
-    if place == 1 {
-        return Inflation::Fading(rate, other);
-    }
-    Inflation::Shock(rate, other, year)
 }
 
 // The rates of a line.

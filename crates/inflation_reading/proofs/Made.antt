@@ -2,9 +2,9 @@
 use mathlib.Core.Path.{◌≡◌}
 use mathlib.Core.Bool.{Bool, true, false, not, ◌&&◌}
 use mathlib.Core.List.{List, ◌++◌, map}
-use Prim.Native.Nat.{ℕ, suc, ◌+◌, ◌-◌, ◌≤◌, ◌<◌, ◌^◌}
+use Prim.Native.Nat.{ℕ, suc, ◌+◌, ◌≤◌, ◌<◌, ◌^◌}
 use native.Mathlib.Omega.{arith}
-use borrow.Author.Tests.{eqb-true, leb-true, eq-eqb, ne_eqb}
+use borrow.Author.Tests.{eqb-true, leb-true}
 use lib.Dec.{eqb, leb}
 use lib.IntN.{ℤ, pos}
 use lib.ListN.{length, get_or, take}
@@ -21,24 +21,6 @@ use Rattle.inflation_line.proofs.Lines.{fault_accepted}
 use Rattle.sheet.specs.Sheet.{last_year_in, fine, read_line, stands_for_indices, indices_made, read_next}
 
 module _ (history : Bool) (k i : ℕ) (line : List ℕ) where
-  pub other_text : history ≡ true → false ≡ stands_for_indices history k i line
-  unfolding stands_for_indices
-  other_text h = rw h
-
-  module _ (figures : history ≡ false) where
-    pub other_place : (i ≡ k + 3 → ⊥) → false ≡ stands_for_indices history k i line
-    unfolding stands_for_indices
-    other_place h = rw (figures, ne_eqb i (k + 3) h)
-
-    module _ (e : i ≡ k + 3) where
-      pub other_line : is_inflation line ≡ false → false ≡ stands_for_indices history k i line
-      unfolding stands_for_indices
-      other_line h = rw (figures, eq-eqb i (k + 3) e, h)
-
-      pub by_fault : is_inflation line ≡ true → eqb (fault_in (k + 1) line).kind 0 ≡ stands_for_indices history k i line
-      unfolding stands_for_indices
-      by_fault h = rw (figures, eq-eqb i (k + 3) e, h)
-
   -- its rates are accepted
   pub stands_accepted : stands_for_indices history k i line ≡ true → inflation_answer (shape_of line) (k + 1) ≡ 0
   unfolding stands_for_indices

@@ -14,20 +14,12 @@ use line_reading::{last_year, read_line};
 use sheet::Found;
 
 // Whether a line of inflation stands at a place of figures where the indices are due, and makes them.
+#[tactic(auto, using(history_sheet::proofs::Lines::first_most), unfolding(sheet::specs::Sheet::stands_for_indices))]
 fn stands_for_indices(history: bool, k: usize, place: usize, line: &[u8]) -> bool
     requires { k ≤ most_first history }
     ensures { result ≡ stands_for_indices history k place line.now }
 {
-    if history {
-        return false;
-    }
-    if place != k + 3 {
-        return false;
-    }
-    if !is_inflation(line) {
-        return false;
-    }
-    fault_in(k as u64 + 1, line).kind == 0
+    !history && place == k + 3 && is_inflation(line) && fault_in(k as u64 + 1, line).kind == 0
 }
 
 // Puts the indices that it makes into the list from place `at` on.

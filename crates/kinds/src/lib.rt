@@ -9,59 +9,31 @@ ghost use Rattle.kinds.specs.Kinds.{text_byte, marked, is_text};
 fn is_text_byte(b: u8) -> bool
     ensures { result ≡ text_byte b }
 {
-    if b == 9 {
-        return true;
-    }
-    if b == 10 {
-        return true;
-    }
-    if b == 13 {
-        return true;
-    }
-    if b < 32 {
-        return false;
-    }
-    b <= 126
+    matches!(b, b'\t' | b'\n' | b'\r' | b' '..=b'~')
 }
 
 // Whether every byte is one of a text.
 fn is_plain(bytes: &[u8]) -> bool
     ensures { result ≡ every text_byte bytes.now }
 {
-    let n = bytes.len();
-    for i in 0..n {
-        if !is_text_byte(bytes[i]) {
-            return false;
-        }
-    }
-    true
+    bytes.iter().all(|b| is_text_byte(*b))
 }
 
 // Whether an input starts with the mark of a text.
+#[tactic(auto, unfolding(crate::specs::Kinds::marked))]
 pub fn is_marked(input: &[u8]) -> bool
     ensures { result ≡ marked input.now }
 {
-    if input.len() < 3 {
-        return false;
-    }
-    if input[0] != 239 {
-        return false;
-    }
-    if input[1] != 187 {
-        return false;
-    }
-    input[2] == 191
+    matches!(input, [0xef, 0xbb, 0xbf, ..])
 }
 
 // Whether an input is a text.
+#[tactic(auto, using(crate::proofs::Mark::mark_room, crate::proofs::Mark::marked_is), unfolding(crate::specs::Kinds::is_text))]
 pub fn is_text(input: &[u8]) -> bool
     ensures { result ≡ is_text input.now }
 {
-    if input.len() == 0 {
-        return false;
-    }
     if is_marked(input) {
         return is_plain(&input[3..]);
     }
-    is_plain(input)
+    !input.is_empty() && is_plain(input)
 }

@@ -26,10 +26,9 @@ fn walk_row(k: usize, paid: &[u64; 16], factors: &[u64; 16], i: usize) -> Past
     requires { Developing k paid.now factors.now × (i ≤ k) }
     ensures { Walked k paid.now factors.now i result }
 {
-    let first = k - i;
     let mut last = paid[i];
-    for t in 0..i {
-        let next = last * factors[first + t] / MILLION;
+    for (t, factor) in factors[k - i..k].iter().enumerate() {
+        let next = last * *factor / MILLION;
         if next > MOST_CUMULATIVE {
             return Past { years: t, last };
         }
@@ -44,12 +43,9 @@ fn first_row(k: usize, paid: &[u64; 16], factors: &[u64; 16]) -> usize
     ensures { result ≡ first_row_over k paid.now factors.now }
 {
     let n = k + 1;
-    for i in 0..n {
-        if walk_row(k, paid, factors, i).years < i {
-            return i;
-        }
-    }
-    n
+    (0..n)
+        .find(|i| walk_row(k, paid, factors, *i).years < *i)
+        .unwrap_or(n)
 }
 
 // The first cumulative above the most, from the paid cumulatives and the development factors: the one before it, the development factor and itself.

@@ -1,14 +1,17 @@
 -- Line n of a text that is lines is the n-th of them, where no line has a line feed in it. Assumes nothing.
 use mathlib.Core.Path.{◌≡◌, refl, sym, ap, ◌∙◌}
-use mathlib.Core.Bool.{Bool, true, cond}
+use mathlib.Core.Bool.{Bool, true, false, not, cond}
 use mathlib.Core.List.{List, [], ◌∷◌, ◌++◌, append-nil}
-use Prim.Native.Nat.{ℕ, zero, suc, ◌+◌, ◌-◌, ◌<◌}
+use Prim.Native.Nat.{ℕ, zero, suc, ◌+◌, ◌-◌, ◌≤◌, ◌<◌}
+use native.Mathlib.Decide.{dec_lt}
 use native.Mathlib.Numerals.{add-one}
 use native.Mathlib.Omega.{arith}
-use borrow.Author.Tests.{not-true}
+use borrow.Author.Tests.{not-true, lt-ltb, le-ltb}
 use lib.Dec.{eqb}
-use lib.ListN.{length, get_or, take, drop, take-append-drop}
-use lib.Seq.{drop-cons, drop-length}
+use lib.ListN.{length, get_or, take, drop}
+use lib.Seq.{drop-cons, drop-length, take_all}
+use Rattle.std.specs.List.{position, position_or_len}
+use Rattle.std.specs.Prelude.{nat_eq, unwrap_or}
 use Rattle.rules.specs.Lists.{every}
 use Rattle.laws.proofs.Lists.{both_left, both_right}
 use Rattle.entries.specs.Leading.{passing}
@@ -55,9 +58,24 @@ pub from_end : (text other : List ℕ) (i left : ℕ) → i ≡ length text → 
 unfolding from_line
 from_end text other i left e = rw (e, drop-length text)
 
--- and of the first line: every byte so far stands in it, and the next is a line feed
-pub first_here : (text : List ℕ) (i : ℕ) → every in_line (take i text) ≡ true → i < length text → get_or text i 0 ≡ 10 → take i text ≡ first_line text
+-- the first line ends at the first line feed, or where the text ends
+pub line_found : (text : List ℕ) (n : ℕ) → n ≡ unwrap_or (position (λ b. nat_eq b 10) text) (length text) → (n ≤ length text) × (take n text ≡ first_line text)
 unfolding first_line passing
-first_here text i h l e =
-    let here : passing in_line (drop i text) ≡ [] = rw (drop-cons text i 0 l, e) in
-    sym (ap (passing in_line) (sym (take-append-drop i text)) ∙ passing_append in_line (take i text) (drop i text) h ∙ ap (λ (l : List ℕ). take i text ++ l) here ∙ append-nil (take i text))
+line_found text n e = go (dec_lt (position_or_len (λ b. nat_eq b 10) text) (length text))
+  where
+    front : (xs : List ℕ) → take (position_or_len (λ b. nat_eq b 10) xs) xs ≡ passing in_line xs
+    front [] = refl
+    front (x ∷ xs) = by (nat_eq x 10) (front xs)
+      where
+        by : (t : Bool) → take (position_or_len (λ b. nat_eq b 10) xs) xs ≡ passing in_line xs
+            → take (cond (not t) (1 + position_or_len (λ b. nat_eq b 10) xs) 0) (x ∷ xs) ≡ cond (not t) (x ∷ passing in_line xs) []
+        by true h = refl
+        by false h = let s : 1 + position_or_len (λ b. nat_eq b 10) xs ≡ suc (position_or_len (λ b. nat_eq b 10) xs) = omega arith in rw s (ap (λ (l : List ℕ). x ∷ l) h)
+
+    go : Dec (position_or_len (λ b. nat_eq b 10) text < length text) → (n ≤ length text) × (take n text ≡ passing in_line text)
+    go (yes h) =
+        let f : n ≡ position_or_len (λ b. nat_eq b 10) text = rw (lt-ltb (position_or_len (λ b. nat_eq b 10) text) (length text) h) at e in
+        (omega (arith, f), rw f (front text))
+    go (no h) =
+        let f : n ≡ length text = rw (le-ltb (position_or_len (λ b. nat_eq b 10) text) (length text) (omega arith)) at e in
+        (omega (arith, f), take_all n text (omega (arith, f)) ∙ sym (take_all (position_or_len (λ b. nat_eq b 10) text) text (omega arith)) ∙ front text)

@@ -12,12 +12,11 @@ fn line_start(text: &[u8], n: u64) -> usize
     ensures { (result ≤ length text.now) × (drop result text.now ≡ from_line n text.now text.now) }
 {
     let mut left = n;
-    let length = text.len();
-    for i in 0..length {
+    for (i, b) in text.iter().enumerate() {
         if left == 0 {
             return i;
         }
-        if text[i] == 10 {
+        if *b == b'\n' {
             left -= 1;
         }
     }
@@ -28,13 +27,7 @@ fn line_start(text: &[u8], n: u64) -> usize
 fn line_end(text: &[u8]) -> usize
     ensures { (result ≤ length text.now) × (take result text.now ≡ first_line text.now) }
 {
-    let length = text.len();
-    for i in 0..length {
-        if text[i] == 10 {
-            return i;
-        }
-    }
-    length
+    text.iter().position(|b| *b == b'\n').unwrap_or(text.len())
 }
 
 // Line n of a text, or its first line where it has no line n.

@@ -21,15 +21,13 @@ pub struct Taken {
 }
 
 // Whether a whole record stands at place p.
+#[tactic(auto, using(crate::proofs::RowsTaken::no_length, crate::proofs::RowsTaken::some_length))]
 fn has_whole(s: &[u8], p: usize) -> bool
     requires { p ≤ length s.now }
     ensures { result ≡ whole_at s.now p }
 {
     let left = s.len() - p;
-    if left < 2 {
-        return false;
-    }
-    pair_at(s, p) <= left - 2
+    left >= 2 && pair_at(s, p) <= left - 2
 }
 
 // The row of the whole record at place p.
@@ -68,7 +66,5 @@ pub fn move_down(s: &mut [u8], from: usize, to: usize)
     ensures { ((j : ℕ) → from + j < to → get_or s.new j 0 ≡ get_or s.old (from + j) 0)
         × ((j : ℕ) → to ≤ from + j → get_or s.new j 0 ≡ get_or s.old j 0) }
 {
-    for i in from..to {
-        s[i - from] = s[i];
-    }
+    s.copy_within(from..to, 0);
 }

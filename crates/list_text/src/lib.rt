@@ -10,11 +10,12 @@ use composing::{put_byte, put_bytes, put_decimal};
 use signed_text::put_integer;
 
 // The byte after entry i of n.
+#[tactic(auto, unfolding(crate::specs::EntryLines::after))]
 fn after_entry(between: u8, n: usize, i: usize) -> u8
     requires { i < n }
     ensures { result ≡ after between n i }
 {
-    if i + 1 == n { 10 } else { between }
+    if i + 1 == n { b'\n' } else { between }
 }
 
 // An entry and the byte after it.
@@ -42,7 +43,7 @@ pub fn put_entries(out: &mut [u8], at: usize, list: &[i64], n: usize) -> usize
     requires { n ≤ length list.now }
     ensures { Put out.old out.new at result (entries_text (take n list.now)) }
 {
-    put_separated(out, at, list, n, 10)
+    put_separated(out, at, list, n, b'\n')
 }
 
 // The first n entries on one line.
@@ -50,7 +51,7 @@ pub fn put_row(out: &mut [u8], at: usize, list: &[i64], n: usize) -> usize
     requires { n ≤ length list.now }
     ensures { Put out.old out.new at result (row_text (take n list.now)) }
 {
-    put_separated(out, at, list, n, 32)
+    put_separated(out, at, list, n, b' ')
 }
 
 // The answer of a call that refused.
@@ -59,5 +60,5 @@ pub fn put_refused(out: &mut [u8], at: usize, n: u64) -> usize
 {
     let a = put_bytes(out, at, b"refused ");
     let b = put_decimal(out, a, n);
-    put_byte(out, b, 10)
+    put_byte(out, b, b'\n')
 }

@@ -27,8 +27,7 @@ fn entry(list: &[i64; MOST_ENTRIES], at: usize) -> u64
     requires { at < most_entries }
     ensures { result ≤ billion }
 {
-    let x = size_of(list[at]);
-    if x > BILLION { BILLION } else { x }
+    size_of(list[at]).min(BILLION)
 }
 
 // amount / unit to the nearest whole, halves up.
@@ -65,10 +64,10 @@ fn compare_factors(
     ensures { result ≤ 4 }
 {
     let mut same: u64 = 0;
-    for h in 0..4 {
+    for (h, figure) in printed.iter().enumerate() {
         put_text(rt, name);
         put_number(rt, h as u64);
-        same += compare(rt, nearest(entry(list, from + h), digit), printed[h]);
+        same += compare(rt, nearest(entry(list, from + h), digit), *figure);
     }
     same
 }
@@ -104,10 +103,9 @@ fn compare_row(
     ensures { result ≤ 4 }
 {
     let mut same: u64 = 0;
-    let n = 4 - i;
-    for j in 0..n {
+    for (j, figure) in printed[..4 - i].iter().enumerate() {
         put_cell(rt, i, j);
-        same += compare(rt, fitted(list, shares, levels, i, j), printed[j]);
+        same += compare(rt, fitted(list, shares, levels, i, j), *figure);
     }
     same
 }

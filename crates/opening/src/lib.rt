@@ -11,28 +11,21 @@ use layout::places_of;
 use packing::field;
 use rules::ACCEPTED;
 
-fn wide(x: u8) -> usize
-    ensures { result ≡ x }
-{
-    x as usize
-}
-
 // k, the first four bits.
+#[tactic(auto, unfolding(rules::specs::Record::last_year_of))]
 pub fn last_year_of(s: &[u8]) -> usize
     requires { 1 ≤ length s.now }
     ensures { (result ≡ last_year_of s.now) × (result < 16) }
 {
-    wide(s[0]) / 16
+    usize::from(s[0]) / 16
 }
 
 // Question 1.
+#[tactic(auto, using(std::proofs::lemmas::Bool::Decides::nat_tests), unfolding(rules::specs::Reading::has_last_year))]
 fn has_last_year(s: &[u8]) -> bool
     ensures { result ≡ has_last_year s.now }
 {
-    if s.len() < 1 {
-        return false;
-    }
-    1 <= last_year_of(s)
+    !s.is_empty() && 1 <= last_year_of(s)
 }
 
 // Whether every bit from place `end` on is zero.
@@ -41,10 +34,7 @@ fn zero_from(s: &[u8], end: usize) -> bool
     ensures { result ≡ eqb (number_of s.now % 2 ^ (8 * length s.now - end)) 0 }
 {
     let n = 8 * s.len() - end;
-    if n == 0 {
-        return true;
-    }
-    field(s, end, n) == 0
+    n == 0 || field(s, end, n) == 0
 }
 
 // Question 2.
@@ -53,10 +43,7 @@ fn has_length(s: &[u8]) -> bool
     ensures { result ≡ has_length s.now }
 {
     let end = places_of(last_year_of(s)).end;
-    if s.len() != (end + 7) / 8 {
-        return false;
-    }
-    zero_from(s, end)
+    s.len() == (end + 7) / 8 && zero_from(s, end)
 }
 
 // Questions 1 and 2.

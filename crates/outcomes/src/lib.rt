@@ -82,9 +82,8 @@ fn provisions_of(list: &[i64; MOST_ENTRIES], k: usize, p: usize) -> [u64; 16]
     ensures { result ≡ padded 16 0 (up_to (λ i. nat_abs (get_or list.now (p + i) (pos 0))) (k + 1)) }
 {
     let mut all = [0u64; 16];
-    let n = k + 1;
-    for i in 0..n {
-        all[i] = size_of(list[p + i]);
+    for (i, x) in list[p..p + (k + 1)].iter().enumerate() {
+        all[i] = size_of(*x);
     }
     all
 }

@@ -28,7 +28,10 @@ fn main(rt: HostRuntime) {
     }
     let mut packed = [0u8; MOST_BYTES];
     let mut message = [0u8; 256];
-    let outcome = pack_text(&text[..n], &mut packed, &mut message);
-    put_record(&rt, &packed, outcome.size);
-    put_first(&rt.stderr(), &message, outcome.said);
+    match pack_text(&text[..n], &mut packed, &mut message) {
+        Ok(size) => put_record(&rt, &packed, size),
+        Err(said) => {
+            put_first(&rt.stderr(), &message, said);
+        }
+    }
 }

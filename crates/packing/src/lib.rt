@@ -1,7 +1,7 @@
 // Fields of a row of bits, most significant bit first: read at any place, and packed one after another.
 #![tactic(auto)]
 
-ghost use Rattle.std.specs.Prelude.{◌≡◌, ◌+◌, ◌*◌, ◌<◌, ◌≤◌, ◌%◌, ◌^◌, min, length, replicate};
+ghost use Rattle.std.specs.Prelude.{◌≡◌, ◌+◌, ◌*◌, ◌<◌, ◌≤◌, ◌^◌, length, replicate};
 ghost use Rattle.rules.specs.Packing.{pack, Fit};
 ghost use Rattle.packing.specs.Field.{field_at, FieldInside, Packable, PackedOn};
 
@@ -13,18 +13,12 @@ pub struct Pending {
     pub bits: u64,
 }
 
-fn wide(x: u8) -> u64
-    ensures { result ≡ x }
-{
-    x as u64
-}
-
 // x, the n bytes from place i on as one number, with the next byte after them.
 fn followed(s: &[u8], i: usize, n: usize, x: u64) -> u64
     requires { (i + n < length s.now) × ((n < 8) × (x ≡ field_at s.now (8 * i) (8 * n))) }
     ensures { result ≡ field_at s.now (8 * i) (8 * n + 8) }
 {
-    (x << 8) + wide(s[i + n])
+    (x << 8) + u64::from(s[i + n])
 }
 
 // The eight bytes from place i on as one number. Byte after byte, it compiles to one load.
@@ -42,26 +36,14 @@ fn word(s: &[u8], i: usize) -> u64
     followed(s, i, 7, g)
 }
 
-fn least(a: usize, b: usize) -> usize
-    ensures { result ≡ min a b }
-{
-    if a < b { a } else { b }
-}
-
 // The field of w bits from bit place `at` on. The word it is cut from starts at the field's first byte, or where the last word starts.
 pub fn field(s: &[u8], at: usize, w: usize) -> u64
     requires { FieldInside s.now at w }
     ensures { result ≡ field_at s.now at w }
 {
-    let i = least(at / 8, s.len() - 8);
+    let i = (at / 8).min(s.len() - 8);
     let after = 8 * i + 64 - at - w;
     (word(s, i) >> after) % (1u64 << w)
-}
-
-fn low(x: u64) -> u8
-    ensures { result ≡ x % 256 }
-{
-    (x % 256) as u8
 }
 
 // The w bits of x after those that are packed. Whole bytes go into the buffer, the rest stays pending.
@@ -74,7 +56,7 @@ pub fn put(buffer: &mut [u8], p: Pending, w: usize, x: u64) -> Pending
     let mut bits = (p.bits << w) + x;
     while 8 <= count {
         count -= 8;
-        buffer[at] = low(bits >> count);
+        buffer[at] = ((bits >> count) % 256) as u8;
         bits %= 1u64 << count;
         at += 1;
     }
@@ -87,10 +69,8 @@ pub fn put_row(buffer: &mut [u8], p: Pending, w: usize, vs: &[u64]) -> Pending
     ensures { PackedOn buffer.old buffer.new p result (w * length vs.now) (pack (replicate (length vs.now) w) vs.now) }
 {
     let mut q = p;
-    let mut i: usize = 0;
-    while i < vs.len() {
-        q = put(buffer, q, w, vs[i]);
-        i += 1;
+    for v in vs {
+        q = put(buffer, q, w, *v);
     }
     q
 }

@@ -40,8 +40,8 @@ fn pick(
     ensures { Holds (picked figures.now places.now kinds.now n (grid values.old styles.old))
         values.new styles.new }
 {
-    for p in 0..n {
-        let place = places[p] as usize;
+    for (p, place) in places[..n].iter().enumerate() {
+        let place = usize::from(*place);
         values[p] = figures[place];
         styles[p] = kinds[p];
     }

@@ -8,7 +8,7 @@ ghost use Rattle.axis.specs.Axis.{most_one, Sound};
 ghost use Rattle.figure_caption.specs.Caption.{dark, light};
 ghost use Rattle.plot.specs.Plot.{slot_largest, largest_in, scale_for, slot_bars, slot, plot_by, plot, Plotted, Reached, AllPlotted, AllReached};
 
-use axis::{Scale, foot_line, larger, scale_of, shown_step, side_of, unit_of, zero_line};
+use axis::{Scale, foot_line, scale_of, shown_step, side_of, unit_of, zero_line};
 use drawing::{put_bar, put_ticks};
 use figure::{put_figure_end, put_figure_start};
 use figure_caption::{DARK, LIGHT, wide_of};
@@ -32,7 +32,7 @@ fn slot_largest(values: &[i64], low: bool, s: Series, c: usize) -> u64
     let p = s.start + c * s.stride;
     let first = side_of(low, values[p]);
     if s.bars == 2 {
-        larger(first, side_of(low, values[p + 1]))
+        first.max(side_of(low, values[p + 1]))
     } else {
         first
     }
@@ -46,7 +46,7 @@ fn largest_on(values: &[i64], low: bool, s: Series) -> u64
     let n = s.slots;
     let mut largest: u64 = 0;
     for c in 0..n {
-        largest = larger(largest, slot_largest(values, low, s, c));
+        largest = largest.max(slot_largest(values, low, s, c));
     }
     largest
 }

@@ -28,20 +28,14 @@ pub fn put_line(rt: &HostRuntime, x: i64) {
 pub fn put_lines(rt: &HostRuntime, list: &[i64], n: usize)
     requires { n ≤ length list.now }
 {
-    for i in 0..n {
-        put_line(rt, list[i]);
+    for x in &list[..n] {
+        put_line(rt, *x);
     }
 }
 
 // Whether each entry is still the one that was lent.
 fn unchanged(list: &[i64], lent: i64) -> bool {
-    let n = list.len();
-    for i in 0..n {
-        if list[i] != lent {
-            return false;
-        }
-    }
-    true
+    list.iter().all(|x| *x == lent)
 }
 
 // Writes the answer of a call that was lent this list full of one value, and then the whole list after an answer of 0, or whether a refusal
@@ -61,11 +55,7 @@ pub fn put_outcome(rt: &HostRuntime, answer: u64, list: &[i64], lent: i64) {
 
 // Writes the first n bytes of a text to a stream, and all of it where it is shorter; whether all of that was written.
 pub fn put_first(to: &impl Print, text: &[u8], n: usize) -> bool {
-    if n < text.len() {
-        to.write_all(&text[..n]).is_ok()
-    } else {
-        to.write_all(text).is_ok()
-    }
+    to.write_all(&text[..n.min(text.len())]).is_ok()
 }
 
 // Writes the first n bytes of a text to standard output, and says so on standard error where they cannot be written.
@@ -189,13 +179,7 @@ pub fn read_record(rt: &HostRuntime, buf: &mut [u8]) -> usize
 // Whether an input is a text where a valuation year and a record are due, behind the two bytes of a year or from the start. One or two bytes are a year's,
 // which may be printable, and no text.
 fn is_text_for_record(input: &[u8]) -> bool {
-    if input.len() <= 2 {
-        return false;
-    }
-    if is_text(input) {
-        return true;
-    }
-    is_text(&input[2..])
+    input.len() > 2 && (is_text(input) || is_text(&input[2..]))
 }
 
 // Reads the valuation year and the record on standard input and answers how many bytes both have; 0 where none arrived, after saying why. An input that ends

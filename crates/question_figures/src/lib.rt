@@ -50,19 +50,14 @@ pub fn put_figures(
 }
 
 // The style of a field of this place: indices, reporting shares and the weight are millionths.
+#[tactic(auto, using(std::proofs::lemmas::Bool::Decides::nat_tests), unfolding(crate::specs::QuestionFigures::field_style, table_cells::specs::Cells::styled))]
 fn field_style(place: u64) -> u8
     ensures { result ≡ field_style place }
 {
-    if place == 7 {
-        return MILLIONTHS;
+    match place {
+        7 | 8 | 9 => MILLIONTHS,
+        _ => AMOUNT,
     }
-    if place == 8 {
-        return MILLIONTHS;
-    }
-    if place == 9 {
-        return MILLIONTHS;
-    }
-    AMOUNT
 }
 
 // A field, and its range.

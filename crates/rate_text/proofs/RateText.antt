@@ -1,81 +1,22 @@
 -- Laws of words that are rates: hexadecimal digits, sixteen of them and the number that they make. Assumes nothing.
-use mathlib.Core.Path.{◌≡◌, refl, sym, ◌∙◌}
-use mathlib.Core.Bool.{Bool, true, false, ◌&&◌, ◌||◌, true≢false}
+use mathlib.Core.Path.{◌≡◌, sym, ◌∙◌}
+use mathlib.Core.Bool.{true, false}
 use mathlib.Core.List.{List}
-use Prim.Native.Nat.{ℕ, ◌+◌, ◌-◌, ◌*◌, ◌^◌, ◌≤◌, ◌<◌}
+use Prim.Native.Nat.{ℕ, ◌+◌, ◌*◌, ◌^◌, ◌≤◌, ◌<◌}
 use native.Mathlib.Nat.{pow-suc, pow-le-pow_right, zero-lt-suc}
 use native.Mathlib.Numerals.{add-one}
 use native.Mathlib.Omega.{arith}
-use borrow.Author.Tests.{leb-true, leb-false, le-leb, lt-leb, eqb-true, eq-eqb, ne_eqb}
-use lib.Dec.{eqb, leb}
+use borrow.Author.Tests.{eqb-true, eq-eqb}
+use lib.Dec.{eqb}
 use lib.ListN.{length, get_or, drop}
 use lib.Seq.{drop-cons, drop-length}
 use lib.Ieee.{binary64, of_bits}
 use Rattle.rules.specs.Lists.{every}
 use Rattle.laws.proofs.Lists.{both_left, both_right, every_at}
 use Rattle.decimals.specs.Decimals.{is_decimal, decimal_of}
-use Rattle.rate_text.specs.RateText.{is_hex_digit, hex_digit, is_bits, bits_from, is_rate, rate_of}
+use Rattle.rate_text.specs.RateText.{is_hex_digit, hex_digit, is_bits, bits_from, rate_of}
 
--- whether a byte is a hexadecimal digit, by where it lies
-first_range : (x : Bool) → x ≡ (x && true) || (false || false)
-first_range true = refl
-first_range false = refl
-
-last_range : (x : Bool) → x ≡ false || (false || (x && true))
-last_range true = refl
-last_range false = refl
-
-middle_range : (x : Bool) → x ≡ false || ((x && true) || false)
-middle_range true = refl
-middle_range false = refl
-
-and_no : (x : Bool) → x && false ≡ false
-and_no true = refl
-and_no false = refl
-
-module _ (b : ℕ) where
-  pub hex_low : b ≤ 57 → leb 48 b ≡ is_hex_digit b
-  unfolding is_hex_digit
-  hex_low h = rw (le-leb b 57 h, lt-leb 65 b (omega arith), lt-leb 97 b (omega arith)) (first_range (leb 48 b))
-
-  pub hex_middle : 57 < b → b ≤ 70 → leb 65 b ≡ is_hex_digit b
-  unfolding is_hex_digit
-  hex_middle l h = rw (lt-leb b 57 l, and_no (leb 48 b), le-leb b 70 h, lt-leb 97 b (omega arith)) (middle_range (leb 65 b))
-
-  pub hex_high : 70 < b → b ≤ 102 → leb 97 b ≡ is_hex_digit b
-  unfolding is_hex_digit
-  hex_high l h = rw (lt-leb b 57 (omega arith), and_no (leb 48 b), lt-leb b 70 l, and_no (leb 65 b), le-leb b 102 h) (last_range (leb 97 b))
-
-  pub hex_over : 102 < b → false ≡ is_hex_digit b
-  unfolding is_hex_digit
-  hex_over l = rw (lt-leb b 57 (omega arith), and_no (leb 48 b), lt-leb b 70 (omega arith), and_no (leb 65 b), lt-leb b 102 l, and_no (leb 97 b))
-
-  -- where a digit lies
-  module _ (d : is_hex_digit b ≡ true) where
-    pub digit_low : b ≤ 57 → (48 ≤ b) × (b - 48 ≡ hex_digit b)
-    unfolding hex_digit
-    digit_low h = (leb-true 48 b (hex_low h ∙ d), rw (le-leb b 57 h))
-
-    pub digit_middle : 57 < b → b ≤ 70 → (65 ≤ b) × (b - 55 ≡ hex_digit b)
-    unfolding hex_digit
-    digit_middle l h = (leb-true 65 b (hex_middle l h ∙ d), rw (lt-leb b 57 l, le-leb b 70 h))
-
-    pub digit_most : b ≤ 102
-    digit_most = go (leb b 102) refl
-      where
-        go : (t : Bool) → leb b 102 ≡ t → b ≤ 102
-        go true e = leb-true b 102 e
-        go false e = absurd (true≢false (sym (hex_over (leb-false b 102 e) ∙ d)))
-
-    pub digit_high : 70 < b → (97 ≤ b) × (b - 87 ≡ hex_digit b)
-    unfolding hex_digit
-    digit_high l = (leb-true 97 b (hex_high l digit_most ∙ d), rw (lt-leb b 57 (omega arith), lt-leb b 70 l))
-
--- a word of another length, of sixteen digits, and of sixteen bytes of which one is none
-pub bits_length : (w : List ℕ) → (length w ≡ 16 → ⊥) → false ≡ is_bits w
-unfolding is_bits
-bits_length w h = rw (ne_eqb (length w) 16 h)
-
+-- a word of sixteen bytes
 pub bits_are : (w : List ℕ) → length w ≡ 16 → is_bits w ≡ every is_hex_digit w
 unfolding is_bits
 bits_are w h = rw (eq-eqb (length w) 16 h)
@@ -111,14 +52,6 @@ bits_fit n i d h l s =
 
 -- by which of the two a word is
 module _ (w : List ℕ) where
-  pub rate_bits : is_bits w ≡ true → true ≡ is_rate w
-  unfolding is_rate
-  rate_bits h = rw h
-
-  pub rate_decimal : is_bits w ≡ false → is_decimal w ≡ is_rate w
-  unfolding is_rate
-  rate_decimal h = rw h
-
   pub bits_value : is_bits w ≡ true → of_bits binary64 (bits_from 0 w) ≡ rate_of w
   unfolding rate_of
   bits_value h = rw h

@@ -8,49 +8,32 @@ ghost use Rattle.rate_text.specs.RateText.{is_hex_digit, hex_digit, is_bits, bit
 
 use decimals::{decimal_of, is_decimal};
 
+#[tactic(auto, unfolding(crate::specs::RateText::is_hex_digit))]
 fn is_hex_digit(b: u8) -> bool
     ensures { result ≡ is_hex_digit b }
 {
-    if b <= 57 {
-        return b >= 48;
-    }
-    if b <= 70 {
-        return b >= 65;
-    }
-    if b <= 102 {
-        return b >= 97;
-    }
-    false
+    matches!(b, b'0'..=b'9' | b'A'..=b'F' | b'a'..=b'f')
 }
 
 // The value of a hexadecimal digit.
+#[tactic(auto, unfolding(crate::specs::RateText::is_hex_digit, crate::specs::RateText::hex_digit))]
 fn hex_digit(b: u8) -> u64
     requires { is_hex_digit b ≡ true }
     ensures { (result ≡ hex_digit b) × (result < 16) }
 {
-    if b <= 57 {
-        return (b - 48) as u64;
+    match b {
+        b'0'..=b'9' => u64::from(b - b'0'),
+        b'A'..=b'F' => u64::from(b - b'A' + 10),
+        _ => u64::from(b - b'a' + 10),
     }
-    if b <= 70 {
-        return (b - 55) as u64;
-    }
-    (b - 87) as u64
 }
 
 // Whether a word is sixteen hexadecimal digits.
+#[tactic(auto, unfolding(crate::specs::RateText::is_bits))]
 fn is_bits(word: &[u8]) -> bool
     ensures { result ≡ is_bits word.now }
 {
-    let n = word.len();
-    if n != 16 {
-        return false;
-    }
-    for i in 0..n {
-        if !is_hex_digit(word[i]) {
-            return false;
-        }
-    }
-    true
+    word.len() == 16 && word.iter().all(|b| is_hex_digit(*b))
 }
 
 // The number that they make.
@@ -59,9 +42,8 @@ fn bits_of(word: &[u8]) -> u64
     ensures { result ≡ bits_from 0 word.now }
 {
     let mut bits: u64 = 0;
-    let n = word.len();
-    for i in 0..n {
-        bits = 16 * bits + hex_digit(word[i]);
+    for b in word {
+        bits = 16 * bits + hex_digit(*b);
     }
     bits
 }
@@ -78,13 +60,11 @@ pub fn float_of(bits: u64) -> f64
 }
 
 // Whether a word is a rate.
+#[tactic(auto, unfolding(crate::specs::RateText::is_rate))]
 pub fn is_rate(word: &[u8]) -> bool
     ensures { result ≡ is_rate word.now }
 {
-    if is_bits(word) {
-        return true;
-    }
-    is_decimal(word)
+    is_bits(word) || is_decimal(word)
 }
 
 // The float that it is, a NaN where the word is none.

@@ -2,38 +2,38 @@
 use mathlib.Core.Path.{◌≡◌, refl, sym, ap, ◌∙◌}
 use mathlib.Core.Bool.{Bool, true, false, ◌&&◌, cond}
 use mathlib.Core.Logic.{◌⊎◌, inl, inr}
-use mathlib.Core.List.{List, []}
-use Prim.Native.Nat.{ℕ, ◌+◌, ◌<◌}
+use mathlib.Core.List.{List, [], ◌∷◌}
+use Prim.Native.Nat.{ℕ, zero, suc, ◌+◌, ◌≤◌}
 use native.Mathlib.Omega.{arith}
-use borrow.Author.Tests.{eq-eqb, ne_eqb, eqb-true}
+use borrow.Author.Tests.{ne_eqb, eqb-true}
 use lib.Dec.{eqb}
-use lib.ListN.{get_or}
+use lib.ListN.{length, get_or, take}
+use lib.Pointwise.{pointwise}
 use Rattle.rules.specs.Lists.{up_to, padded, every}
 use Rattle.rules.specs.Questions.{after_call}
 use Rattle.rules.specs.Record.{last_year_of, figures_of}
 use Rattle.rules.specs.Inflation.{most_years, index_after, inflation_answer, indices_of}
 use Rattle.rules.specs.declared.Inflation.{Inflation}
-use Rattle.laws.proofs.Lists.{both_left, both_right, every_next, fails_at, every_up_to, every_same, get_d_up_to}
+use Rattle.laws.proofs.Lists.{both_left, both_right, every_up_to, every_same, get_d_up_to, up_to_cons}
 use Rattle.laws.proofs.Padded.{filled_at}
 use Rattle.inflation_line.specs.InflationLine.{is_inflation, shape_of, fault_in}
 use Rattle.rates_shown.specs.RatesShown.{same_first, makes_indices, shown_rates, Made}
 
--- none, one more, and one that differs
+-- whether two numbers at the same place are the same
 module _ (xs ys : List ℕ) where
   abbrev same : ℕ → Bool
   same i = eqb (get_or xs i 0) (get_or ys i 0)
 
-  pub same_none : same_first 0 xs ys ≡ true
-  unfolding same_first up_to every
-  same_none = refl
-
-  pub same_more : (i : ℕ) → same_first i xs ys ≡ true → get_or xs i 0 ≡ get_or ys i 0 → same_first (i + 1) xs ys ≡ true
-  unfolding same_first
-  same_more i h e = every_next same (λ (j : ℕ). j) i h (eq-eqb (get_or xs i 0) (get_or ys i 0) e)
-
-  pub same_differs : (n i : ℕ) → i < n → (get_or xs i 0 ≡ get_or ys i 0 → ⊥) → same_first n xs ys ≡ false
-  unfolding same_first
-  same_differs n i l e = fails_at same (λ (j : ℕ). j) n i l (ne_eqb (get_or xs i 0) (get_or ys i 0) e)
+-- that is so where their first n numbers are the same list
+pub same_is : (n : ℕ) (xs ys : List ℕ) → n ≤ length xs → n ≤ length ys → pointwise eqb (take n xs) (take n ys) ≡ same_first n xs ys
+unfolding same_first up_to every
+same_is zero xs ys h l = refl
+same_is (suc n) [] ys h l = absurd (omega arith)
+same_is (suc n) (x ∷ xs) [] h l = absurd (omega arith)
+same_is (suc n) (x ∷ xs) (y ∷ ys) h l =
+    ap (λ (b : Bool). eqb x y && b)
+    (same_is n xs ys (omega arith) (omega arith) ∙ every_same (same xs ys) (same (x ∷ xs) (y ∷ ys)) (λ i. i) (λ i. suc i) n (λ i k. refl))
+    ∙ sym (ap (every (same (x ∷ xs) (y ∷ ys))) (up_to_cons (λ i. i) n))
 
 -- the indices of an accepted call stand in its array
 pub made_indices : (shape : Inflation) (years : ℕ) → inflation_answer shape years ≡ 0 → (indices_of shape years).values ≡ padded most_years 0 (up_to (index_after shape) years)

@@ -2,8 +2,6 @@
 // the record. The list is lent full of -7. Writes the answer, and then the list after an answer of 0, or whether a refusal left it unchanged.
 #![tactic(auto)]
 
-ghost use Rattle.std.specs.Prelude.{◌<◌};
-
 use printing::{put_outcome, read_full};
 use reader::doonamurk_read;
 
@@ -20,20 +18,15 @@ fn show(rt: &HostRuntime, packed: &mut [u8], list: &mut [i64]) -> bool {
     true
 }
 
-fn wide(x: u8) -> usize
-    ensures { result < 256 }
-{
-    x as usize
-}
-
 // One case; false at the end of the input.
 fn case(rt: &HostRuntime) -> bool {
     let mut head = [0u8; 3];
     if read_full(rt, &mut head) < 3 {
         return false;
     }
-    let room = wide(head[0]);
-    let size = 256 * wide(head[1]) + wide(head[2]);
+    let [room, high, low] = head;
+    let room = usize::from(room);
+    let size = 256 * usize::from(high) + usize::from(low);
     if 4096 < size {
         return false;
     }

@@ -41,10 +41,7 @@ fn fill_row(
 {
     for i in 0..n {
         let x = field(s, at + w * i, w);
-        if x < least {
-            return false;
-        }
-        if x > most {
+        if x < least || x > most {
             return false;
         }
         row[i] = x;
@@ -60,7 +57,7 @@ pub fn amount(code: u64) -> i64
     if code < SIGN {
         code as i64
     } else {
-        0 - ((code - SIGN) as i64)
+        -((code - SIGN) as i64)
     }
 }
 
@@ -70,10 +67,7 @@ pub fn sound(code: u64) -> bool
     requires { code < 2 ^ 35 }
     ensures { result ≡ bits_in_range increment code }
 {
-    if code == SIGN {
-        return false;
-    }
-    code % SIGN <= MOST_AMOUNT
+    code != SIGN && code % SIGN <= MOST_AMOUNT
 }
 
 // The n increments from bit place `at` on go into the list, as far as each is in its range.

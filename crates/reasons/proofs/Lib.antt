@@ -1,3 +1,4 @@
 pub mod Counted
 pub mod Why
 pub mod Stored
+pub mod Placed

@@ -18,11 +18,8 @@ fn code_of(p: i64) -> u64
     requires { in_range increment p ≡ true }
     ensures { (result ≡ code_of increment p) × (result < 2 ^ 35) }
 {
-    if p < 0 {
-        SIGN + ((0 - p) as u64)
-    } else {
-        p as u64
-    }
+    let size = p.unsigned_abs();
+    if p < 0 { SIGN + size } else { size }
 }
 
 // The increments after what is packed.
@@ -32,10 +29,8 @@ fn put_increments(buffer: &mut [u8], p: Pending, ps: &[i64]) -> Pending
         (pack (replicate (length ps.now) 35) (map (code_of increment) ps.now)) }
 {
     let mut q = p;
-    let mut i: usize = 0;
-    while i < ps.len() {
-        q = put(buffer, q, 35, code_of(ps[i]));
-        i += 1;
+    for x in ps {
+        q = put(buffer, q, 35, code_of(*x));
     }
     q
 }

@@ -32,29 +32,19 @@ use summary_figures::SINGLES;
 use vectors::MOST_FIGURES;
 
 // Whether the opening names the years where question n refuses.
+#[tactic(auto, unfolding(crate::specs::RefusedPage::years_known))]
 fn years_known(n: u64) -> bool
     ensures { result ≡ years_known n }
 {
-    if n == 1 {
-        return false;
-    }
-    if n == 2 {
-        return false;
-    }
-    n != 4
+    n != 1 && n != 2 && n != 4
 }
 
 // Whether the inputs can be read.
+#[tactic(auto, unfolding(crate::specs::RefusedPage::inputs_known))]
 fn inputs_known(n: u64) -> bool
     ensures { result ≡ inputs_known n }
 {
-    if n == 3 {
-        return false;
-    }
-    if n == 5 {
-        return false;
-    }
-    years_known(n)
+    n != 3 && n != 5 && years_known(n)
 }
 
 // The opening.

@@ -9,14 +9,7 @@ use titled_input::parts_of;
 
 // Whether an input is a text where years, title, line and record are due, behind those or from the start. Up to five bytes are those of the years and of the title's length, and no text.
 fn is_text_for_report(input: &[u8]) -> bool {
-    if input.len() <= 5 {
-        return false;
-    }
-    if is_text(input) {
-        return true;
-    }
-    let packed = parts_of(input).packed;
-    is_text(&input[packed..])
+    input.len() > 5 && (is_text(input) || is_text(&input[parts_of(input).packed..]))
 }
 
 // Reads the input of a report and answers how many bytes it has; 0 where none arrived, after saying why.

@@ -29,12 +29,9 @@ fn first_over(k: usize, paid: &[u64; 16], provisions: &[u64; 16]) -> usize
     ensures { result ≡ leading (λ i. leb (ultimate paid.now provisions.now i) most_ultimate) (k + 1) }
 {
     let n = k + 1;
-    for i in 0..n {
-        if paid[i] + provisions[i] > MOST_ULTIMATE {
-            return i;
-        }
-    }
-    n
+    (0..n)
+        .find(|i| paid[*i] + provisions[*i] > MOST_ULTIMATE)
+        .unwrap_or(n)
 }
 
 // Question 11: the first year whose ultimate is too large, its paid cumulative, its provision and its ultimate.

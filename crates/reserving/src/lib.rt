@@ -2,13 +2,12 @@
 #![tactic(auto)]
 
 ghost use Rattle.std.specs.Prelude.{◌≤◌, length};
-ghost use Rattle.rules.specs.Record.{figures};
 ghost use Rattle.rules.specs.Results.{result_count};
 ghost use Rattle.rules.specs.Engine.{last_questions};
 ghost use Rattle.reserving.specs.Stages.{Separated, Tailed, Answers};
 
 use completion::fill_levels;
-use rules::ACCEPTED;
+use rules::{ACCEPTED, Figures};
 use ulae_ratio::ratio_of;
 use whole_list::put_results;
 
@@ -16,14 +15,7 @@ use whole_list::put_results;
 // latest diagonal is the latest level.
 pub fn finish<'a>(
     year: u64,
-    k: usize,
-    exposures: &[u64; 16],
-    increments: &[i64; 136],
-    indices: &[u64; 16],
-    reporting: &[u64; 16],
-    weight: u64,
-    ulae: &[u64; 16],
-    tail: u64,
+    figures: &Figures,
     square: &[[i64; 16]; 16],
     factors: &[u64; 16],
     paid: &[u64; 16],
@@ -32,18 +24,18 @@ pub fn finish<'a>(
     tails: &[u64; 16],
     out: &mut [i64],
 ) -> u64
-    requires { Separated (figures k exposures.now increments.now indices.now reporting.now weight ulae.now tail) square.now factors.now paid.now shares.now levels.now
-        × (Tailed (figures k exposures.now increments.now indices.now reporting.now weight ulae.now tail) tails.now × (result_count k ≤ length out.old)) }
-    ensures { Answers (last_questions year (figures k exposures.now increments.now indices.now reporting.now weight ulae.now tail))
-        year (figures k exposures.now increments.now indices.now reporting.now weight ulae.now tail) out.old out.new result }
+    requires { Separated figures.now square.now factors.now paid.now shares.now levels.now
+        × (Tailed figures.now tails.now × (result_count figures.now.k ≤ length out.old)) }
+    ensures { Answers (last_questions year figures.now) year figures.now out.old out.new result }
 {
+    let k = figures.k;
     let mut ahead = [0u64; 16];
     let mut payments = [0u64; 120];
     let mut provisions = [0u64; 16];
-    fill_levels(levels[k], indices, k, &mut ahead);
+    fill_levels(levels[k], &figures.indices, k, &mut ahead);
     if !completion::complete(
         k,
-        exposures,
+        &figures.exposures,
         shares,
         &ahead,
         tails,
@@ -56,10 +48,10 @@ pub fn finish<'a>(
     let used = ratio_of(
         year,
         k,
-        increments,
-        reporting,
-        weight,
-        ulae,
+        &figures.increments,
+        &figures.reporting,
+        figures.weight,
+        &figures.ulae,
         paid,
         &provisions,
     );
@@ -80,8 +72,8 @@ pub fn finish<'a>(
         &payments,
         &provisions,
         paid,
-        reporting,
-        weight,
+        &figures.reporting,
+        figures.weight,
         used.ratio,
         factors,
         &completed,

@@ -60,7 +60,7 @@ fn put_label(
 {
     if left_of(corners, columns, h) < 1 {
         let a = put_decimal(labels, at, h as u64);
-        return put_byte(labels, a, 10);
+        return put_byte(labels, a, b'\n');
     }
     at
 }

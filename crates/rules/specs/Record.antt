@@ -4,6 +4,7 @@ use Rattle.std.specs.Prelude.{ℕ, zero, suc, ◌+◌, ◌-◌, ◌*◌, ◌/◌
 use mathlib.Core.List.{List, [], ◌∷◌, ◌++◌, map, zip_with}
 use Rattle.rules.specs.Packing.{pack, unpack, number_of, bytes_of}
 use Rattle.rules.specs.Lists.{total, padded}
+use Rattle.rules.specs.declared.Figures.{Figures as Held}
 
 -- M, one million
 abbrev pub million : ℕ
@@ -184,17 +185,10 @@ ulae_in k vs = map nat_abs (section (layout k) 6 vs)
 unfoldable pub tail_in : ℕ → List ℤ → ℕ
 tail_in k vs = get_or (map nat_abs (section (layout k) 7 vs)) 0 0
 
--- figures: k, lists, the increments by row, the weight and the amount still to be paid. A writer is given lists of any lengths; those of a record stand in
--- arrays (`figures_of`)
-pub record Figures : Type 0 where
-  pub k : ℕ
-  pub exposures : List ℕ
-  pub increments : List ℤ
-  pub indices : List ℕ
-  pub reporting : List ℕ
-  pub weight : ℕ
-  pub ulae : List ℕ
-  pub tail : ℕ
+-- figures: k, lists, the increments by row, the weight and the amount still to be paid, as the code holds them. A writer is given lists of any lengths; those of a
+-- record stand in arrays (`figures_of`)
+abbrev pub Figures : Type 0
+Figures = Held
 
 abbrev pub figures : ℕ → List ℕ → List ℤ → List ℕ → List ℕ → ℕ → List ℕ → ℕ → Figures
 figures k n p e b w u a = record { k = k; exposures = n; increments = p; indices = e; reporting = b; weight = w; ulae = u; tail = a }

@@ -45,6 +45,32 @@ pub const MOST_SETTINGS: usize = 8;
 
 pub const MOST_HINDSIGHT: usize = 961;
 
+// The figures of a record of the years 0 to k, each list zero past its end: the exposures, the increments by row, the future indices, e_t at place t - 1, the reporting
+// shares, the reporting weight, the ULAE totals and the amount still to be paid for year 0 after year k.
+#[derive(Clone, Copy)]
+pub struct Figures {
+    pub k: usize,
+    pub exposures: [u64; 16],
+    pub increments: [i64; 136],
+    pub indices: [u64; 16],
+    pub reporting: [u64; 16],
+    pub weight: u64,
+    pub ulae: [u64; 16],
+    pub tail: u64,
+}
+
+// Figures that nothing has been read into.
+pub const NO_FIGURES: Figures = Figures {
+    k: 0,
+    exposures: [0; 16],
+    increments: [0; 136],
+    indices: [0; 16],
+    reporting: [0; 16],
+    weight: 0,
+    ulae: [0; 16],
+    tail: 0,
+};
+
 // Shares and levels of the years 0 to k as one set of factors, zero past them. A share counts billionths, a level hundredths a claim.
 #[derive(Clone, Copy)]
 pub struct Factors {

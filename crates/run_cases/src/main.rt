@@ -40,10 +40,7 @@ fn case(rt: &HostRuntime) -> bool {
     let year = year_in(&head);
     let room = pair_at(&head, 8);
     let size = pair_at(&head, 10);
-    if 512 < room {
-        return false;
-    }
-    if 4096 < size {
+    if 512 < room || 4096 < size {
         return false;
     }
     let mut packed = [0u8; 4096];

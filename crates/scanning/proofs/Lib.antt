@@ -1,3 +1,3 @@
 pub mod Parts
+pub mod Library
 pub mod Numbers
-pub mod Texts

@@ -6,16 +6,11 @@ ghost use Rattle.scanning.specs.Parts.{among, before, until, from, past, meets, 
 ghost use Rattle.scanning.specs.Numbers.{is_digit, is_natural, is_number, with_digit, size_from, whole_of};
 
 // Whether a byte is one of these.
+#[tactic(auto, using(crate::proofs::Library::among_is_any))]
 pub fn is_among(b: u8, set: &[u8]) -> bool
     ensures { result ≡ among set.now b }
 {
-    let n = set.len();
-    for i in 0..n {
-        if set[i] == b {
-            return true;
-        }
-    }
-    false
+    set.contains(&b)
 }
 
 // Whether that is as wanted.
@@ -32,13 +27,9 @@ fn is_met(b: u8, set: &[u8], wanted: bool) -> bool
 pub fn find(text: &[u8], set: &[u8], wanted: bool) -> usize
     ensures { (result ≡ before (meets wanted set.now) text.now) × (result ≤ length text.now) }
 {
-    let n = text.len();
-    for i in 0..n {
-        if is_met(text[i], set, wanted) {
-            return i;
-        }
-    }
-    n
+    text.iter()
+        .position(|b| is_met(*b, set, wanted))
+        .unwrap_or(text.len())
 }
 
 // A text up to the first byte that is one of these.
@@ -63,70 +54,43 @@ pub fn past<'a>(text: &'a [u8], set: &[u8]) -> &'a [u8]
 {
     let e = find(text, set, true);
     if e < text.len() {
-        let a = e + 1;
-        return &text[a..];
+        &text[e + 1..]
+    } else {
+        &text[e..]
     }
-    &text[e..]
 }
 
 // Whether two texts are the same.
+#[tactic(auto, using(crate::proofs::Library::same_is_eq))]
 pub fn same_text(a: &[u8], b: &[u8]) -> bool
     ensures { result ≡ same_text_of a.now b.now }
 {
-    let n = a.len();
-    if n != b.len() {
-        return false;
-    }
-    for i in 0..n {
-        if a[i] != b[i] {
-            return false;
-        }
-    }
-    true
+    a == b
 }
 
 fn is_digit(b: u8) -> bool
     ensures { result ≡ is_digit b }
 {
-    if b < 48 {
-        return false;
-    }
-    b <= 57
+    matches!(b, b'0'..=b'9')
 }
 
 // Whether a word is digits, at least one.
+#[tactic(auto, unfolding(crate::specs::Numbers::is_natural))]
 pub fn is_natural(word: &[u8]) -> bool
     ensures { result ≡ is_natural word.now }
 {
-    let n = word.len();
-    if n == 0 {
-        return false;
-    }
-    for i in 0..n {
-        if !is_digit(word[i]) {
-            return false;
-        }
-    }
-    true
+    !word.is_empty() && word.iter().all(|b| is_digit(*b))
 }
 
 // Whether a word is a whole number.
+#[tactic(auto, unfolding(crate::specs::Numbers::is_number))]
 pub fn is_number(word: &[u8]) -> bool
     ensures { result ≡ is_number word.now }
 {
-    if word.len() == 0 {
-        return false;
+    match word.strip_prefix(b"-") {
+        Some(digits) => is_natural(digits),
+        None => is_natural(word),
     }
-    if word[0] == 45 {
-        return is_natural(&word[1..]);
-    }
-    is_natural(word)
-}
-
-fn wide(b: u8) -> u64
-    ensures { result ≡ b }
-{
-    b as u64
 }
 
 // The number so far with one digit more.
@@ -138,10 +102,10 @@ fn with_digit(n: u64, b: u8) -> u64
     if n >= 100_000_000_000_000_000 {
         return n;
     }
-    if b < 48 {
+    if b < b'0' {
         return 10 * n;
     }
-    10 * n + wide(b - 48)
+    10 * n + u64::from(b - b'0')
 }
 
 // The number that digits go on to after one.
@@ -150,9 +114,8 @@ pub fn size_from(start: u64, digits: &[u8]) -> u64
     ensures { (result ≡ size_from start digits.now) × (result < 2 ^ 60) }
 {
     let mut size = start;
-    let n = digits.len();
-    for i in 0..n {
-        size = with_digit(size, digits[i]);
+    for b in digits {
+        size = with_digit(size, *b);
     }
     size
 }
@@ -161,11 +124,8 @@ pub fn size_from(start: u64, digits: &[u8]) -> u64
 pub fn number_of(word: &[u8]) -> i64
     ensures { result ≡ whole_of word.now }
 {
-    if word.len() == 0 {
-        return 0;
+    match word.strip_prefix(b"-") {
+        Some(digits) => -(size_from(0, digits) as i64),
+        None => size_from(0, word) as i64,
     }
-    if word[0] == 45 {
-        return 0 - (size_from(0, &word[1..]) as i64);
-    }
-    size_from(0, word) as i64
 }

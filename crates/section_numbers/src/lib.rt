@@ -51,8 +51,8 @@ pub fn section_sizes(figures: &[i64; MOST_FIGURES], start: usize, n: usize) -> u
     ensures { (result ≡ sizes_of start n figures.now) × (result ≤ n * most_figure) }
 {
     let mut sum: u64 = 0;
-    for i in 0..n {
-        sum += size_of(figures[start + i]);
+    for x in &figures[start..start + n] {
+        sum += size_of(*x);
     }
     sum
 }
@@ -61,7 +61,7 @@ pub fn section_sizes(figures: &[i64; MOST_FIGURES], start: usize, n: usize) -> u
 fn lost_of(payment: i64, average: i64) -> u64
     ensures { (result ≡ lost_one payment average) × (result ≤ 1) }
 {
-    if is_lost(payment, average) { 1 } else { 0 }
+    u64::from(is_lost(payment, average))
 }
 
 // How many of n payments are lost, their averages at the other place.

@@ -14,21 +14,23 @@ pub fn does_decide(s: u8) -> bool
 }
 
 // The bytes that separate cells.
+#[tactic(auto, unfolding(crate::specs::Separators::separators))]
 pub fn separators_of(s: u8) -> [u8; 2]
     ensures { result ≡ separators s }
 {
     if does_decide(s) {
         return [s, s];
     }
-    [32, 9]
+    [b' ', b'\t']
 }
 
 // Whether no cell is left in a text.
+#[tactic(auto, using(crate::proofs::Over::over_is))]
 fn is_over(text: &[u8], s: u8) -> bool
     ensures { result ≡ is_over s text.now }
 {
     let two = separators_of(s);
-    let set = [two[0], two[1], 32, 34];
+    let set = [two[0], two[1], b' ', b'"'];
     find(text, &set, false) == text.len()
 }
 

@@ -14,13 +14,11 @@ use scanning::{is_natural, past, size_from, until};
 pub const MOST_WORDS: usize = 128;
 
 // Whether a piece of the line is a word and no whole number.
+#[tactic(auto, using(crate::proofs::Words::words_none, crate::proofs::Words::words_one), unfolding(rules::specs::Lists::every))]
 fn is_wrong(piece: &[u8]) -> bool
     ensures { result ≡ not (every is_natural (filled (piece.now ∷ []))) }
 {
-    if piece.len() == 0 {
-        return false;
-    }
-    !is_natural(piece)
+    !piece.is_empty() && !is_natural(piece)
 }
 
 // How many words a piece is: none where it is empty.

@@ -9,7 +9,6 @@ ghost use Rattle.vectors.specs.Vectors.{most_figures};
 ghost use Rattle.page_figures.specs.Given.{Figured};
 ghost use Rattle.shading.specs.Shading.{largest_size, stepped, size_mark, is_lost, average_mark, exceeds, gap_step, gap_mark, average_style, gap_style};
 
-use axis::larger;
 use entries::size_of;
 use figure_places::added_at;
 use layout::cells_of;
@@ -24,8 +23,8 @@ pub fn largest_size(figures: &[i64; MOST_FIGURES], start: usize, n: usize) -> u6
     ensures { result ≡ largest_size start n figures.now }
 {
     let mut most: u64 = 0;
-    for m in 0..n {
-        most = larger(most, size_of(figures[start + m]));
+    for x in &figures[start..start + n] {
+        most = most.max(size_of(*x));
     }
     most
 }
@@ -49,21 +48,18 @@ fn size_mark(most: u64, average: i64) -> u8
 {
     let step = 6 * size_of(average) / (most + 1);
     if average < 0 {
-        MARK_NEGATIVE + (larger(1, step) as u8)
+        MARK_NEGATIVE + (step.max(1) as u8)
     } else {
         stepped_mark(MARK_SHADE, step)
     }
 }
 
 // Whether a payment is not zero but its average is 0.00.
+#[tactic(auto, unfolding(crate::specs::Shading::is_lost))]
 pub fn is_lost(payment: i64, average: i64) -> bool
     ensures { result ≡ is_lost payment average }
 {
-    if size_of(average) == 0 {
-        0 < size_of(payment)
-    } else {
-        false
-    }
+    size_of(average) == 0 && 0 < size_of(payment)
 }
 
 // The mark of an average.
@@ -83,7 +79,7 @@ fn exceeds(t: u64, size: u64, fitted: u64) -> u64
     requires { (t ≤ 50) × ((size ≤ most_figure) × (fitted ≤ most_figure)) }
     ensures { (result ≡ exceeds t size fitted) × (result ≤ 1) }
 {
-    if t * fitted < 100 * size { 1 } else { 0 }
+    u64::from(t * fitted < 100 * size)
 }
 
 // The step of a gap.

@@ -5,7 +5,8 @@ use Prim.Native.Nat.{ℕ, zero, suc, ◌+◌, ◌-◌, ◌*◌, ◌≤◌, ◌<�
 use native.Mathlib.Numerals.{add-one}
 use native.Mathlib.Omega.{arith}
 use lib.IntN.{ℤ, pos, nat_abs}
-use lib.ListN.{length, get_or, set, take, drop, replicate, length-append, length-drop, length-map}
+use lib.ListN.{length, get_or, set, take, drop, replicate, length-append, length-take, length-drop, length-map}
+use Rattle.std.proofs.lemmas.List.{get_or-take}
 use lib.Seq.{take-suc, take-append-le, drop-append-le, length-take-le, get_or-drop, drop-drop}
 use Rattle.rules.specs.Lists.{padded, total}
 use Rattle.rules.specs.Record.{Figures, figures, Kind, cells, layout, section, exposures_in, increments_in, indices_in, reporting_in, weight_in, ulae_in, tail_in, most_fields}
@@ -14,6 +15,13 @@ use Rattle.laws.proofs.Lists.{padded_more, take_padded}
 use Rattle.laws.proofs.TriangleRows.{cells_most}
 use Rattle.sheet_fields.specs.declared.Rows.{Rows}
 use Rattle.sheet_fields.specs.FieldRows.{rows, rows_of}
+
+-- a part of a list: how long it is, and its entries
+pub part_length : (list : List ℤ) (at n : ℕ) → at + n ≤ length list → length (take (at + n - at) (drop at list)) ≡ n
+part_length list at n h = omega (arith, length-take (at + n - at) (drop at list), length-drop at list)
+
+pub part_at : (list : List ℤ) (at n i : ℕ) → i < n → get_or (take (at + n - at) (drop at list)) i (pos 0) ≡ get_or list (at + i) (pos 0)
+part_at list at n i h = get_or-take (at + n - at) (drop at list) i (pos 0) (omega arith) ∙ get_or-drop at list i (pos 0)
 
 -- one entry more in the array
 pub sizes_more : (list : List ℤ) (at i v : ℕ) → i < 16 → at + i < length list → v ≡ nat_abs (get_or list (at + i) (pos 0))

@@ -28,8 +28,8 @@ fn sizes_of(list: &[i64], at: usize, n: usize) -> [u64; 16]
     ensures { result ≡ padded 16 0 (map nat_abs (take n (drop at list.now))) }
 {
     let mut sizes = [0u64; 16];
-    for i in 0..n {
-        sizes[i] = size_of(list[at + i]);
+    for (i, z) in list[at..at + n].iter().enumerate() {
+        sizes[i] = size_of(*z);
     }
     sizes
 }

@@ -1,5 +1,5 @@
 -- What packing a text says, and how long its record is. Assumes nothing.
-use Rattle.std.specs.Prelude.{ℕ, false, cond, ◌&&◌, List, [], eqb}
+use Rattle.std.specs.Prelude.{ℕ, false, cond, ◌&&◌, List, [], eqb, Result, Ok, Err}
 use Rattle.wording.specs.Wording.{refusal_text}
 use Rattle.sheet.specs.Sheet.{Typed, record_size, pack_answer}
 use Rattle.history_wording.specs.Refused.{wrong_text}
@@ -12,3 +12,12 @@ said_of t =
 -- how many bytes the record has; 0 where there is none
 unfoldable pub size_of : Typed → ℕ
 size_of t = cond (eqb t.problem 0 && eqb (pack_answer t) 0) (record_size t.numbers) 0
+
+-- of what packing came to, how many bytes of the record and of the message there are
+abbrev pub size_in : Result ℕ ℕ → ℕ
+size_in (Ok size) = size
+size_in (Err said) = 0
+
+abbrev pub said_in : Result ℕ ℕ → ℕ
+said_in (Ok size) = 0
+said_in (Err said) = said

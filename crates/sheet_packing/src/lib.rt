@@ -4,7 +4,7 @@
 ghost use Rattle.std.specs.Prelude.{◌≡◌};
 ghost use Rattle.composing.specs.Text.{Put};
 ghost use Rattle.sheet.specs.Sheet.{read_sheet, pack_into};
-ghost use Rattle.sheet_packing.specs.Said.{said_of, size_of};
+ghost use Rattle.sheet_packing.specs.Said.{said_of, size_of, said_in, size_in};
 
 use history_wording::put_wrong;
 use layout::bytes_of;
@@ -14,34 +14,26 @@ use sheet_fields::write_fields;
 use sheet_reading::read_sheet;
 use wording::put_refusal;
 
-// How many bytes of the record and of the message there are: one of the two is none.
-#[derive(Clone, Copy)]
-pub struct Outcome {
-    pub size: usize,
-    pub said: usize,
-}
-
-// Packs the figures of a text into the record, or says in the message what is wrong with them.
-pub fn pack_sheet(text: &[u8], packed: &mut [u8; MOST_BYTES], message: &mut [u8]) -> Outcome
+// Packs the figures of a text into the record, or says in the message what is wrong with them; how many bytes of the one or of the other there are.
+pub fn pack_sheet(
+    text: &[u8],
+    packed: &mut [u8; MOST_BYTES],
+    message: &mut [u8],
+) -> Result<usize, usize>
     ensures { (packed.new ≡ pack_into (read_sheet text.now) packed.old)
-        × ((result.size ≡ size_of (read_sheet text.now))
-        × Put message.old message.new 0 result.said (said_of (read_sheet text.now))) }
+        × ((size_in result ≡ size_of (read_sheet text.now))
+        × Put message.old message.new 0 (said_in result) (said_of (read_sheet text.now))) }
 {
     let mut list = [0i64; MOST_FIELDS];
     let mut word = [0u8; 20];
     let f = read_sheet(text, &mut list, &mut word);
     if f.problem != 0 {
-        let said = put_wrong(message, false, f, &list, &word);
-        return Outcome { size: 0, said };
+        return Err(put_wrong(message, false, f, &list, &word));
     }
     let k = last_year(&list, f.count) as usize;
     let answer = write_fields(&list, k, packed);
     if answer != 0 {
-        let said = put_refusal(message, 0, answer);
-        return Outcome { size: 0, said };
+        return Err(put_refusal(message, 0, answer));
     }
-    Outcome {
-        size: bytes_of(k),
-        said: 0,
-    }
+    Ok(bytes_of(k))
 }

@@ -97,37 +97,31 @@ fn put_counts(out: &mut [u8], at: usize, d: Due, cell: usize) -> usize
 fn put_words(out: &mut [u8], at: usize, problem: u64, d: Due, cell: usize, word: &[u8]) -> usize
     ensures { Put out.old out.new at result (get_or (problem_words d cell word.now) problem []) }
 {
-    if problem == 1 {
-        let name = put_due_line(
-            out,
-            at,
-            b"a line that starts with ",
-            d,
-            b" is due, not with ",
-        );
-        return put_named(out, name, word);
+    match problem {
+        1 => {
+            let name = put_due_line(
+                out,
+                at,
+                b"a line that starts with ",
+                d,
+                b" is due, not with ",
+            );
+            put_named(out, name, word)
+        }
+        2 => put_number(out, at, d, cell, word),
+        3 => put_counts(out, at, d, cell),
+        4 => put_number(out, at, d, cell, word),
+        5 => put_due_line(out, at, b"the text ends where ", d, b" is due"),
+        6 => {
+            let end = put_named(out, at, word);
+            put_bytes(
+                out,
+                end,
+                b" stands where the text should end: there is more than the figures call for",
+            )
+        }
+        _ => at,
     }
-    if problem == 2 {
-        return put_number(out, at, d, cell, word);
-    }
-    if problem == 3 {
-        return put_counts(out, at, d, cell);
-    }
-    if problem == 4 {
-        return put_number(out, at, d, cell, word);
-    }
-    if problem == 5 {
-        return put_due_line(out, at, b"the text ends where ", d, b" is due");
-    }
-    if problem == 6 {
-        let end = put_named(out, at, word);
-        return put_bytes(
-            out,
-            end,
-            b" stands where the text should end: there is more than the figures call for",
-        );
-    }
-    at
 }
 
 // A line of words for a problem in a line of the text.

@@ -1,11 +1,12 @@
 -- The lines of a sheet, one number and one line after another. Assumes nothing.
 use mathlib.Core.Path.{◌≡◌, sym, ap, ◌∙◌}
 use mathlib.Core.List.{List, [], ◌∷◌, ◌++◌, map, append-nil, append_assoc}
-use Prim.Native.Nat.{ℕ, ◌+◌, ◌<◌}
+use Prim.Native.Nat.{ℕ, ◌+◌, ◌-◌, ◌≤◌, ◌<◌}
 use native.Mathlib.Numerals.{add-one}
 use native.Mathlib.Omega.{arith}
 use lib.IntN.{ℤ, pos}
-use lib.ListN.{length, get_or, take, drop, length-drop}
+use lib.ListN.{length, get_or, take, drop, length-take, length-drop}
+use Rattle.std.proofs.lemmas.List.{get_or-take}
 use lib.Seq.{take-suc, get_or-drop, drop-drop}
 use Rattle.rules.specs.Lists.{up_to, total}
 use Rattle.rules.specs.Record.{field_count}
@@ -24,6 +25,13 @@ unfolding spaced
 spaced_more [] v = ap (λ (l : List ℕ). 32 ∷ l) (append-nil (integer v))
 spaced_more (x ∷ xs) v =
     ap (λ (l : List ℕ). 32 ∷ l) (ap (λ (l : List ℕ). integer x ++ l) (spaced_more xs v) ∙ sym (append_assoc (integer x) (spaced xs) (32 ∷ integer v)))
+
+-- a part of a list: how long it is, and its entries
+pub part_length : (vs : List ℤ) (from n : ℕ) → from + n ≤ length vs → length (take (from + n - from) (drop from vs)) ≡ n
+part_length vs from n h = omega (arith, length-take (from + n - from) (drop from vs), length-drop from vs)
+
+pub part_at : (vs : List ℤ) (from n i : ℕ) → i < n → get_or (take (from + n - from) (drop from vs)) i (pos 0) ≡ get_or vs (from + i) (pos 0)
+part_at vs from n i h = get_or-take (from + n - from) (drop from vs) i (pos 0) (omega arith) ∙ get_or-drop from vs i (pos 0)
 
 pub put_number : {a b c d : List ℕ} {h i j l : ℕ} (vs : List ℤ) (from n : ℕ) → from + n < length vs → Put a b h i (spaced (take n (drop from vs)))
     → Put b c i j (32 ∷ []) → Put c d j l (integer (get_or vs (from + n) (pos 0))) → Put a d h l (spaced (take (n + 1) (drop from vs)))

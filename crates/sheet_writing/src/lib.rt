@@ -6,7 +6,7 @@ ghost use Rattle.rules.specs.Record.{most_fields};
 ghost use Rattle.rules.specs.Reading.{read_answer_of};
 ghost use Rattle.composing.specs.Text.{Put};
 ghost use Rattle.sheet.specs.Sheet.{spaced, line_of, last_year_in, sheet_of};
-ghost use Rattle.sheet_writing.specs.Shown.{shown_text};
+ghost use Rattle.sheet_writing.specs.Shown.{shown_text, answer_in, end_in};
 
 use composing::put_byte;
 use entries::size_of;
@@ -21,9 +21,9 @@ fn put_numbers(out: &mut [u8], at: usize, list: &[i64], from: usize, n: usize) -
     ensures { Put out.old out.new at result (spaced (take n (drop from list.now))) }
 {
     let mut end = at;
-    for i in 0..n {
-        let number = put_byte(out, end, 32);
-        end = put_integer(out, number, list[from + i]);
+    for z in &list[from..from + n] {
+        let number = put_byte(out, end, b' ');
+        end = put_integer(out, number, *z);
     }
     end
 }
@@ -35,7 +35,7 @@ fn put_line(out: &mut [u8], at: usize, d: Due, list: &[i64], from: usize) -> usi
 {
     let numbers = put_label(out, at, d.row);
     let end = put_numbers(out, numbers, list, from, d.count);
-    put_byte(out, end, 10)
+    put_byte(out, end, b'\n')
 }
 
 // The fields of a record, first in the list, as text.
@@ -55,24 +55,16 @@ pub fn put_sheet(out: &mut [u8], list: &[i64; MOST_FIELDS]) -> usize
     end
 }
 
-// What showing a record came to: the reader's answer, and where the text ends.
-#[derive(Clone, Copy)]
-pub struct Shown {
-    pub answer: u64,
-    pub end: usize,
-}
-
-// Puts the fields of a record as text into the buffer and answers 0, or leaves the buffer and answers the number of the reader's question.
+// Puts the fields of a record as text into the buffer and answers where it ends, or leaves the buffer; the error is the number of the reader's question.
 #[tactic(auto, using(crate::proofs::Unpacked::none_shown))]
-pub fn unpack(packed: &[u8], out: &mut [u8]) -> Shown
-    ensures { (result.answer ≡ read_answer_of packed.now most_fields)
-        × Put out.old out.new 0 result.end (shown_text packed.now) }
+pub fn unpack(packed: &[u8], out: &mut [u8]) -> Result<usize, u64>
+    ensures { (answer_in result ≡ read_answer_of packed.now most_fields)
+        × Put out.old out.new 0 (end_in result) (shown_text packed.now) }
 {
     let mut list = [0i64; MOST_FIELDS];
     let answer = doonamurk_read(packed, &mut list);
     if answer != ACCEPTED {
-        return Shown { answer, end: 0 };
+        return Err(answer);
     }
-    let end = put_sheet(out, &list);
-    Shown { answer, end }
+    Ok(put_sheet(out, &list))
 }

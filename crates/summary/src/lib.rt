@@ -8,7 +8,6 @@ ghost use Rattle.figure_places.specs.Places.{added_at};
 ghost use Rattle.page_figures.specs.Given.{Figured};
 ghost use Rattle.summary_figures.specs.Summary.{singles, paid_at, difference_at, largest_exposure_at, gaps_at, totals_of, tail_allowance, compared_of, largest_cumulative, largest_sizes, fit_of, summary_of, most_single, Told};
 
-use axis::larger;
 use figure_places::{Added, added_at};
 use growth::Correction;
 use layout::cells_of;
@@ -75,10 +74,9 @@ fn largest_cumulative(k: usize, figures: &[i64; MOST_FIGURES], starts: Starts, a
     ensures { (result ≡ largest_cumulative k figures.now) × (result ≤ most_single) }
 {
     let m = cells_of(k);
-    larger(
-        section_largest(figures, at.cumulatives, m),
-        section_largest(figures, starts.completed, m - (k + 1)),
-    )
+    let given = section_largest(figures, at.cumulatives, m);
+    let completed = section_largest(figures, starts.completed, m - (k + 1));
+    given.max(completed)
 }
 
 // The largest sizes.

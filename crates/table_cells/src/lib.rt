@@ -42,24 +42,26 @@ pub fn styled(mark: u8, d: u8) -> u8
 }
 
 // The mark of a style.
+#[tactic(auto, unfolding(crate::specs::Cells::mark_of))]
 pub fn mark_of(style: u8) -> u64
     ensures { result ≡ mark_of style }
 {
     if style == 0 {
         0
     } else {
-        ((style - 1) / 10) as u64
+        u64::from((style - 1) / 10)
     }
 }
 
 // The decimals of a style.
+#[tactic(auto, unfolding(crate::specs::Cells::decimals_of))]
 pub fn decimals_of(style: u8) -> usize
     ensures { (result ≡ decimals_of style) × (result < 10) }
 {
     if style == 0 {
         0
     } else {
-        ((style - 1) % 10) as usize
+        usize::from((style - 1) % 10)
     }
 }
 
@@ -89,10 +91,15 @@ fn put_cell_start(out: &mut [u8], at: usize, mark: u64) -> usize
 }
 
 // The sign after a percentage.
+#[tactic(auto, unfolding(crate::specs::Cells::percent_sign))]
 fn put_percent_sign(out: &mut [u8], at: usize, mark: u64) -> usize
     ensures { Put out.old out.new at result (percent_sign mark) }
 {
-    if mark == 1 { put_byte(out, at, 37) } else { at }
+    if mark == 1 {
+        put_byte(out, at, b'%')
+    } else {
+        at
+    }
 }
 
 // A number of a mark in HTML.
@@ -187,7 +194,7 @@ pub fn cell_length_at(values: &[i64; MOST_PLACES], styles: &[u8; MOST_PLACES], p
 pub fn larger(a: usize, b: usize) -> usize
     ensures { result ≡ max a b }
 {
-    if a < b { b } else { a }
+    a.max(b)
 }
 
 // How many characters the widest cell of column j has, in n rows.

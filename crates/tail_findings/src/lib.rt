@@ -53,12 +53,9 @@ fn first_over(k: usize, first: u64, indices: &[u64; 16]) -> usize
     ensures { result ≡ years_carried k first indices.now }
 {
     let n = k + 1;
-    for i in 0..n {
-        if tail_average(first, indices, i) > MOST_TAIL_AVERAGE {
-            return i;
-        }
-    }
-    n
+    (0..n)
+        .find(|i| tail_average(first, indices, *i) > MOST_TAIL_AVERAGE)
+        .unwrap_or(n)
 }
 
 // Question 18: the amount still to be paid for year 0, its claims and their average t_0.

@@ -4,25 +4,29 @@
 ghost use Rattle.std.specs.Prelude.{◌≡◌};
 ghost use Rattle.composing.specs.Text.{Put};
 ghost use Rattle.sheet.specs.Sheet.{packed_into};
+ghost use Rattle.sheet_packing.specs.Said.{said_in, size_in};
 ghost use Rattle.text_packing.specs.Packed.{packed_said, packed_size};
 
 use inflation_asking::fault_asked;
 use inflation_wording::put_fault;
 use rules::MOST_BYTES;
-use sheet_packing::{Outcome, pack_sheet};
+use sheet_packing::pack_sheet;
 use sheet_reading::without_mark;
 
-// Packs the figures of a text into the record, or says in the message what is wrong with them.
-pub fn pack_text(text: &[u8], packed: &mut [u8; MOST_BYTES], message: &mut [u8]) -> Outcome
+// Packs the figures of a text into the record, or says in the message what is wrong with them; how many bytes of the one or of the other there are.
+pub fn pack_text(
+    text: &[u8],
+    packed: &mut [u8; MOST_BYTES],
+    message: &mut [u8],
+) -> Result<usize, usize>
     ensures { (packed.new ≡ packed_into text.now packed.old)
-        × ((result.size ≡ packed_size text.now)
-        × Put message.old message.new 0 result.said (packed_said text.now)) }
+        × ((size_in result ≡ packed_size text.now)
+        × Put message.old message.new 0 (said_in result) (packed_said text.now)) }
 {
     let rest = without_mark(text);
     let fault = fault_asked(rest);
     if fault.kind != 0 {
-        let said = put_fault(message, 0, rest, fault);
-        return Outcome { size: 0, said };
+        return Err(put_fault(message, 0, rest, fault));
     }
     pack_sheet(text, packed, message)
 }

@@ -44,8 +44,7 @@ fn share(shares: &[u64; 16], h: usize) -> u64
     requires { h < 16 }
     ensures { result ≤ billion }
 {
-    let r = shares[h];
-    if r > BILLION { BILLION } else { r }
+    shares[h].min(BILLION)
 }
 
 // Ends the line of a figure; 1 where it is as printed, and 0 where it differs.

@@ -1,7 +1,7 @@
 // The input of a report's program: years, title, a line of inflation and the record.
 #![tactic(auto)]
 
-ghost use Rattle.std.specs.Prelude.{◌≡◌, ◌<◌, min, get_or};
+ghost use Rattle.std.specs.Prelude.{◌≡◌, ◌<◌, get_or};
 ghost use Rattle.titled_input.specs.Titled.{first_in, Split};
 
 // Where the title starts and where it ends, at the length of the line of inflation, where the line starts, and where it ends and the record starts.
@@ -13,17 +13,15 @@ pub struct Parts {
     pub packed: usize,
 }
 
-fn wide(x: u8) -> usize
-    ensures { (result ≡ x) × (result < 256) }
-{
-    x as usize
-}
-
 // The byte at place p, 0 where the input ends before it.
 fn byte_at(input: &[u8], p: usize) -> usize
     ensures { (result ≡ get_or input.now p 0) × (result < 256) }
 {
-    if p < input.len() { wide(input[p]) } else { 0 }
+    if p < input.len() {
+        usize::from(input[p])
+    } else {
+        0
+    }
 }
 
 // The first year, 0 for none.
@@ -35,12 +33,6 @@ pub fn first_of(input: &[u8]) -> usize
     256 * high + low
 }
 
-fn smaller(a: usize, b: usize) -> usize
-    ensures { result ≡ min a b }
-{
-    if a < b { a } else { b }
-}
-
 // The parts of the input from the title on.
 pub fn parts_of(input: &[u8]) -> Parts
     ensures { Split input.now result }
@@ -49,9 +41,9 @@ pub fn parts_of(input: &[u8]) -> Parts
     let end = 5 + byte_at(input, 4);
     let size = byte_at(input, end);
     Parts {
-        title: smaller(5, n),
-        sized: smaller(end, n),
-        rates: smaller(end + 1, n),
-        packed: smaller(end + 1 + size, n),
+        title: n.min(5),
+        sized: n.min(end),
+        rates: n.min(end + 1),
+        packed: n.min(end + 1 + size),
     }
 }

@@ -12,13 +12,7 @@ use composing::{put_byte, put_bytes};
 fn plain_byte(b: u8) -> u8
     ensures { result ≡ plain_byte b }
 {
-    if b < 32 {
-        32
-    } else if b == 127 {
-        32
-    } else {
-        b
-    }
+    if b < b' ' || b == b'\x7f' { b' ' } else { b }
 }
 
 // A byte of the HTML page.
@@ -26,14 +20,11 @@ fn plain_byte(b: u8) -> u8
 fn put_escaped(out: &mut [u8], at: usize, b: u8) -> usize
     ensures { Put out.old out.new at result (escaped_byte b) }
 {
-    if b == 38 {
-        put_bytes(out, at, b"&amp;")
-    } else if b == 60 {
-        put_bytes(out, at, b"&lt;")
-    } else if b == 62 {
-        put_bytes(out, at, b"&gt;")
-    } else {
-        put_byte(out, at, plain_byte(b))
+    match b {
+        b'&' => put_bytes(out, at, b"&amp;"),
+        b'<' => put_bytes(out, at, b"&lt;"),
+        b'>' => put_bytes(out, at, b"&gt;"),
+        _ => put_byte(out, at, plain_byte(b)),
     }
 }
 
@@ -53,9 +44,8 @@ pub fn put_text(out: &mut [u8], at: usize, html: bool, text: &[u8]) -> usize
     ensures { Put out.old out.new at result (text_in html text.now) }
 {
     let mut end = at;
-    let n = text.len();
-    for i in 0..n {
-        end = put_sign(out, end, html, text[i]);
+    for b in text {
+        end = put_sign(out, end, html, *b);
     }
     end
 }

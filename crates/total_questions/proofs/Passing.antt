@@ -6,12 +6,12 @@ use Prim.Native.Nat.{ℕ, ◌+◌, ◌*◌, ◌≤◌, ◌<◌, zero-le}
 use native.Mathlib.Nat.{not-suc-le-zero}
 use native.Mathlib.Numerals.{add-one}
 use native.Mathlib.Omega.{arith}
-use lib.Dec.{T, leb}
+use lib.Dec.{leb}
 use lib.IntN.{ℤ, pos, negsuc, nat_abs}
 use lib.ListN.{length, get_or, set, length-set}
-use lib.Signed.{lt_z, le_z, non_neg}
+use lib.Signed.{lt_z, le_z}
 use mir.Syntax.{w64}
-use mir.Val.{Fits, SFits}
+use mir.Val.{SFits}
 use mir.Facts.{to_z-of_z}
 use Rattle.rules.specs.Lists.{total, up_to, below, every}
 use Rattle.rules.specs.Triangle.{sum_to}
@@ -22,11 +22,6 @@ use Rattle.laws.proofs.Signed.{held}
 use Rattle.laws.proofs.Totals.{total_more, sum_to_pos}
 use Rattle.entries.proofs.Signs as signs
 use Rattle.total_questions.specs.TotalQuestions.{SizesOf}
-
-module _ (x : ℤ) (fits : SFits w64 x) where
-  -- a total not below zero is a whole number of 64 bits
-  pub whole : lt_z (held x) (pos 0) ≡ false → T (non_neg (held x)) × Fits w64 (nat_abs (held x))
-  whole t = let (n, e, h) = signs.not_below x fits t in rw (e, signs.natural_held n h) (tt, record { fits = omega arith })
 
 -- whether total i is not below zero
 abbrev least : List ℤ → ℕ → Bool

@@ -31,11 +31,8 @@ fn totals_pass(
     let mut sum: u64 = 0;
     for i in 0..n {
         let a = columns[i];
-        if a < 0 {
-            return false;
-        }
         let b = diagonals[i];
-        if b < 0 {
+        if a < 0 || b < 0 {
             return false;
         }
         let x = a as u64;

@@ -22,10 +22,11 @@ fn column_sum(values: &[i64; MOST_PLACES], columns: usize, rows: usize, j: usize
 }
 
 // Whether column j has a total.
+#[tactic(auto, unfolding(crate::specs::Totals::has_total))]
 fn has_total(first: usize, end: usize, j: usize) -> bool
     ensures { result ≡ has_total first end j }
 {
-    if j < first { false } else { j < end }
+    first <= j && j < end
 }
 
 // The total's value in column j.

@@ -1,6 +1,6 @@
 -- The cumulatives of a row: their sum as the code takes it one increment a turn, and what question 6 says of each. Assumes nothing.
 use mathlib.Core.Path.{◌≡◌, refl, sym, ap, ◌∙◌}
-use mathlib.Core.Bool.{true, ◌&&◌, false≢true}
+use mathlib.Core.Bool.{Bool, true, ◌&&◌, false≢true}
 use mathlib.Core.List.{List}
 use Prim.Native.Nat.{ℕ, suc, ◌+◌, ◌-◌, ◌*◌, ◌≤◌, ◌<◌}
 use native.Mathlib.Decide.{dec_le}
@@ -21,6 +21,10 @@ use Rattle.laws.proofs.Lists.{both_right, every_up_to}
 use Rattle.laws.proofs.Totals.{total_more, total_each}
 use Rattle.laws.proofs.Signed.{held, size_fits}
 use Rattle.triangle.specs.Columns.{Increments, cumulative_in, column_sum}
+
+-- question 6 of one cumulative
+abbrev pub passes : ℕ → List ℤ → ℕ → ℕ → Bool
+passes k p i j = le_z (pos 0) (cumulative_of k p i j) && le_z (cumulative_of k p i j) (pos most_cumulative)
 
 module _ (k : ℕ) (p : List ℤ) (i : ℕ) (amounts : Increments p) where
   -- no increment's size is above 10^10

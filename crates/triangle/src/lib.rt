@@ -14,12 +14,9 @@ pub fn row_passes(increments: &[i64; 136], k: usize, i: usize, at: usize) -> boo
 {
     let mut sum: i64 = 0;
     let count = k + 1 - i;
-    for j in 0..count {
-        sum += increments[at + j];
-        if sum < 0 {
-            return false;
-        }
-        if sum > MOST_CUMULATIVE as i64 {
+    for x in &increments[at..at + count] {
+        sum += *x;
+        if sum < 0 || sum > MOST_CUMULATIVE as i64 {
             return false;
         }
     }

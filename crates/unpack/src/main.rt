@@ -8,14 +8,14 @@ use wording::put_refusal;
 // The figures of a record, or the words of its refusal.
 fn put_figures(rt: &HostRuntime, packed: &[u8]) {
     let mut text = [0u8; 8192];
-    let shown = unpack(packed, &mut text);
-    if shown.answer == 0 {
-        put_composed(rt, &text, shown.end);
-        return;
+    match unpack(packed, &mut text) {
+        Ok(end) => put_composed(rt, &text, end),
+        Err(answer) => {
+            let mut message = [0u8; 256];
+            let said = put_refusal(&mut message, 0, answer);
+            put_first(&rt.stderr(), &message, said);
+        }
     }
-    let mut message = [0u8; 256];
-    let said = put_refusal(&mut message, 0, shown.answer);
-    put_first(&rt.stderr(), &message, said);
 }
 
 fn main(rt: HostRuntime) {

@@ -1,7 +1,7 @@
 -- The record of an input: the part from its start on, and none where the input ends with its year or before, which question 1 refuses. Assumes nothing.
 use mathlib.Core.Path.{◌≡◌, refl, ◌∙◌}
 use mathlib.Core.List.{List, [], ◌∷◌}
-use Prim.Native.Nat.{ℕ, ◌-◌, ◌≤◌}
+use Prim.Native.Nat.{ℕ, ◌-◌, ◌≤◌, min}
 use native.Mathlib.Omega.{arith}
 use lib.ListN.{length, take, drop, length-drop}
 use lib.Seq.{take_all}
@@ -28,3 +28,15 @@ refused_one s m h = rw (no_record s h)
 pub worked_years : (year_in (7 ∷ 234 ∷ 16 ∷ []) ≡ 2026) × ((year_in (7 ∷ 235 ∷ []) ≡ 2027) × ((year_in (7 ∷ []) ≡ 0) × (year_in [] ≡ 0)))
 unfolding year_in pair_at
 worked_years = (refl, (refl, (refl, refl)))
+
+-- and the record starts behind both bytes, or where the input ends before
+pub record_from : (s : List ℕ) (n : ℕ) → n ≡ min (length s) 2 → (n ≤ length s) × (drop n s ≡ record_in s)
+unfolding record_in
+record_from s n e = (omega (arith, e), rw e (dropped s))
+  where
+    dropped : (s : List ℕ) → drop (min (length s) 2) s ≡ drop 2 s
+    dropped [] = refl
+    dropped (x ∷ []) = refl
+    dropped (x ∷ (y ∷ s)) =
+        let f : min (length (x ∷ (y ∷ s))) 2 ≡ 2 = omega arith in
+        rw f

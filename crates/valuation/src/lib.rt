@@ -4,19 +4,14 @@
 ghost use Rattle.std.specs.Prelude.{◌≡◌, ◌+◌, ◌<◌, ◌≤◌, length, drop};
 ghost use Rattle.valuation.specs.Valuation.{pair_at, year_in, record_in};
 
-fn wide(x: u8) -> usize
-    ensures { (result ≡ x) × (result < 256) }
-{
-    x as usize
-}
-
 // The number in the two bytes at place p.
+#[tactic(auto, unfolding(crate::specs::Valuation::pair_at))]
 pub fn pair_at(s: &[u8], p: usize) -> usize
     requires { p + 2 ≤ length s.now }
     ensures { (result ≡ pair_at s.now p) × (result < 65536) }
 {
-    let high = wide(s[p]);
-    let low = wide(s[p + 1]);
+    let high = usize::from(s[p]);
+    let low = usize::from(s[p + 1]);
     256 * high + low
 }
 
@@ -31,9 +26,9 @@ pub fn year_of(input: &[u8]) -> u64
 }
 
 // The place after the year, where the record starts; the end of an input that has no record.
+#[tactic(auto, using(crate::proofs::Inputs::record_from))]
 pub fn record_start(input: &[u8]) -> usize
     ensures { (result ≤ length input.now) × (drop result input.now ≡ record_in input.now) }
 {
-    let n = input.len();
-    if n < 2 { n } else { 2 }
+    input.len().min(2)
 }

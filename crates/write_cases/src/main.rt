@@ -3,24 +3,22 @@
 // full of 165. Writes the answer, and then the buffer's bytes in hexadecimal after an answer of 0, or whether a refusal left it unchanged.
 #![tactic(auto)]
 
-ghost use Rattle.std.specs.Prelude.{◌≡◌, ◌<◌, ◌≤◌, ◌^◌, length, take};
+ghost use Rattle.std.specs.Prelude.{◌≡◌, ◌<◌, ◌≤◌, ◌^◌, length, take, IfSome};
 
 use packing::field;
 use printing::{put_number, put_text, read_full};
 use writing::doonamurk_write;
 
-// A number and its size, and whether it was read whole. Once the input has ended no number is.
+// A number and its size.
 #[derive(Clone, Copy)]
 pub struct Number {
-    pub whole: bool,
     pub size: u64,
     pub value: i64,
 }
 
-// A list of at most 160 numbers and their sizes, and whether it was read whole.
+// A list of at most 160 numbers and their sizes.
 #[derive(Clone, Copy)]
 pub struct List {
-    pub whole: bool,
     pub count: usize,
     pub sizes: [u64; 160],
     pub values: [i64; 160],
@@ -31,70 +29,54 @@ fn signed(sign: u8, size: u64) -> i64
     requires { size < 2 ^ 56 }
 {
     let value = size as i64;
-    if sign == 1 { 0 - value } else { value }
+    if sign == 1 { -value } else { value }
 }
 
-// The next number.
-fn read_number(rt: &HostRuntime) -> Number {
+// The next number, none where the input ends.
+fn read_number(rt: &HostRuntime) -> Option<Number> {
     let mut bytes = [0u8; 8];
-    let got = read_full(rt, &mut bytes);
+    if read_full(rt, &mut bytes) < 8 {
+        return None;
+    }
     let size = field(&bytes, 8, 56);
-    Number {
-        whole: got == 8,
+    Some(Number {
         size,
         value: signed(bytes[0], size),
-    }
+    })
 }
 
-// The next list. Its count lies within both arrays, which lending a part of one needs.
-fn read_list(rt: &HostRuntime) -> List
-    ensures { ((result.count ≤ length result.sizes) × (result.count ≡ length (take result.count result.sizes)))
-        × ((result.count ≤ length result.values) × (result.count ≡ length (take result.count result.values))) }
+// The next list, none where the input ends or it is too long. Its count lies within both arrays, which lending a part of one needs.
+fn read_list(rt: &HostRuntime) -> Option<List>
+    ensures { IfSome result (λ l. ((l.count ≤ length l.sizes) × (l.count ≡ length (take l.count l.sizes)))
+        × ((l.count ≤ length l.values) × (l.count ≡ length (take l.count l.values)))) }
 {
     let mut sizes = [0u64; 160];
     let mut values = [0i64; 160];
-    let head = read_number(rt);
+    let head = read_number(rt)?;
     if head.size > 160 {
-        return List {
-            whole: false,
-            count: 0,
-            sizes,
-            values,
-        };
+        return None;
     }
     let count = head.size as usize;
-    let mut whole = head.whole;
-    for i in 0..count {
-        let x = read_number(rt);
-        whole = x.whole;
-        sizes[i] = x.size;
-        let value = x.value;
-        values[i] = value;
+    for (size, value) in sizes[..count].iter_mut().zip(&mut values[..count]) {
+        let x = read_number(rt)?;
+        *size = x.size;
+        *value = x.value;
     }
-    List {
-        whole,
+    Some(List {
         count,
         sizes,
         values,
-    }
+    })
 }
 
 // Whether each byte is still 165.
 fn unchanged(bytes: &[u8]) -> bool {
-    let n = bytes.len();
-    for i in 0..n {
-        if bytes[i] != 165 {
-            return false;
-        }
-    }
-    true
+    bytes.iter().all(|b| *b == 165)
 }
 
 // Writes the bytes in hexadecimal, two digits each.
 fn put_hexadecimal(rt: &HostRuntime, bytes: &[u8]) {
-    let n = bytes.len();
-    for i in 0..n {
-        let byte = bytes[i];
+    for byte in bytes {
         let _ = print!(rt; "{byte:02x}");
     }
 }
@@ -128,22 +110,19 @@ fn show(
     }
 }
 
-// One case; false where the input ends, or a list or the buffer is too long.
-fn case(rt: &HostRuntime) -> bool {
-    let size = read_number(rt).size;
-    let k = read_number(rt).size;
-    let weight = read_number(rt).size;
-    let tail = read_number(rt).size;
-    let exposures = read_list(rt);
-    let increments = read_list(rt);
-    let indices = read_list(rt);
-    let reporting = read_list(rt);
-    let totals = read_list(rt);
-    if !(exposures.whole && increments.whole && indices.whole && reporting.whole && totals.whole) {
-        return false;
-    }
+// One case, none where the input ends, or a list or the buffer is too long.
+fn case(rt: &HostRuntime) -> Option<()> {
+    let size = read_number(rt)?.size;
+    let k = read_number(rt)?.size;
+    let weight = read_number(rt)?.size;
+    let tail = read_number(rt)?.size;
+    let exposures = read_list(rt)?;
+    let increments = read_list(rt)?;
+    let indices = read_list(rt)?;
+    let reporting = read_list(rt)?;
+    let totals = read_list(rt)?;
     if size > 1000 {
-        return false;
+        return None;
     }
     let mut buffer = [165u8; 1000];
     let room = size as usize;
@@ -169,12 +148,12 @@ fn case(rt: &HostRuntime) -> bool {
         tail,
         &mut buffer[..room],
     );
-    true
+    Some(())
 }
 
 fn main(rt: HostRuntime) {
     for _ in 0..1000usize {
-        if !case(&rt) {
+        if case(&rt).is_none() {
             return;
         }
     }

@@ -1,6 +1,5 @@
 -- A tick stands between the lowest line and the highest, 204 and 24. Assumes nothing.
 use native.Mathlib.Omega.{arith}
-use Prim.Native.Nat.{◌-◌}
 use native.Mathlib.Nat.{mul-le-mul_left}
 use Rattle.composing.proofs.Puts.{put_four}
 use Rattle.axis.specs.Axis.{foot_line}

@@ -28,7 +28,7 @@ loop-again : tie.Need-loop-a-preserved invariant-loop decreases-loop
 loop-again c =
     let s = c.before.before.before.before.before in
     let l = c.before.before.before.before.loop-a in
-    (omega arith, c.larger-largest.ensures ∙ ap₂ max l.invariant.1 (c.before.side_of.ensures ∙ ap (side_of s.args.low) (to_z-of_z {w = w64} (sfits_of c.before.before.share_at.type_inv) ∙ c.before.before.share_at.ensures)) ∙ largest_more s.args.low s.args.list.now s.args.width s.args.j l.a)
+    (omega arith, c.max-largest.ensures ∙ ap₂ max l.invariant.1 (c.before.side_of.ensures ∙ ap (side_of s.args.low) (to_z-of_z {w = w64} (sfits_of c.before.before.share_at.type_inv) ∙ c.before.before.share_at.ensures)) ∙ largest_more s.args.low s.args.list.now s.args.width s.args.j l.a)
 
 returns : tie.Need-returns invariant-loop decreases-loop
 returns c =

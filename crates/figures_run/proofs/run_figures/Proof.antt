@@ -7,7 +7,7 @@ use Prim.Native.Nat.{ℕ, ◌+◌}
 use mathlib.Core.List.{List, [], ◌∷◌, ◌++◌}
 use lib.IntN.{ℤ}
 use Rattle.rules.specs.Lists.{up_to, every}
-use Rattle.rules.specs.Record.{figures, Figures}
+use Rattle.rules.specs.Record.{Figures}
 use Rattle.rules.specs.Triangle.{cumulatives_pass}
 use Rattle.rules.specs.Separation.{separation_questions, separate_answer}
 use Rattle.rules.specs.Results.{square_of, paid_in, development_in}
@@ -23,8 +23,7 @@ use Rattle.figures_run.proofs.run_figures.Statement.{statement}
 use Rattle.figures_run.proofs.run_figures.Tie as tie
 
 abbrev F : tie.Start → Figures
-F s =
-    figures s.args.k s.args.exposures.now s.args.increments.now s.args.indices.now s.args.reporting.now s.args.weight s.args.ulae.now s.args.tail
+F s = s.args.figures.now
 
 fill-rows-requires : tie.Need-fill_rows-requires
 fill-rows-requires c κs =

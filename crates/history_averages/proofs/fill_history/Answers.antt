@@ -1,7 +1,7 @@
 -- The loop's invariant: the averages of the origin years before i are stored, and `at` is where origin year i starts. Assumes nothing.
 use mathlib.Core.Path.{◌≡◌, refl, sym, ◌∙◌}
 use mathlib.Core.List.{List, []}
-use Prim.Native.Nat.{ℕ, ◌+◌, ◌-◌, ◌<◌}
+use Prim.Native.Nat.{ℕ, ◌+◌, ◌<◌}
 use native.Mathlib.Omega.{arith}
 use lib.IntN.{ℤ, pos}
 use lib.ListN.{get_or, set}
@@ -41,7 +41,7 @@ fill_year-requires c =
     let d = c.development_years-paid in
     let l = c.loop-i in
     let s = c in
-    let e = c.lesser-count.ensures in
+    let e = c.min-count.ensures in
     let inside = year_within s.args.years l.i (omega arith) in
     (omega (arith, e, d.ensures.1), (omega (arith, e, l.invariant.1, d.ensures.0, s.requires.1.0.1, inside), (s.requires.1.1.0.1, s.requires.1.1.0.0 _ (omega arith))))
 
@@ -59,7 +59,7 @@ loop-i-preserved c =
     let years = s.args.years in (
       omega arith,
       rw (l.invariant.1, d.ensures.0) (sym (start_more years l.i)),
-      more-years years s.args.width s.args.exposures.now s.args.cells.now l.i l.at (omega arith) l.invariant.1 l.rows _ l.invariant.2 (rw (c.lesser-count.ensures, d.ensures.0) at c.fill_year.ensures),
+      more-years years s.args.width s.args.exposures.now s.args.cells.now l.i l.at (omega arith) l.invariant.1 l.rows _ l.invariant.2 (rw (c.min-count.ensures, d.ensures.0) at c.fill_year.ensures),
     )
 
 pub returns : goal.returns

@@ -3,7 +3,7 @@ use borrow.Author.Rules.{rules}
 use mathlib.Core.Path.{◌≡◌, refl, sym, ◌∙◌}
 use mathlib.Core.Bool.{true}
 use Rattle.rules.specs.Questions.{first_no}
-use Rattle.rules.specs.History.{width_passes, history_passes, history_questions, history_answer}
+use Rattle.rules.specs.History.{width_passes, history_questions, history_answer}
 use Rattle.history_questions.proofs.history_answer.Statement.{statement}
 use Rattle.history_questions.proofs.history_answer.Tie as tie
 

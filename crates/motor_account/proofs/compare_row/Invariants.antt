@@ -3,4 +3,4 @@ use Rattle.std.proofs.Common.{◌≤◌}
 use Rattle.motor_account.proofs.compare_row.Given as goal
 
 abbrev pub invariant-loop-j : goal.invariant-loop-j
-invariant-loop-j l = (l.n ≤ 4) × (l.same ≤ l.j)
+invariant-loop-j l = l.same ≤ l.j

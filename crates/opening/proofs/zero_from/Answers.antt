@@ -16,7 +16,7 @@ field-last s at w h =
     let e : 8 * length s - (at + w) ≡ 0 = omega arith in
     rw (e, div-one (number_of s))
 
-pub returns : goal.returns
-returns c =
+pub returns-else-n-eq0 : goal.returns-else-n-eq0
+returns-else-n-eq0 c =
     let s = c.args.s.now in
     rw (c.field.ensures, field-last s c.args.end (8 * length s - c.args.end) (omega arith))

@@ -24,7 +24,7 @@ loop-again : tie.Need-loop-c-preserved invariant-loop decreases-loop
 loop-again c =
     let s = c.before.before.before.before in
     let l = c.before.before.before.loop-c in
-    (omega arith, (refl, c.larger-largest.ensures ∙ ap₂ max l.invariant.1.1 c.before.slot_largest.ensures ∙ largest_more s.args.low s.args.values.now s.args.s l.c))
+    (omega arith, (refl, c.max-largest.ensures ∙ ap₂ max l.invariant.1.1 c.before.slot_largest.ensures ∙ largest_more s.args.low s.args.values.now s.args.s l.c))
 
 returns : tie.Need-returns invariant-loop decreases-loop
 returns c =

@@ -21,7 +21,7 @@ returns c =
     let kept = to_z-of_z {w = w64} {z = first_bar values s.args.s s.args.c} (sfits_of c.before.before.before.before.before.before.side_of-arg-1.given) in
     let kept2 = to_z-of_z {w = w64} {z = second_bar values s.args.s s.args.c} (sfits_of c.before.before.side_of-arg-then-s-eq2-1.given) in
     rw (eq-eqb s.args.s.bars 2 c.before.before.before.if-s-eq2.true)
-    (c.larger.ensures ∙ ap₂ max (c.before.before.before.before.before.side_of-first.ensures ∙ ap (side_of s.args.low) kept) (c.before.side_of.ensures ∙ ap (side_of s.args.low) kept2))
+    (c.max.ensures ∙ ap₂ max (c.before.before.before.before.before.side_of-first.ensures ∙ ap (side_of s.args.low) kept) (c.before.side_of.ensures ∙ ap (side_of s.args.low) kept2))
 
 returns-2 : tie.Need-returns-else-s-eq2
 unfolding slot_largest

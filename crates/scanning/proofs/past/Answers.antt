@@ -9,8 +9,8 @@ returns-then-e-text c =
     let a = f.args in
     past_is (among a.set.now) a.text.now f.find-e.result f.find-e.ensures.0
 
-pub returns : goal.returns
-returns c =
+pub returns-else-e-text : goal.returns-else-e-text
+returns-else-e-text c =
     let f = c in
     let a = f.args in
     past_end (among a.set.now) a.text.now f.find-e.result f.find-e.ensures.0 c.if-e-text.false

@@ -1,6 +1,5 @@
 -- No size of the section is above the limit (size_most). Assumes nothing.
 use Rattle.section_numbers.proofs.Bounds.{size_most}
-use borrow.Author.Rules.{rules}
 use Rattle.section_numbers.proofs.section_largest.Statement.{statement}
 use Rattle.section_numbers.proofs.section_largest.Tie as tie
 

@@ -3,7 +3,7 @@ use borrow.Author.Rules.{rules}
 use native.Mathlib.Omega.{arith}
 use mathlib.Core.Path.{refl, sym, ◌∙◌}
 use Rattle.rules.specs.Lists.{every}
-use Rattle.rules.specs.Record.{figures, Figures}
+use Rattle.rules.specs.Record.{Figures}
 use Rattle.rules.specs.Tail.{tail_questions}
 use Rattle.rules.specs.Results.{first_tail_average_of}
 use Rattle.rules.specs.Engine.{last_questions, later_questions}
@@ -14,8 +14,7 @@ use Rattle.separated_run.proofs.run_separated.Statement.{statement}
 use Rattle.separated_run.proofs.run_separated.Tie as tie
 
 abbrev F : tie.Start → Figures
-F s =
-    figures s.args.k s.args.exposures.now s.args.increments.now s.args.indices.now s.args.reporting.now s.args.weight s.args.ulae.now s.args.tail
+F s = s.args.figures.now
 
 -- questions 18 and 19
 carry-tail-requires : tie.Need-carry_tail-carried-requires

@@ -1,6 +1,7 @@
 -- By the sign; the step is at most 5 (step_most). Assumes nothing.
 use Prim.Native.Nat.{ℕ, ◌+◌, ◌*◌, ◌/◌, ◌≤◌, max}
 use native.Mathlib.Omega.{arith}
+use native.Mathlib.Nat.{max_comm}
 use mathlib.Core.Path.{◌≡◌, ap, ◌∙◌}
 use lib.IntN.{nat_abs}
 use mir.Facts.{to_z-of_z}
@@ -28,7 +29,7 @@ returns c =
     let b = c.before.before in
     let s = b.before in
     let (n, e, h) = below_zero s.args.average s.ranges.average c.before.if-average-lt0.true in
-    (rw e (ap (λ (z : ℕ). 16 + z) (c.larger.ensures ∙ ap (max 1) (rw e at (step b)))), omega (arith, few b, c.larger.ensures))
+    (rw e (ap (λ (z : ℕ). 16 + z) (c.max.ensures ∙ max_comm _ 1 ∙ ap (max 1) (rw e at (step b)))), omega (arith, few b, c.max.ensures))
 
 returns-2 : tie.Need-returns-else-average-lt0
 unfolding size_mark
@@ -47,8 +48,8 @@ size_mark_spec =
     (λ c. search rules)
     (λ c. search rules)
     (λ c κs. search rules)
-    (λ c. omega (arith, few c.before.before, c.larger.ensures))
-    (λ c. omega (arith, few c.before.before, c.larger.ensures))
+    (λ c. omega (arith, few c.before.before, c.max.ensures))
+    (λ c. omega (arith, few c.before.before, c.max.ensures))
     (λ c κs. (omega arith, few c.before))
     returns
     returns-2)

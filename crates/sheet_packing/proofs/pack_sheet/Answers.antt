@@ -14,13 +14,13 @@ slice_bounds-put_wrong-end c = sym (list_long c.args.text.now _ _ _ c.read_sheet
 pub slice_bounds-put_wrong-end-then-f-ne0 : goal.slice_bounds-put_wrong-end-then-f-ne0
 slice_bounds-put_wrong-end-then-f-ne0 c = sym (word_long c.args.text.now _ _ _ c.read_sheet-f.ensures)
 
-pub put_wrong-said-requires : goal.put_wrong-said-requires
-put_wrong-said-requires c = asked c.args.text.now _ _ _ c.read_sheet-f.ensures
+pub put_wrong-requires : goal.put_wrong-requires
+put_wrong-requires c = asked c.args.text.now _ _ _ c.read_sheet-f.ensures
 
 pub returns-then-f-ne0 : goal.returns-then-f-ne0
 returns-then-f-ne0 c =
     let w = wrong c.args.text.now _ _ _ c.read_sheet-f.ensures c.if-f-ne0.true c.args.packed.now in
-    (w.0, (w.1.0, put_same w.1.1 c.put_wrong-said.ensures))
+    (w.0, (w.1.0, put_same w.1.1 c.put_wrong.ensures))
 
 pub slice_bounds-last_year-end : goal.slice_bounds-last_year-end
 slice_bounds-last_year-end c = sym (list_long c.args.text.now _ _ _ c.read_sheet-f.ensures)
@@ -45,7 +45,7 @@ returns-then-answer-ne0 c =
     let right = c.if-f-ne0.false in
     let w = c.write_fields-answer in
     let no = refused text _ _ _ read right _ c.last_year-k.ensures w.result w.ensures.0 c.if-answer-ne0.true in
-    (written text _ _ _ read right _ c.last_year-k.ensures _ _ w.ensures.1, (no.0, put_same no.1 c.put_refusal-said.ensures))
+    (written text _ _ _ read right _ c.last_year-k.ensures _ _ w.ensures.1, (no.0, put_same no.1 c.put_refusal.ensures))
 
 pub bytes_of-requires : goal.bytes_of-requires
 bytes_of-requires c = few c.args.text.now _ _ _ c.read_sheet-f.ensures c.if-f-ne0.false _ c.last_year-k.ensures

@@ -9,8 +9,8 @@ use Rattle.composing.proofs.Puts.{put_same}
 use Rattle.sheet_writing.proofs.Unpacked.{read_years, read_sheet_lem}
 use Rattle.sheet_writing.proofs.unpack.Goals as goal
 
-pub put_sheet-end-requires : goal.put_sheet-end-requires
-put_sheet-end-requires c =
+pub put_sheet-requires : goal.put_sheet-requires
+put_sheet-requires c =
     let s = c.args.packed.now in
     let small : Fit 8 s = λ i. omega (arith, c.type_inv.packed i) in
     let read = c.doonamurk_read-answer.ensures in
@@ -24,4 +24,4 @@ returns c =
     let read = c.doonamurk_read-answer.ensures in
     let yes : c.doonamurk_read-answer.result ≡ 0 = omega arith in
     let text = read_sheet_lem s small (sym read.0 ∙ yes) (replicate most_fields (pos 0)) refl in
-    (read.0, put_same text (rw read.1 at c.put_sheet-end.ensures))
+    (sym yes ∙ read.0, put_same text (rw read.1 at c.put_sheet.ensures))

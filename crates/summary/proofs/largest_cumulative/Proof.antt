@@ -11,14 +11,14 @@ use borrow.Author.Rules.{rules}
 use Rattle.summary.proofs.largest_cumulative.Statement.{statement}
 use Rattle.summary.proofs.largest_cumulative.Tie as tie
 
-section-largest-requires : tie.Need-section_largest-requires
+section-largest-requires : tie.Need-section_largest-given-requires
 section-largest-requires c κs =
     let s = c.before in
     let k = s.args.k in
     let p = all_placed k s.requires.0 in
     rw (s.requires.1.1.0, c.cells_of-m.ensures.0) (spans k s.args.figures.now s.requires.0 s.requires.1.1.1 (added_at k).cumulatives (cells k) (omega arith) (omega arith))
 
-section-largest-requires-2 : tie.Need-section_largest-requires-2
+section-largest-requires-2 : tie.Need-section_largest-completed-requires
 section-largest-requires-2 c κs =
     let s = c.before.before in
     let k = s.args.k in
@@ -30,9 +30,9 @@ unfolding largest_cumulative
 returns c =
     let s = c.before.before.before.before in
     let m = c.before.before.before.cells_of-m.ensures.0 in
-    let first = rw (s.requires.1.1.0, m) at c.before.before.section_largest.ensures in
-    let second = rw (s.requires.1.0, m) at c.before.section_largest-2.ensures in
-    (c.larger.ensures ∙ ap₂ max first.0 second.0, omega (arith, c.larger.ensures, first.1, second.1))
+    let first = rw (s.requires.1.1.0, m) at c.before.before.section_largest-given.ensures in
+    let second = rw (s.requires.1.0, m) at c.before.section_largest-completed.ensures in
+    (c.max.ensures ∙ ap₂ max first.0 second.0, omega (arith, c.max.ensures, first.1, second.1))
 
 pub largest_cumulative_spec : {M : Type 1} → statement M
 largest_cumulative_spec =

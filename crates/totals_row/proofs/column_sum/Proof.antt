@@ -1,13 +1,12 @@
 -- The loop's invariant: the terms of the first i rows are added up (Adding). Assumes nothing.
 use mathlib.Core.Path.{◌≡◌, refl, sym, ap, ◌∙◌}
-use Prim.Native.Nat.{ℕ, ◌+◌, ◌*◌, ◌-◌, ◌≤◌}
+use Prim.Native.Nat.{◌+◌, ◌*◌, ◌-◌, ◌≤◌}
 use native.Mathlib.Omega.{arith}
 use mir.Syntax.{w64}
-use mir.Val.{to_z, of_z}
-use lib.IntN.{ℤ, pos, ◌+ℤ◌}
+use mir.Val.{of_z}
+use lib.IntN.{pos}
 use lib.ListN.{get_or}
 use Rattle.rules.specs.Triangle.{sum_to}
-use Rattle.laws.proofs.Signed.{held}
 use Rattle.laws.proofs.Adding.{sum_to_read, sum_to_step, step_fits}
 use Rattle.table_cells.proofs.Cells.{place_room}
 use Rattle.totals_row.specs.Totals.{most_value}

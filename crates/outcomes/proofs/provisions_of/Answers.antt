@@ -1,0 +1,20 @@
+-- One provision more (filled_more). Assumes nothing.
+use Rattle.std.proofs.Common.{ℕ, ◌≡◌, ◌+◌, ◌<◌, get_or, pos, nat_abs, arith, rules}
+use Rattle.std.proofs.lemmas.List.{get_or-take, get_or-drop}
+use Rattle.laws.proofs.Padded.{filled_none, filled_more}
+use Rattle.outcomes.proofs.provisions_of.Goals as goal
+
+pub loop-i-init : goal.loop-i-init
+loop-i-init c = filled_none 16 0 _
+
+pub loop-i-preserved : goal.loop-i-preserved
+loop-i-preserved c =
+    let f : ℕ → ℕ = λ j. nat_abs (get_or c.args.list.now (c.args.p + j) (pos 0)) in
+    let here : c.size_of.result ≡ f c.loop-i.i = search (rules, get_or-take, get_or-drop) in
+    let few : c.loop-i.i < c.args.k + 1 = search rules in
+    rw (here, c.loop-i.invariant) (filled_more 16 0 f c.loop-i.i (omega arith))
+
+pub returns : goal.returns
+returns c =
+    let e : c.loop-i.i ≡ c.args.k + 1 = search rules in
+    rw e at c.loop-i.invariant
