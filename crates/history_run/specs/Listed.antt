@@ -1,5 +1,5 @@
 -- The history that a text has, and the list of its positions. Assumes nothing.
-use Rattle.std.specs.Prelude.{ℕ, Bool, List, eqb, ℤ, Result, Ok, Err}
+use Rattle.std.specs.Prelude.{ℕ, Bool, List, eqb, ℤ}
 use Rattle.rules.specs.History.{history_list}
 use Rattle.sheet.specs.Sheet.{last_year_in, read_history}
 use Rattle.history_parts.specs.Parts.{width_in, exposures_after, increments_after}
@@ -25,8 +25,3 @@ list_of text = history_list (years_of text) (width_of text) (exposures_of text) 
 -- whether a text has a list: it is as due, and then the call accepts its history (proofs/Outcomes.antt, `accepted`)
 unfoldable pub has_list : List ℕ → Bool
 has_list text = eqb (read_history text).problem 0
-
--- how many bytes of the message there are, none where there is a list
-abbrev pub said_in : {A : Type 0} → Result A ℕ → ℕ
-said_in (Ok found) = 0
-said_in (Err said) = said

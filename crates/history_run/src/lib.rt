@@ -5,9 +5,9 @@ ghost use Rattle.std.specs.Prelude.{◌≡◌, cond, length, is_ok, IfOk};
 ghost use Rattle.std.proofs.lemmas.List.Edits.{sets};
 ghost use Rattle.rules.specs.History.{most_history_entries, history_count, history_list, history_answer};
 ghost use Rattle.composing.specs.Text.{Put};
-ghost use Rattle.history_wording.specs.Refused.{history_said};
+ghost use Rattle.history_wording.specs.Refused.{history_said, message_bytes};
 ghost use Rattle.history_parts.specs.Parts.{exposures_after, increments_after};
-ghost use Rattle.history_run.specs.Listed.{years_of, width_of, list_of, has_list, said_in};
+ghost use Rattle.history_run.specs.Listed.{years_of, width_of, list_of, has_list};
 
 use history::doonamurk_history;
 use history_parts::{exposures_of, increments_of};
@@ -46,7 +46,7 @@ pub fn list_text(text: &[u8], list: &mut [i64], message: &mut [u8]) -> Result<Li
     ensures { (is_ok result ≡ has_list text.now)
         × (IfOk result (λ found. (found.years ≡ years_of text.now) × (found.width ≡ width_of text.now))
         × ((list.new ≡ cond (has_list text.now) (sets list.old 0 (list_of text.now)) list.old)
-        × Put message.old message.new 0 (said_in result) (history_said text.now))) }
+        × Put message.old message.new 0 (message_bytes result) (history_said text.now))) }
 {
     let mut numbers = [0i64; MOST_NUMBERS];
     let taken = take_history(text, &mut numbers, message);

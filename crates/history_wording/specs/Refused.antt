@@ -1,5 +1,5 @@
 -- What is wrong with a text, of a history or of figures, with the refusal in front where there is one (docs/SHEET.md). Assumes nothing.
-use Rattle.std.specs.Prelude.{ℕ, Bool, true, cond, List, [], ◌++◌, eqb, ltb}
+use Rattle.std.specs.Prelude.{ℕ, Bool, true, cond, List, [], ◌++◌, eqb, ltb, Result, Ok, Err}
 use Rattle.composing.specs.Text.{ascii, decimal}
 use Rattle.sheet.specs.Sheet.{Typed, read_history}
 use Rattle.sheet_wording.specs.Problem.{problem_text}
@@ -23,3 +23,8 @@ wrong_text history t = problem_front history t.problem t.place ++ problem_text h
 -- what is said of the text of a history: nothing where nothing is wrong
 unfoldable pub history_said : List ℕ → List ℕ
 history_said text = cond (eqb (read_history text).problem 0) [] (wrong_text true (read_history text))
+
+-- how many bytes of a message there are: none where all was well
+abbrev pub message_bytes : {A : Type 0} → Result A ℕ → ℕ
+message_bytes (Ok done) = 0
+message_bytes (Err said) = said

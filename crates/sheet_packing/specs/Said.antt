@@ -13,11 +13,7 @@ said_of t =
 unfoldable pub size_of : Typed → ℕ
 size_of t = cond (eqb t.problem 0 && eqb (pack_answer t) 0) (record_size t.numbers) 0
 
--- of what packing came to, how many bytes of the record and of the message there are
+-- of what packing came to, how many bytes of the record there are
 abbrev pub size_in : Result ℕ ℕ → ℕ
 size_in (Ok size) = size
 size_in (Err said) = 0
-
-abbrev pub said_in : Result ℕ ℕ → ℕ
-said_in (Ok size) = 0
-said_in (Err said) = said

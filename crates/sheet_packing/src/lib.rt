@@ -4,7 +4,8 @@
 ghost use Rattle.std.specs.Prelude.{◌≡◌};
 ghost use Rattle.composing.specs.Text.{Put};
 ghost use Rattle.sheet.specs.Sheet.{read_sheet, pack_into};
-ghost use Rattle.sheet_packing.specs.Said.{said_of, size_of, said_in, size_in};
+ghost use Rattle.history_wording.specs.Refused.{message_bytes};
+ghost use Rattle.sheet_packing.specs.Said.{said_of, size_of, size_in};
 
 use history_wording::put_wrong;
 use layout::bytes_of;
@@ -22,7 +23,7 @@ pub fn pack_sheet(
 ) -> Result<usize, usize>
     ensures { (packed.new ≡ pack_into (read_sheet text.now) packed.old)
         × ((size_in result ≡ size_of (read_sheet text.now))
-        × Put message.old message.new 0 (said_in result) (said_of (read_sheet text.now))) }
+        × Put message.old message.new 0 (message_bytes result) (said_of (read_sheet text.now))) }
 {
     let mut list = [0i64; MOST_FIELDS];
     let mut word = [0u8; 20];

@@ -4,7 +4,8 @@
 ghost use Rattle.std.specs.Prelude.{◌≡◌};
 ghost use Rattle.composing.specs.Text.{Put};
 ghost use Rattle.sheet.specs.Sheet.{packed_into};
-ghost use Rattle.sheet_packing.specs.Said.{said_in, size_in};
+ghost use Rattle.history_wording.specs.Refused.{message_bytes};
+ghost use Rattle.sheet_packing.specs.Said.{size_in};
 ghost use Rattle.text_packing.specs.Packed.{packed_said, packed_size};
 
 use inflation_asking::fault_asked;
@@ -21,7 +22,7 @@ pub fn pack_text(
 ) -> Result<usize, usize>
     ensures { (packed.new ≡ packed_into text.now packed.old)
         × ((size_in result ≡ packed_size text.now)
-        × Put message.old message.new 0 (said_in result) (packed_said text.now)) }
+        × Put message.old message.new 0 (message_bytes result) (packed_said text.now)) }
 {
     let rest = without_mark(text);
     let fault = fault_asked(rest);
