@@ -1,14 +1,14 @@
 -- Numbers of two lists that are the same, and what is so of a line that is shown: its rates make the indices of the record. Assumes nothing.
-use mathlib.Core.Path.{◌≡◌, refl, sym, ap, ◌∙◌}
+use mathlib.Core.Path.{◌≡◌, refl, sym, ap, ap₂, ◌∙◌}
 use mathlib.Core.Bool.{Bool, true, false, ◌&&◌, cond}
 use mathlib.Core.Logic.{◌⊎◌, inl, inr}
-use mathlib.Core.List.{List, [], ◌∷◌}
-use Prim.Native.Nat.{ℕ, zero, suc, ◌+◌, ◌≤◌}
+use mathlib.Core.List.{List, []}
+use Prim.Native.Nat.{ℕ, zero, suc, ◌+◌}
 use native.Mathlib.Omega.{arith}
 use borrow.Author.Tests.{ne_eqb, eqb-true}
 use lib.Dec.{eqb}
-use lib.ListN.{length, get_or, take}
-use lib.Pointwise.{pointwise}
+use lib.ListN.{get_or}
+use Rattle.std.specs.List.{list_all, range_with_len}
 use Rattle.rules.specs.Lists.{up_to, padded, every}
 use Rattle.rules.specs.Questions.{after_call}
 use Rattle.rules.specs.Record.{last_year_of, figures_of}
@@ -21,19 +21,21 @@ use Rattle.rates_shown.specs.RatesShown.{same_first, makes_indices, shown_rates,
 
 -- whether two numbers at the same place are the same
 module _ (xs ys : List ℕ) where
-  abbrev same : ℕ → Bool
+  abbrev pub same : ℕ → Bool
   same i = eqb (get_or xs i 0) (get_or ys i 0)
 
--- that is so where their first n numbers are the same list
-pub same_is : (n : ℕ) (xs ys : List ℕ) → n ≤ length xs → n ≤ length ys → pointwise eqb (take n xs) (take n ys) ≡ same_first n xs ys
-unfolding same_first up_to every
-same_is zero xs ys h l = refl
-same_is (suc n) [] ys h l = absurd (omega arith)
-same_is (suc n) (x ∷ xs) [] h l = absurd (omega arith)
-same_is (suc n) (x ∷ xs) (y ∷ ys) h l =
-    ap (λ (b : Bool). eqb x y && b)
-    (same_is n xs ys (omega arith) (omega arith) ∙ every_same (same xs ys) (same (x ∷ xs) (y ∷ ys)) (λ i. i) (λ i. suc i) n (λ i k. refl))
-    ∙ sym (ap (every (same (x ∷ xs) (y ∷ ys))) (up_to_cons (λ i. i) n))
+-- a test of n numbers from i on is what `all` of their range asks
+all_range : (p : ℕ → Bool) (f : ℕ → ℕ) (i n : ℕ) → ((j : ℕ) → f j ≡ i + j) → list_all p (range_with_len i n) ≡ every p (up_to f n)
+unfolding every up_to
+all_range p f i zero h = refl
+all_range p f i (suc n) h =
+    ap₂ (λ (x : ℕ) (b : Bool). p x && b) (omega (arith, h 0)) (all_range p (λ j. f (suc j)) (i + 1) n (λ j. omega (arith, h (suc j))))
+    ∙ sym (ap (every p) (up_to_cons f n))
+
+-- whether the first n numbers are the same
+pub same_is : (n : ℕ) (xs ys : List ℕ) → list_all (same xs ys) (range_with_len 0 n) ≡ same_first n xs ys
+unfolding same_first
+same_is n xs ys = all_range (same xs ys) (λ i. i) 0 n (λ j. omega arith)
 
 -- the indices of an accepted call stand in its array
 pub made_indices : (shape : Inflation) (years : ℕ) → inflation_answer shape years ≡ 0 → (indices_of shape years).values ≡ padded most_years 0 (up_to (index_after shape) years)

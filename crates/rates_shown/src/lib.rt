@@ -16,12 +16,11 @@ use reading::read;
 use rules::Inflation;
 
 // Whether the first n numbers of two lists are the same.
-#[tactic(auto, using(crate::proofs::Shown::same_is))]
 fn same_first(a: &[u64; 16], b: &[u64; 16], n: usize) -> bool
     requires { n ≤ most_years }
     ensures { result ≡ same_first n a.now b.now }
 {
-    a[..n] == b[..n]
+    (0..n).all(|i| a[i] == b[i])
 }
 
 // The indices of a record that has passed questions 1, 2, 4 and 5.

@@ -1,6 +1,6 @@
 -- The outcomes of packing a text: it is not as due, the writer refuses it, or there is a record. Assumes nothing.
 use mathlib.Core.Path.{◌≡◌, refl, sym, ap, ap₂, ◌∙◌}
-use mathlib.Core.Bool.{false}
+use mathlib.Core.Bool.{true, false}
 use mathlib.Core.List.{List, [], ◌++◌}
 use Prim.Native.Nat.{ℕ, ◌+◌, ◌≤◌, ◌<◌}
 use native.Mathlib.Omega.{arith}
@@ -20,7 +20,7 @@ use Rattle.sheet_fields.proofs.FieldSections.{given_front}
 use Rattle.sheet_wording.specs.Problem.{problem_line}
 use Rattle.history_wording.specs.Refused.{problem_front}
 use Rattle.history_wording.proofs.Told.{told_numbers, told_long, told_word, told_asked, told_wrong}
-use Rattle.sheet_packing.specs.Said.{said_of, size_of}
+use Rattle.sheet_packing.specs.Said.{said_of, has_record, size_of}
 
 module _ (text : List ℕ) (f : Found) (list : List ℤ) (word : List ℕ) (h : Reads (read_sheet text) f (replicate most_fields (pos 0)) list (replicate 20 0) word) where
   abbrev t : Typed
@@ -52,6 +52,9 @@ module _ (text : List ℕ) (f : Found) (list : List ℤ) (word : List ℕ) (h : 
   wrong some buffer =
       let no = ne_eqb t.problem 0 (λ e. some (problem ∙ e)) in
       rw no (refl, (refl, told_wrong false text f (replicate most_fields (pos 0)) list word (length-replicate most_fields (pos 0)) h))
+
+  pub wrong_told : (f.problem ≡ 0 → ⊥) → false ≡ has_record t
+  wrong_told some = rw (ne_eqb t.problem 0 (λ e. some (problem ∙ e))) refl
 
   -- nothing is
   module _ (right : f.problem ≡ 0) (k : ℕ) (e : k ≡ last_year_in (take f.count list)) where
@@ -88,7 +91,13 @@ module _ (text : List ℕ) (f : Found) (list : List ℤ) (word : List ℕ) (h : 
         let e = answered answer a in
         rw (ne_eqb (pack_answer t) 0 (λ z. some (sym e ∙ z)), e, none) (refl, refl)
 
+    pub refused_told : (answer : ℕ) → answer ≡ write_answer (given_at k list) (byte_count k) → (answer ≡ 0 → ⊥) → false ≡ has_record t
+    refused_told answer a some = rw (ne_eqb (pack_answer t) 0 (λ z. some (sym (answered answer a) ∙ z)), none) refl
+
     -- there is a record
     pub made : (answer : ℕ) → answer ≡ write_answer (given_at k list) (byte_count k) → answer ≡ 0 → (byte_count k ≡ size_of t) × ([] ≡ said_of t)
     unfolding size_of said_of
     made answer a e = rw (eq-eqb (pack_answer t) 0 (answered answer a ∙ e), none) (ap byte_count years, refl)
+
+    pub made_told : (answer : ℕ) → answer ≡ write_answer (given_at k list) (byte_count k) → answer ≡ 0 → true ≡ has_record t
+    made_told answer a e = rw (eq-eqb (pack_answer t) 0 (answered answer a ∙ e), none) refl

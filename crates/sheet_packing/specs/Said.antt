@@ -1,5 +1,5 @@
 -- What packing a text says, and how long its record is. Assumes nothing.
-use Rattle.std.specs.Prelude.{ℕ, false, cond, ◌&&◌, List, [], eqb, Result, Ok, Err}
+use Rattle.std.specs.Prelude.{ℕ, Bool, false, cond, ◌&&◌, List, [], eqb, Result, Ok, Err}
 use Rattle.wording.specs.Wording.{refusal_text}
 use Rattle.sheet.specs.Sheet.{Typed, record_size, pack_answer}
 use Rattle.history_wording.specs.Refused.{wrong_text}
@@ -8,6 +8,10 @@ use Rattle.history_wording.specs.Refused.{wrong_text}
 unfoldable pub said_of : Typed → List ℕ
 said_of t =
     cond (eqb t.problem 0) (cond (eqb (pack_answer t) 0) [] (refusal_text (pack_answer t))) (wrong_text false t)
+
+-- whether there is a record: the text is as due, and the writer refuses none of its figures
+abbrev pub has_record : Typed → Bool
+has_record t = eqb t.problem 0 && eqb (pack_answer t) 0
 
 -- how many bytes the record has; 0 where there is none
 unfoldable pub size_of : Typed → ℕ

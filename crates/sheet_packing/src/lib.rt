@@ -1,11 +1,11 @@
 // Figures typed as text, packed into a record, or in words what is wrong with them.
 #![tactic(auto)]
 
-ghost use Rattle.std.specs.Prelude.{◌≡◌};
+ghost use Rattle.std.specs.Prelude.{◌≡◌, is_ok};
 ghost use Rattle.composing.specs.Text.{Put};
 ghost use Rattle.sheet.specs.Sheet.{read_sheet, pack_into};
 ghost use Rattle.history_wording.specs.Refused.{message_bytes};
-ghost use Rattle.sheet_packing.specs.Said.{said_of, size_of, size_in};
+ghost use Rattle.sheet_packing.specs.Said.{said_of, has_record, size_of, size_in};
 
 use history_wording::put_wrong;
 use layout::bytes_of;
@@ -21,9 +21,10 @@ pub fn pack_sheet(
     packed: &mut [u8; MOST_BYTES],
     message: &mut [u8],
 ) -> Result<usize, usize>
-    ensures { (packed.new ≡ pack_into (read_sheet text.now) packed.old)
+    ensures { (is_ok result ≡ has_record (read_sheet text.now))
+        × ((packed.new ≡ pack_into (read_sheet text.now) packed.old)
         × ((size_in result ≡ size_of (read_sheet text.now))
-        × Put message.old message.new 0 (message_bytes result) (said_of (read_sheet text.now))) }
+        × Put message.old message.new 0 (message_bytes result) (said_of (read_sheet text.now)))) }
 {
     let mut list = [0i64; MOST_FIELDS];
     let mut word = [0u8; 20];

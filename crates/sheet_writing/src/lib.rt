@@ -1,7 +1,7 @@
 // The fields of a record as text: labelled lines, the increments of each origin year in a line of their own.
 #![tactic(auto)]
 
-ghost use Rattle.std.specs.Prelude.{◌≡◌, ◌+◌, ◌<◌, ◌≤◌, length, take, drop};
+ghost use Rattle.std.specs.Prelude.{◌≡◌, ◌+◌, ◌<◌, ◌≤◌, eqb, length, take, drop, is_ok};
 ghost use Rattle.rules.specs.Record.{most_fields};
 ghost use Rattle.rules.specs.Reading.{read_answer_of};
 ghost use Rattle.composing.specs.Text.{Put};
@@ -58,8 +58,9 @@ pub fn put_sheet(out: &mut [u8], list: &[i64; MOST_FIELDS]) -> usize
 // Puts the fields of a record as text into the buffer and answers where it ends, or leaves the buffer; the error is the number of the reader's question.
 #[tactic(auto, using(crate::proofs::Unpacked::none_shown))]
 pub fn unpack(packed: &[u8], out: &mut [u8]) -> Result<usize, u64>
-    ensures { (answer_in result ≡ read_answer_of packed.now most_fields)
-        × Put out.old out.new 0 (end_in result) (shown_text packed.now) }
+    ensures { (is_ok result ≡ eqb (read_answer_of packed.now most_fields) 0)
+        × ((answer_in result ≡ read_answer_of packed.now most_fields)
+        × Put out.old out.new 0 (end_in result) (shown_text packed.now)) }
 {
     let mut list = [0i64; MOST_FIELDS];
     let answer = doonamurk_read(packed, &mut list);

@@ -1,12 +1,12 @@
 // Figures typed as text, packed into a record; a line of inflation is asked before the other lines.
 #![tactic(auto)]
 
-ghost use Rattle.std.specs.Prelude.{◌≡◌};
+ghost use Rattle.std.specs.Prelude.{◌≡◌, is_ok};
 ghost use Rattle.composing.specs.Text.{Put};
 ghost use Rattle.sheet.specs.Sheet.{packed_into};
 ghost use Rattle.history_wording.specs.Refused.{message_bytes};
 ghost use Rattle.sheet_packing.specs.Said.{size_in};
-ghost use Rattle.text_packing.specs.Packed.{packed_said, packed_size};
+ghost use Rattle.text_packing.specs.Packed.{packed_said, is_packed, packed_size};
 
 use inflation_asking::fault_asked;
 use inflation_wording::put_fault;
@@ -20,9 +20,10 @@ pub fn pack_text(
     packed: &mut [u8; MOST_BYTES],
     message: &mut [u8],
 ) -> Result<usize, usize>
-    ensures { (packed.new ≡ packed_into text.now packed.old)
+    ensures { (is_ok result ≡ is_packed text.now)
+        × ((packed.new ≡ packed_into text.now packed.old)
         × ((size_in result ≡ packed_size text.now)
-        × Put message.old message.new 0 (message_bytes result) (packed_said text.now)) }
+        × Put message.old message.new 0 (message_bytes result) (packed_said text.now))) }
 {
     let rest = without_mark(text);
     let fault = fault_asked(rest);

@@ -9,9 +9,10 @@ use packing::field;
 use printing::{put_number, put_text, read_full};
 use writing::doonamurk_write;
 
-// A number and its size.
+// A number and its size, and whether it was read whole.
 #[derive(Clone, Copy)]
 pub struct Number {
+    pub whole: bool,
     pub size: u64,
     pub value: i64,
 }
@@ -32,35 +33,39 @@ fn signed(sign: u8, size: u64) -> i64
     if sign == 1 { -value } else { value }
 }
 
-// The next number, none where the input ends.
-fn read_number(rt: &HostRuntime) -> Option<Number> {
+// The next number. On a terminal more may follow the end of the input, so that each is asked for, whatever came of the one before it.
+fn read_number(rt: &HostRuntime) -> Number {
     let mut bytes = [0u8; 8];
-    if read_full(rt, &mut bytes) < 8 {
-        return None;
-    }
+    let got = read_full(rt, &mut bytes);
     let size = field(&bytes, 8, 56);
-    Some(Number {
+    Number {
+        whole: got == 8,
         size,
         value: signed(bytes[0], size),
-    })
+    }
 }
 
-// The next list, none where the input ends or it is too long. Its count lies within both arrays, which lending a part of one needs.
+// The next list, none where its last number was not read whole or it is too long. Its count lies within both arrays, which lending a part of one needs.
 fn read_list(rt: &HostRuntime) -> Option<List>
     ensures { IfSome result (λ l. ((l.count ≤ length l.sizes) × (l.count ≡ length (take l.count l.sizes)))
         × ((l.count ≤ length l.values) × (l.count ≡ length (take l.count l.values)))) }
 {
     let mut sizes = [0u64; 160];
     let mut values = [0i64; 160];
-    let head = read_number(rt)?;
+    let head = read_number(rt);
     if head.size > 160 {
         return None;
     }
     let count = head.size as usize;
+    let mut whole = head.whole;
     for (size, value) in sizes[..count].iter_mut().zip(&mut values[..count]) {
-        let x = read_number(rt)?;
+        let x = read_number(rt);
+        whole = x.whole;
         *size = x.size;
         *value = x.value;
+    }
+    if !whole {
+        return None;
     }
     Some(List {
         count,
@@ -110,17 +115,22 @@ fn show(
     }
 }
 
-// One case, none where the input ends, or a list or the buffer is too long.
+// One case, none where a list was not read whole, or a list or the buffer is too long.
 fn case(rt: &HostRuntime) -> Option<()> {
-    let size = read_number(rt)?.size;
-    let k = read_number(rt)?.size;
-    let weight = read_number(rt)?.size;
-    let tail = read_number(rt)?.size;
-    let exposures = read_list(rt)?;
-    let increments = read_list(rt)?;
-    let indices = read_list(rt)?;
-    let reporting = read_list(rt)?;
-    let totals = read_list(rt)?;
+    let size = read_number(rt).size;
+    let k = read_number(rt).size;
+    let weight = read_number(rt).size;
+    let tail = read_number(rt).size;
+    let exposures = read_list(rt);
+    let increments = read_list(rt);
+    let indices = read_list(rt);
+    let reporting = read_list(rt);
+    let totals = read_list(rt);
+    let exposures = exposures?;
+    let increments = increments?;
+    let indices = indices?;
+    let reporting = reporting?;
+    let totals = totals?;
     if size > 1000 {
         return None;
     }
