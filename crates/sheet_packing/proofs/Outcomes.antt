@@ -53,8 +53,8 @@ module _ (text : List ℕ) (f : Found) (list : List ℤ) (word : List ℕ) (h : 
       let no = ne_eqb t.problem 0 (λ e. some (problem ∙ e)) in
       rw no (refl, (refl, told_wrong false text f (replicate most_fields (pos 0)) list word (length-replicate most_fields (pos 0)) h))
 
-  pub wrong_told : (f.problem ≡ 0 → ⊥) → false ≡ has_record t
-  wrong_told some = rw (ne_eqb t.problem 0 (λ e. some (problem ∙ e))) refl
+  pub wrong_has_none : (f.problem ≡ 0 → ⊥) → false ≡ has_record t
+  wrong_has_none some = rw (ne_eqb t.problem 0 (λ e. some (problem ∙ e))) refl
 
   -- nothing is
   module _ (right : f.problem ≡ 0) (k : ℕ) (e : k ≡ last_year_in (take f.count list)) where
@@ -91,13 +91,13 @@ module _ (text : List ℕ) (f : Found) (list : List ℤ) (word : List ℕ) (h : 
         let e = answered answer a in
         rw (ne_eqb (pack_answer t) 0 (λ z. some (sym e ∙ z)), e, none) (refl, refl)
 
-    pub refused_told : (answer : ℕ) → answer ≡ write_answer (given_at k list) (byte_count k) → (answer ≡ 0 → ⊥) → false ≡ has_record t
-    refused_told answer a some = rw (ne_eqb (pack_answer t) 0 (λ z. some (sym (answered answer a) ∙ z)), none) refl
+    pub refused_has_none : (answer : ℕ) → answer ≡ write_answer (given_at k list) (byte_count k) → (answer ≡ 0 → ⊥) → false ≡ has_record t
+    refused_has_none answer a some = rw (ne_eqb (pack_answer t) 0 (λ z. some (sym (answered answer a) ∙ z)), none) refl
 
     -- there is a record
     pub made : (answer : ℕ) → answer ≡ write_answer (given_at k list) (byte_count k) → answer ≡ 0 → (byte_count k ≡ size_of t) × ([] ≡ said_of t)
     unfolding size_of said_of
     made answer a e = rw (eq-eqb (pack_answer t) 0 (answered answer a ∙ e), none) (ap byte_count years, refl)
 
-    pub made_told : (answer : ℕ) → answer ≡ write_answer (given_at k list) (byte_count k) → answer ≡ 0 → true ≡ has_record t
-    made_told answer a e = rw (eq-eqb (pack_answer t) 0 (answered answer a ∙ e), none) refl
+    pub made_has_one : (answer : ℕ) → answer ≡ write_answer (given_at k list) (byte_count k) → answer ≡ 0 → true ≡ has_record t
+    made_has_one answer a e = rw (eq-eqb (pack_answer t) 0 (answered answer a ∙ e), none) refl

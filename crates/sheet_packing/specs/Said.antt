@@ -15,7 +15,7 @@ has_record t = eqb t.problem 0 && eqb (pack_answer t) 0
 
 -- how many bytes the record has; 0 where there is none
 unfoldable pub size_of : Typed → ℕ
-size_of t = cond (eqb t.problem 0 && eqb (pack_answer t) 0) (record_size t.numbers) 0
+size_of t = cond (has_record t) (record_size t.numbers) 0
 
 -- of what packing came to, how many bytes of the record there are
 abbrev pub size_in : Result ℕ ℕ → ℕ

@@ -4,7 +4,7 @@ use mathlib.Core.Path.{◌≡◌, sym, ◌∙◌}
 use lib.ListN.{length}
 use Rattle.rules.specs.Record.{most_bytes}
 use Rattle.composing.proofs.Puts.{put_same, put_none}
-use Rattle.sheet_packing.proofs.Outcomes.{list_long, word_long, asked, wrong, wrong_told, few, written, refused, refused_told, made, made_told}
+use Rattle.sheet_packing.proofs.Outcomes.{list_long, word_long, asked, wrong, wrong_has_none, few, written, refused, refused_has_none, made, made_has_one}
 use borrow.Author.Rules.{rules}
 use Rattle.sheet_packing.proofs.pack_sheet.Goals as goal
 
@@ -21,7 +21,7 @@ pub returns-then-f-ne0 : goal.returns-then-f-ne0
 returns-then-f-ne0 c =
     let some = c.if-f-ne0.true in
     let w = wrong c.args.text.now _ _ _ c.read_sheet-f.ensures some c.args.packed.now in
-    (wrong_told c.args.text.now _ _ _ c.read_sheet-f.ensures some, (w.0, (w.1.0, put_same w.1.1 c.put_wrong.ensures)))
+    (wrong_has_none c.args.text.now _ _ _ c.read_sheet-f.ensures some, (w.0, (w.1.0, put_same w.1.1 c.put_wrong.ensures)))
 
 pub slice_bounds-last_year-end : goal.slice_bounds-last_year-end
 slice_bounds-last_year-end c = sym (list_long c.args.text.now _ _ _ c.read_sheet-f.ensures)
@@ -47,8 +47,8 @@ returns-then-answer-ne0 c =
     let w = c.write_fields-answer in
     let some = c.if-answer-ne0.true in
     let no = refused text _ _ _ read right _ c.last_year-k.ensures w.result w.ensures.0 some in
-    let told = refused_told text _ _ _ read right _ c.last_year-k.ensures w.result w.ensures.0 some in
-    (told, (written text _ _ _ read right _ c.last_year-k.ensures _ _ w.ensures.1, (no.0, put_same no.1 c.put_refusal.ensures)))
+    let has_none = refused_has_none text _ _ _ read right _ c.last_year-k.ensures w.result w.ensures.0 some in
+    (has_none, (written text _ _ _ read right _ c.last_year-k.ensures _ _ w.ensures.1, (no.0, put_same no.1 c.put_refusal.ensures)))
 
 pub bytes_of-requires : goal.bytes_of-requires
 bytes_of-requires c = few c.args.text.now _ _ _ c.read_sheet-f.ensures c.if-f-ne0.false _ c.last_year-k.ensures
@@ -61,5 +61,5 @@ returns c =
     let w = c.write_fields-answer in
     let yes : w.result ≡ 0 = omega arith in
     let done = made text _ _ _ read right _ c.last_year-k.ensures w.result w.ensures.0 yes in
-    let told = made_told text _ _ _ read right _ c.last_year-k.ensures w.result w.ensures.0 yes in
-    (told, (written text _ _ _ read right _ c.last_year-k.ensures _ _ w.ensures.1, (c.bytes_of.ensures.0 ∙ done.0, put_same done.1 (put_none _ 0))))
+    let has_one = made_has_one text _ _ _ read right _ c.last_year-k.ensures w.result w.ensures.0 yes in
+    (has_one, (written text _ _ _ read right _ c.last_year-k.ensures _ _ w.ensures.1, (c.bytes_of.ensures.0 ∙ done.0, put_same done.1 (put_none _ 0))))
